@@ -1,0 +1,1 @@
+// Whole-number algebra: proofs only.

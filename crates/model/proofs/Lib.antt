@@ -1,0 +1,5 @@
+-- The mathematics over the definitions.
+pub mod Encode
+pub mod Scenes
+pub mod Stations
+pub mod Refusals

@@ -1,0 +1,86 @@
+-- The scenes of document 01's stations.
+use mathlib.Core.List.{List, [], _∷_, _++_}
+use Prim.Native.Nat.{ℕ, _*_}
+use lib.IntN.{ℤ, pos, negsuc, negℤ}
+use Rattle.model.specs.Vector.{Vec, Plane, vec, origin}
+use Rattle.model.specs.Window.{Window}
+use Rattle.model.specs.Call.{Call}
+use Rattle.model.proofs.Encode.{NodeLine, PatchLine, sceneBytes}
+
+-- the corners of an upright square before the eye: its distance forward and its half-width
+abbrev pub square : ℤ → ℤ → List Vec
+square y h = vec (negℤ h) y (negℤ h) ∷ vec h y (negℤ h) ∷ vec h y h ∷ vec (negℤ h) y h ∷ []
+
+-- the plane of that square: the eye's side is the positive one
+abbrev pub upright : ℤ → ℤ → Plane
+upright y h = record { a = vec (negℤ h) y (negℤ h); b = vec h y (negℤ h); c = vec h y h }
+
+abbrev pub none : ℕ
+none = 65535
+
+abbrev pub nodeLine : Plane → ℕ → ℕ → ℕ → ℕ → NodeLine
+nodeLine s p n f c = record { plane = s; positive = p; negative = n; first = f; count = c }
+
+abbrev pub patchLine : ℕ → ℕ → ℕ → PatchLine
+patchLine p f c = record { panel = p; first = f; count = c }
+
+-- S, with any half-width
+abbrev pub sOfHalfWidth : ℤ → List ℕ
+sOfHalfWidth h =
+    sceneBytes (nodeLine (upright (pos 100) h) none none 0 1 ∷ []) (patchLine 5 0 4 ∷ []) (square (pos 100) h)
+
+-- "S: one node and patch, panel 5, corners (−50,100,−50), (50,100,−50), (50,100,50), (−50,100,50)"
+abbrev pub sceneS : List ℕ
+sceneS = sOfHalfWidth (pos 50)
+
+-- "T: S behind panel 7 at forward 50, half-width 20": S's plane is the root, panel 7 lies on its positive side
+abbrev pub sceneT : List ℕ
+sceneT =
+    sceneBytes
+    (nodeLine (upright (pos 100) (pos 50)) 1 none 0 1 ∷ nodeLine (upright (pos 50) (pos 20)) none none 1 1 ∷ [])
+    (patchLine 5 0 4 ∷ patchLine 7 4 4 ∷ [])
+    (square (pos 100) (pos 50) ++ square (pos 50) (pos 20))
+
+-- T less panel 5, under T's planes
+abbrev pub sceneTless5 : List ℕ
+sceneTless5 =
+    sceneBytes
+    (nodeLine (upright (pos 100) (pos 50)) 1 none 0 0 ∷ nodeLine (upright (pos 50) (pos 20)) none none 0 1 ∷ [])
+    (patchLine 7 0 4 ∷ [])
+    (square (pos 50) (pos 20))
+
+-- T less panel 7, under another tree: the nearer plane is the root, S lies on its negative side
+abbrev pub sceneTless7 : List ℕ
+sceneTless7 =
+    sceneBytes
+    (nodeLine (upright (pos 50) (pos 20)) none 1 0 0 ∷ nodeLine (upright (pos 100) (pos 50)) none none 0 1 ∷ [])
+    (patchLine 5 0 4 ∷ [])
+    (square (pos 100) (pos 50))
+
+-- "Panels 3 and 5 on one square in one node"
+abbrev pub scene3and5 : List ℕ
+scene3and5 =
+    sceneBytes (nodeLine (upright (pos 100) (pos 50)) none none 0 2 ∷ [])
+    (patchLine 3 0 4 ∷ patchLine 5 4 4 ∷ [])
+    (square (pos 100) (pos 50) ++ square (pos 100) (pos 50))
+
+-- "A scene of 32 bytes with no node is legal and shows nothing."
+abbrev pub noNodes : List ℕ
+noNodes = sceneBytes [] [] []
+
+-- a call with buffers of the right lengths and the counter at 0
+abbrev pub callOn : List ℕ → Vec → ℕ → ℕ → ℕ → Call
+callOn bytes e w h l =
+    record {
+      scene = bytes;
+      eye = e;
+      window = record { width = w; height = h; lens = l };
+      pictureLength = w * h;
+      countsLength = 1025;
+      unlitLength = h * 256;
+      counter = 0;
+    }
+
+-- "4 by 4, lens 4, eye (0,0,0)"
+abbrev pub usual : List ℕ → Call
+usual bytes = callOn bytes origin 4 4 4

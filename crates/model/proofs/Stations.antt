@@ -1,0 +1,75 @@
+-- Document 01's starred stations, over scene bytes: one list under one statement.
+use mathlib.Core.Path.{_≡_, refl}
+use mathlib.Core.List.{List, [], _∷_, map, flatten}
+use Prim.Native.Nat.{ℕ}
+use lib.IntN.{ℤ, pos}
+use lib.ListN.{getD, replicate}
+use Rattle.model.specs.Vector.{vec, origin}
+use Rattle.model.specs.Patch.{edges, flat, strictlyConvex}
+use Rattle.model.specs.Ray.{met, precedes, nearest, closestPatch, panelOf, closest}
+use Rattle.model.specs.Tree.{contents, mapTree, order, liesOn, inFront, divides}
+use Rattle.model.specs.Format.{u16At, u32At, signed16, pointAt, sectionAt, headerOf, nodeAt, patchAt, recordsOf, decode, patchOf, patchTable, patchNumbered, treeAt, numberTree, patchTree}
+use Rattle.model.specs.Row.{joined, segmentsFrom, segments, numbersOf, rowOf, usedPairs, usedPart}
+use Rattle.model.specs.Picture.{cells, picture, counts, unlitLists}
+use Rattle.model.specs.Call.{Call}
+use Rattle.model.specs.Questions.{answer, hasHeader, isSection, hasSections, coordinatesInRange, offOneLine, planesProper, everyNode, children, childrenProper, runsFollow, patchRunsFollow, cornerRunsFollow, runsProper, panelsInRange, neverFalling, panelsNeverFall, panelsProper, patchesProper, planesDivide, sceneQuestions, viewInRange, lengthsFit, counterBelowEnd, unlitAfter, rowFits, rowsFit, callQuestions, questions, surveyAnswer}
+use Rattle.model.specs.Survey.{callPicture, callCounts, callUnlit}
+use Rattle.model.proofs.Scenes.{sceneS, sceneT, sceneTless5, sceneTless7, scene3and5, noNodes, sOfHalfWidth, callOn, usual}
+
+-- what is seen of a call: its answer (0 is "done"), its picture, the used pairs of some rows, and the counts of some panels (of "nothing" at 0)
+pub record Outcome : Type 0 where
+  pub result : ℕ
+  pub shown : List ℕ
+  pub rows : List (List ℕ)
+  pub cells : List ℕ
+
+-- a call, the rows and panels that are looked at, and what document 01 says
+pub record Station : Type 0 where
+  pub call : Call
+  pub rowsAsked : List ℕ
+  pub panelsAsked : List ℕ
+  pub said : Outcome
+
+-- what the definitions say of it
+unfoldable pub seen : Station → Outcome
+seen s =
+    record {
+      result = surveyAnswer (s .call);
+      shown = callPicture (s .call);
+      rows = map (usedPart (callUnlit (s .call))) (s .rowsAsked);
+      cells = map (λ (n : ℕ). getD (callCounts (s .call)) n 0) (s .panelsAsked);
+    }
+
+-- "rows 1 and 2 read 0 5 5 0, rows 0 and 3 are 0", for any panel
+abbrev middle : ℕ → List ℕ
+middle n = 0 ∷ 0 ∷ 0 ∷ 0 ∷ 0 ∷ n ∷ n ∷ 0 ∷ 0 ∷ n ∷ n ∷ 0 ∷ 0 ∷ 0 ∷ 0 ∷ 0 ∷ []
+
+-- sixteen 0s
+abbrev blank : List ℕ
+blank = replicate 16 0
+
+-- an accepted call
+abbrev pub shows : Call → List ℕ → List ℕ → List (List ℕ) → List ℕ → List ℕ → Station
+shows c p js rs ns ks =
+    record { call = c; rowsAsked = js; panelsAsked = ns; said = record { result = 0; shown = p; rows = rs; cells = ks } }
+
+abbrev pub stations : List Station
+stations =
+    shows (usual sceneS) (middle 5) (1 ∷ 0 ∷ []) ((0 ∷ 1 ∷ 3 ∷ 1 ∷ []) ∷ (0 ∷ 4 ∷ []) ∷ []) (5 ∷ 0 ∷ [])
+    (4 ∷ 12 ∷ [])
+    ∷ shows (usual (sOfHalfWidth (pos 25))) blank [] [] (5 ∷ 0 ∷ []) (0 ∷ 16 ∷ [])
+    ∷ shows (usual (sOfHalfWidth (pos 26))) (middle 5) [] [] (5 ∷ []) (4 ∷ [])
+    ∷ shows (callOn sceneS (vec (pos 0) (pos 100) (pos 0)) 4 4 4) blank [] [] [] []
+    ∷ shows (callOn sceneS (vec (pos 0) (pos 200) (pos 0)) 4 4 4) blank [] [] [] []
+    ∷ shows (usual sceneT) (middle 7) [] [] (7 ∷ 5 ∷ []) (4 ∷ 0 ∷ [])
+    ∷ shows (usual sceneTless5) (middle 7) [] [] [] []
+    ∷ shows (usual sceneTless7) (middle 5) [] [] [] []
+    ∷ shows (usual scene3and5) (middle 3) [] [] [] []
+    ∷ shows (usual noNodes) blank [] [] [] []
+    ∷ shows (callOn sceneS origin 1 1 4) (5 ∷ []) [] [] [] []
+    ∷ []
+
+-- What the definitions say of each starred station is what document 01 says of it.
+pub starred-stations : map seen stations ≡ map (λ (s : Station). s .said) stations
+unfolding seen flatten edges flat strictlyConvex met precedes nearest closestPatch panelOf closest contents mapTree order liesOn inFront divides u16At u32At signed16 pointAt sectionAt headerOf nodeAt patchAt recordsOf decode patchOf patchTable patchNumbered treeAt numberTree patchTree joined segmentsFrom segments numbersOf rowOf usedPairs usedPart cells picture counts unlitLists answer hasHeader isSection hasSections coordinatesInRange offOneLine planesProper everyNode children childrenProper runsFollow patchRunsFollow cornerRunsFollow runsProper panelsInRange neverFalling panelsNeverFall panelsProper patchesProper planesDivide sceneQuestions viewInRange lengthsFit counterBelowEnd unlitAfter rowFits rowsFit callQuestions questions surveyAnswer callPicture callCounts callUnlit
+starred-stations = refl

@@ -1,0 +1,229 @@
+-- The gate, question by question, on any byte string and any call.
+use mathlib.Core.Bool.{Bool, true, false, not, _&&_, _||_}
+use mathlib.Core.List.{List, [], _∷_, _++_, map}
+use Prim.Native.Nat.{ℕ, suc, _+_, _*_, _-_, _/_, _%_}
+use lib.Dec.{eqb, leb, ltb}
+use lib.IntN.{ℤ, natAbs}
+use lib.ListN.{length, take}
+use Rattle.model.specs.Lists.{every, any, range, occurrences}
+use Rattle.model.specs.Vector.{Vec, Plane, planeNormal, isZero}
+use Rattle.model.specs.Patch.{Patch, cornersCounted, flat, strictlyConvex}
+use Rattle.model.specs.Ray.{met}
+use Rattle.model.specs.Tree.{order, divides}
+use Rattle.model.specs.Format.{Header, Section, Run, NodeRecord, PatchRecord, Scene, headerOf, decode, sceneVersion, headerSize, nodeSize, patchSize, cornerSize, mostNodes, mostPatches, mostCorners, highestPanel, noChild, inRun, patchTable, patchTree}
+use Rattle.model.specs.Call.{Call, callDirection}
+use Rattle.model.specs.Row.{segments, rowPairs, rowLength}
+use Rattle.model.specs.Picture.{countEntries}
+
+-- a question has its number and its test
+pub record Question (A : Type 0) : Type 0 where
+  pub number : ℕ
+  pub test : A → Bool
+
+-- "Each question is put to the whole scene before the next. The first no gives its number": 0 is "done"
+unfoldable pub answer : {A : Type 0} → List (Question A) → A → ℕ
+answer [] a = 0
+answer (q ∷ qs) a = elim (q .test a) [ true ↦ answer qs a | false ↦ q .number ]
+
+abbrev pub within : ℕ → ℕ → ℕ → Bool
+within low high n = leb low n && leb n high
+
+-- the longest scene: 32 + 1,024 × 26 + 1,024 × 6 + 4,096 × 6 bytes
+abbrev pub longestScene : ℕ
+longestScene = 57376
+
+-- 1. "Is the scene 32 to 57,376 bytes long, with version 1, the zero field 0 and the whole length equal to the byte count?"
+unfoldable pub hasHeader : List ℕ → Bool
+hasHeader bytes =
+    within headerSize longestScene (length bytes)
+    && eqb (headerOf bytes .version) sceneVersion
+    && eqb (headerOf bytes .reserved) 0
+    && eqb (headerOf bytes .whole) (length bytes)
+
+abbrev pub sectionEnd : Section → ℕ
+sectionEnd s = s .offset + s .size
+
+-- the section begins at a place and holds whole records, not more than a limit
+unfoldable pub isSection : ℕ → ℕ → ℕ → Section → Bool
+isSection start step most s = eqb (s .offset) start && eqb (s .size % step) 0 && leb (s .size / step) most
+
+-- 2. "Does the first pair begin at 32, each next where the one before ended, the last end at the whole length, the lengths being multiples of 26, 6 and 6, with
+-- at most 1,024 nodes, 1,024 patches and 4,096 corners?"
+unfoldable pub hasSections : List ℕ → Bool
+hasSections bytes =
+    let h : Header = headerOf bytes in
+    isSection headerSize nodeSize mostNodes (h .nodeSection)
+    && isSection (sectionEnd (h .nodeSection)) patchSize mostPatches (h .patchSection)
+    && isSection (sectionEnd (h .patchSection)) cornerSize mostCorners (h .cornerSection)
+    && eqb (sectionEnd (h .cornerSection)) (h .whole)
+
+-- a coordinate from −10,000 to 10,000
+abbrev pub inRange : ℤ → Bool
+inRange z = leb (natAbs z) 10000
+
+abbrev pub pointInRange : Vec → Bool
+pointInRange v = inRange (v .x) && inRange (v .y) && inRange (v .z)
+
+abbrev pub planeInRange : Plane → Bool
+planeInRange s = pointInRange (s .a) && pointInRange (s .b) && pointInRange (s .c)
+
+-- 3. "Is every coordinate from −10,000 to 10,000?"
+unfoldable pub coordinatesInRange : Scene → Bool
+coordinatesInRange s =
+    every (λ (n : NodeRecord). planeInRange (n .plane)) (s .nodes) && every pointInRange (s .corners)
+
+-- the points are "off one line (cross product not zero)"
+unfoldable pub offOneLine : Plane → Bool
+offOneLine s =
+    let n : Vec = planeNormal s in
+    not (isZero (n .x) && isZero (n .y) && isZero (n .z))
+
+-- 4. "Are each node's three points off one line (cross product not zero)?"
+unfoldable pub planesProper : Scene → Bool
+planesProper s = every (λ (n : NodeRecord). offOneLine (n .plane)) (s .nodes)
+
+-- "each child 65,535, or above its parent's own number and below the node count"
+abbrev pub properChild : ℕ → ℕ → ℕ → Bool
+properChild nodeCount parent child = eqb child noChild || (ltb parent child && ltb child nodeCount)
+
+-- the test at each node, which is told its number: the first one's is k
+unfoldable pub everyNode : (ℕ → NodeRecord → Bool) → ℕ → List NodeRecord → Bool
+everyNode test k [] = true
+everyNode test k (n ∷ ns) = test k n && everyNode test (suc k) ns
+
+-- all children that are named
+unfoldable pub children : List NodeRecord → List ℕ
+children [] = []
+children (n ∷ ns) = n .positive ∷ n .negative ∷ children ns
+
+-- 5. "Is each child 65,535, or above its parent's own number and below the node count, and is each node but 0 named exactly once?"
+unfoldable pub childrenProper : Scene → Bool
+childrenProper s =
+    let nodeCount : ℕ = length (s .nodes) in
+    everyNode
+    (λ (k : ℕ) (n : NodeRecord).
+    properChild nodeCount k (n .positive) && properChild nodeCount k (n .negative)) 0 (s .nodes)
+    && every (λ (k : ℕ). eqb (occurrences k (children (s .nodes))) 1) (range 1 (nodeCount - 1))
+
+-- the runs "follow each other" from a place on and end at the end. "An empty run still names the place where it would begin."
+unfoldable pub runsFollow : ℕ → ℕ → List Run → Bool
+runsFollow start end [] = eqb start end
+runsFollow start end (r ∷ rs) = eqb (r .first) start && runsFollow (start + r .count) end rs
+
+-- "Do the nodes' patch runs follow each other from 0 and use every patch"
+unfoldable pub patchRunsFollow : Scene → Bool
+patchRunsFollow s = runsFollow 0 (length (s .patches)) (map (λ (n : NodeRecord). n .patchRun) (s .nodes))
+
+-- "do the patches' corner runs do so with the corners, and has each patch 3 to 8 corners?"
+unfoldable pub cornerRunsFollow : Scene → Bool
+cornerRunsFollow s =
+    runsFollow 0 (length (s .corners)) (map (λ (p : PatchRecord). p .cornerRun) (s .patches))
+    && every cornersCounted (patchTable s)
+
+-- 6. both
+unfoldable pub runsProper : Scene → Bool
+runsProper s = patchRunsFollow s && cornerRunsFollow s
+
+-- "Is each panel 1 to 1,024"
+unfoldable pub panelsInRange : Scene → Bool
+panelsInRange s = every (λ (p : PatchRecord). within 1 highestPanel (p .panel)) (s .patches)
+
+-- no number is above the next: equal ones are not falling
+unfoldable pub neverFalling : List ℕ → Bool
+neverFalling [] = true
+neverFalling (m ∷ []) = true
+neverFalling (m ∷ n ∷ ns) = leb m n && neverFalling (n ∷ ns)
+
+-- "never falling within a node's run"
+unfoldable pub panelsNeverFall : Scene → Bool
+panelsNeverFall s =
+    every
+    (λ (n : NodeRecord).
+    neverFalling (map (λ (p : PatchRecord). p .panel) (inRun (n .patchRun) (s .patches)))) (s .nodes)
+
+-- 7. "Is each panel 1 to 1,024, never falling within a node's run?"
+unfoldable pub panelsProper : Scene → Bool
+panelsProper s = panelsInRange s && panelsNeverFall s
+
+-- 8. "Is each patch flat and strictly convex?"
+unfoldable pub patchesProper : Scene → Bool
+patchesProper s = every (λ (p : Patch). flat p && strictlyConvex p) (patchTable s)
+
+-- 9. the planes divide the patches as the tree says
+unfoldable pub planesDivide : Scene → Bool
+planesDivide s = divides (patchTree s)
+
+-- the questions on a scene
+unfoldable pub sceneQuestions : List (Question (List ℕ))
+sceneQuestions =
+    record { number = 1; test = hasHeader }
+    ∷ record { number = 2; test = hasSections }
+    ∷ record { number = 3; test = λ bytes. coordinatesInRange (decode bytes) }
+    ∷ record { number = 4; test = λ bytes. planesProper (decode bytes) }
+    ∷ record { number = 5; test = λ bytes. childrenProper (decode bytes) }
+    ∷ record { number = 6; test = λ bytes. runsProper (decode bytes) }
+    ∷ record { number = 7; test = λ bytes. panelsProper (decode bytes) }
+    ∷ record { number = 8; test = λ bytes. patchesProper (decode bytes) }
+    ∷ record { number = 9; test = λ bytes. planesDivide (decode bytes) }
+    ∷ []
+
+-- the first no among questions 1 to 9
+unfoldable pub sceneAnswer : List ℕ → ℕ
+sceneAnswer bytes = answer sceneQuestions bytes
+
+-- 10. "Is the eye within ±10,000, width 1 to 256, height 1 to 128, lens 1 to 4,096?"
+unfoldable pub viewInRange : Call → Bool
+viewInRange c =
+    pointInRange (c .eye)
+    && within 1 256 (c .window .width)
+    && within 1 128 (c .window .height)
+    && within 1 4096 (c .window .lens)
+
+-- 11. "Has the picture (u16) width × height cells, the counts (u32) 1,025, the unlit lists (u16) height × 256?"
+unfoldable pub lengthsFit : Call → Bool
+lengthsFit c =
+    eqb (c .pictureLength) (c .window .width * c .window .height)
+    && eqb (c .countsLength) countEntries
+    && eqb (c .unlitLength) (c .window .height * rowLength)
+
+-- 12. "Is the station counter below 4,294,967,295?"
+unfoldable pub counterBelowEnd : Call → Bool
+counterBelowEnd c = ltb (c .counter) 4294967295
+
+-- the column is unlit after some patches are painted: none of them is met there
+unfoldable pub unlitAfter : Vec → (ℕ → Vec) → List Patch → ℕ → Bool
+unlitAfter eye ray painted i = not (any (met eye (ray i)) painted)
+
+-- at each moment of the painting the row needs at most 128 segments: before the first patch of the walk, and after each
+unfoldable pub rowFits : ℕ → Vec → (ℕ → Vec) → List Patch → Bool
+rowFits width eye ray walk =
+    every (λ (k : ℕ). leb (length (segments width (unlitAfter eye ray (take k walk)))) rowPairs)
+    (range 0 (suc (length walk)))
+
+-- 13. "Does every row, while it is painted, need at most 128 unlit stretches?"
+unfoldable pub rowsFit : Call → Bool
+rowsFit c =
+    every
+    (λ (j : ℕ).
+    rowFits (c .window .width) (c .eye) (λ (i : ℕ). callDirection c i j)
+    (order (c .eye) (patchTree (decode (c .scene))))) (range 0 (c .window .height))
+
+-- the questions on the call
+unfoldable pub callQuestions : List (Question Call)
+callQuestions =
+    record { number = 10; test = viewInRange }
+    ∷ record { number = 11; test = lengthsFit }
+    ∷ record { number = 12; test = counterBelowEnd }
+    ∷ record { number = 13; test = rowsFit }
+    ∷ []
+
+-- a question on a scene, put to a call
+abbrev pub onScene : Question (List ℕ) → Question Call
+onScene q = record { number = q .number; test = λ c. q .test (c .scene) }
+
+unfoldable pub questions : List (Question Call)
+questions = map onScene sceneQuestions ++ callQuestions
+
+-- "The result is "done" or this number": 0, or the number of the first no
+unfoldable pub surveyAnswer : Call → ℕ
+surveyAnswer c = answer questions c

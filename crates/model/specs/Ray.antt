@@ -1,0 +1,98 @@
+-- Sight lines (rays from the eye): which patches they meet, how far away, and the closest panel. Tree and walk have no part in it.
+use mathlib.Core.Path.{_≡_}
+use mathlib.Core.Bool.{Bool, true, false, not, cond, _&&_, _||_}
+use mathlib.Core.List.{List, [], _∷_, _++_, List·Memᴰ}
+use mathlib.Core.Option.{Option, none, some}
+use Prim.Native.Nat.{ℕ, _*_, _≤_}
+use lib.Dec.{T, ltb}
+use lib.IntN.{ℤ, pos, natAbs, _*ℤ_}
+use lib.Signed.{ltZ}
+use Rattle.model.specs.Lists.{every}
+use Rattle.model.specs.Vector.{Vec, minus, dot, cross, isZero}
+use Rattle.model.specs.Patch.{Patch, Edge, corner, normal, edges}
+
+-- "the eye-to-corner product (first corner − eye) · n"
+abbrev pub eyeProduct : Vec → Patch → ℤ
+eyeProduct eye p = dot (minus (corner p 0) eye) (normal p)
+
+-- "(v − eye) × (w − eye)"
+abbrev pub edgeVector : Vec → Edge → Vec
+edgeVector eye e = cross (minus (e .from) eye) (minus (e .to) eye)
+
+-- the number whose sign says on which side of an edge a ray passes: "direction · ((v − eye) × (w − eye))"
+abbrev pub edgeNumber : Vec → Vec → ℤ
+edgeNumber direction vector = dot direction vector
+
+-- neither is zero, and both have one sign: the product is above 0
+abbrev pub sameSign : ℤ → ℤ → Bool
+sameSign m n = ltZ (pos 0) (m *ℤ n)
+
+-- "It meets a patch when, for every edge from v to w, direction · ((v − eye) × (w − eye)) is not zero and has the sign of the eye-to-corner product
+-- (first corner − eye) · n, also not zero."
+unfoldable pub met : Vec → Vec → Patch → Bool
+met eye d p =
+    not (isZero (eyeProduct eye p))
+    && every (λ (e : Edge). sameSign (eyeProduct eye p) (edgeNumber d (edgeVector eye e))) (edges (p .corners))
+
+-- "Distance along the line is a fraction of two whole numbers"
+pub record Fraction : Type 0 where
+  pub numerator : ℤ
+  pub denominator : ℤ
+
+-- "(first corner − eye) · n over direction · n"
+abbrev pub distance : Vec → Vec → Patch → Fraction
+distance eye d p = record { numerator = eyeProduct eye p; denominator = dot d (normal p) }
+
+-- f is below g. Both numbers of a fraction have one sign where the patch is met ("above 0 where the patch is met"), so their magnitudes are cross-multiplied.
+abbrev pub below : Fraction → Fraction → Bool
+below f g = ltb (natAbs (f .numerator) * natAbs (g .denominator)) (natAbs (g .numerator) * natAbs (f .denominator))
+
+-- patch p shows before patch q: it is nearer, or they are level and its panel number is lower
+unfoldable pub precedes : Vec → Vec → Patch → Patch → Bool
+precedes eye d p q =
+    below (distance eye d p) (distance eye d q)
+    || (not (below (distance eye d q) (distance eye d p)) && ltb (p .panel) (q .panel))
+
+-- a patch, and what the rest of the list after it shows: it counts where it is met, and shows unless the other precedes it
+unfoldable pub nearest : Vec → Vec → Bool → Patch → Option Patch → Option Patch
+nearest eye d false p rest = rest
+nearest eye d true p none = some p
+nearest eye d true p (some q) = cond (precedes eye d q p) (some q) (some p)
+
+-- the met patch at the least distance, of the lowest panel number there, the earliest of those in the list
+unfoldable pub closestPatch : Vec → Vec → List Patch → Option Patch
+closestPatch eye d [] = none
+closestPatch eye d (p ∷ ps) = nearest eye d (met eye d p) p (closestPatch eye d ps)
+
+-- a patch's panel number, 0 for none
+unfoldable pub panelOf : Option Patch → ℕ
+panelOf none = 0
+panelOf (some p) = p .panel
+
+-- "A cell's closest panel is that of the met patch at the least distance, the lowest panel number where several are level there, and 0 where none is met."
+unfoldable pub closest : Vec → Vec → List Patch → ℕ
+closest eye d ps = panelOf (closestPatch eye d ps)
+
+-- The same as a relation, in the words of that sentence: the panel of a met patch at the least distance, lowest among those that are level with it; or 0.
+pub data IsClosest (eye d : Vec) (ps : List Patch) : ℕ → Type 0 where
+  noneMet : ((q : Patch) → List·Memᴰ q ps → T (met eye d q) → ⊥) → IsClosest eye d ps 0
+  shows :
+      (p : Patch) →
+      List·Memᴰ p ps →
+      T (met eye d p) →
+      ((q : Patch) → List·Memᴰ q ps → T (met eye d q) → T (not (below (distance eye d q) (distance eye d p)))) →
+      ((q : Patch) →
+      List·Memᴰ q ps →
+      T (met eye d q) →
+      T (not (below (distance eye d p) (distance eye d q))) →
+      p .panel ≤ q .panel) →
+      IsClosest eye d ps (p .panel)
+
+-- And of the patch itself: no met patch of the list precedes it, and it precedes every met patch that stands before it in the list.
+pub record IsClosestPatch (eye d : Vec) (ps : List Patch) (p : Patch) : Type 0 where
+  pub before : List Patch
+  pub after : List Patch
+  pub place : ps ≡ before ++ p ∷ after
+  pub isMet : T (met eye d p)
+  pub least : (q : Patch) → List·Memᴰ q ps → T (met eye d q) → T (precedes eye d q p) → ⊥
+  pub earliest : (q : Patch) → List·Memᴰ q before → T (met eye d q) → T (precedes eye d p q)

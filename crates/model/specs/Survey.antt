@@ -1,0 +1,24 @@
+-- What the survey call leaves in the lent buffers when its answer is 0.
+use mathlib.Core.List.{List}
+use Prim.Native.Nat.{ℕ}
+use Rattle.model.specs.Patch.{Patch}
+use Rattle.model.specs.Format.{decode, patchTable}
+use Rattle.model.specs.Picture.{picture, cellPanel, counts, unlitLists, nextCounter}
+use Rattle.model.specs.Call.{Call, callDirection}
+
+-- the scene's patches, in the order of its patch records
+abbrev pub callPatches : Call → List Patch
+callPatches c = patchTable (decode (c .scene))
+
+unfoldable pub callPicture : Call → List ℕ
+callPicture c = picture (c .eye) (c .window .width) (c .window .height) (callDirection c) (callPatches c)
+
+unfoldable pub callCounts : Call → List ℕ
+callCounts c = counts (callPicture c)
+
+unfoldable pub callUnlit : Call → List ℕ
+callUnlit c =
+    unlitLists (c .window .width) (c .window .height) (cellPanel (c .eye) (callDirection c) (callPatches c))
+
+unfoldable pub callCounter : Call → ℕ
+callCounter c = nextCounter (c .counter)
