@@ -4,6 +4,9 @@ pub mod Polynomial
 pub mod Identity
 mod IdentityTests
 pub mod Order
-pub mod Product
-pub mod Sign
+pub mod Products
+pub mod Signs
 mod SignTests
+pub mod Magnitude
+pub mod Machine
+pub mod Comparison

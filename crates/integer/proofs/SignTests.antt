@@ -4,7 +4,7 @@ use lib.IntN.{ℤ, pos, negℤ, _+ℤ_, _-ℤ_, _*ℤ_}
 use lib.Signed.{_≤ℤ_, _<ℤ_}
 use Rattle.integer.proofs.Identity.{ring, reify}
 use Rattle.integer.proofs.Order.{<-by}
-use Rattle.integer.proofs.Product.{signs}
+use Rattle.integer.proofs.Products.{signs}
 
 made : (a b c d : ℤ) → pos 0 <ℤ a → pos 0 ≤ℤ b → c <ℤ pos 0 → pos 0 <ℤ (a *ℤ (b +ℤ pos 3) +ℤ negℤ c *ℤ a +ℤ d *ℤ d)
 made a b c d h k l = search signs depth 8 fits 20000

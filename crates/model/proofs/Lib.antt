@@ -1,4 +1,5 @@
 -- The mathematics over the definitions.
+pub mod Computing
 pub mod Encode
 pub mod Scenes
 pub mod Stations

@@ -7,14 +7,10 @@ use Prim.Native.Nat.{ℕ, _+_, _*_}
 use lib.IntN.{ℤ, pos, negsuc, negℤ}
 use lib.ListN.{getD, take, length, replicate}
 use Rattle.model.specs.Vector.{Vec, Plane, vec, origin}
-use Rattle.model.specs.Patch.{edges, flat, strictlyConvex}
-use Rattle.model.specs.Ray.{met}
-use Rattle.model.specs.Tree.{contents, mapTree, order, liesOn, inFront, divides}
-use Rattle.model.specs.Format.{u16At, u32At, signed16, pointAt, sectionAt, headerOf, nodeAt, patchAt, recordsOf, decode, patchOf, patchTable, patchNumbered, treeAt, numberTree, patchTree}
-use Rattle.model.specs.Row.{joined, segmentsFrom, segments}
 use Rattle.model.specs.Call.{Call}
-use Rattle.model.specs.Questions.{Question, answer, hasHeader, isSection, hasSections, coordinatesInRange, offOneLine, planesProper, everyNode, children, childrenProper, runsFollow, patchRunsFollow, cornerRunsFollow, runsProper, panelsInRange, neverFalling, panelsNeverFall, panelsProper, patchesProper, planesDivide, sceneQuestions, viewInRange, lengthsFit, counterBelowEnd, unlitAfter, rowFits, rowsFit, callQuestions, questions, surveyAnswer}
+use Rattle.model.specs.Questions.{Question, answer, children, questions}
 use Rattle.model.proofs.Encode.{NodeLine, PatchLine, HeaderLine, headerBytes, headerFor, bodyBytes, sceneBytes}
+use Rattle.model.proofs.Computing.{everything}
 use Rattle.model.proofs.Scenes.{square, upright, none, nodeLine, patchLine, sceneS, sOfHalfWidth, callOn, usual}
 
 -- the numbers of all questions that say no
@@ -234,7 +230,7 @@ cases =
 -- The questions that say no to each case are the ones named, and the answer is the first of them, or 0.
 pub limits-of-the-questions :
     map (λ (c : Case). noes questions (c .call)) cases ≡ map (λ (c : Case). c .expected) cases
-unfolding noes flatten edges flat strictlyConvex met contents mapTree order liesOn inFront divides u16At u32At signed16 pointAt sectionAt headerOf nodeAt patchAt recordsOf decode patchOf patchTable patchNumbered treeAt numberTree patchTree joined segmentsFrom segments hasHeader isSection hasSections coordinatesInRange offOneLine planesProper everyNode children childrenProper runsFollow patchRunsFollow cornerRunsFollow runsProper panelsInRange neverFalling panelsNeverFall panelsProper patchesProper planesDivide sceneQuestions viewInRange lengthsFit counterBelowEnd unlitAfter rowFits rowsFit callQuestions questions
+unfolding everything noes
 limits-of-the-questions = refl
 
 -- The answer is the first no, for every call.

@@ -64,6 +64,20 @@ scene3and5 =
     (patchLine 3 0 4 ∷ patchLine 5 4 4 ∷ [])
     (square (pos 100) (pos 50) ++ square (pos 100) (pos 50))
 
+-- four panels on one plane: 1 and 2 above, 3 and 4 below, the odd ones to the left
+abbrev quarter : ℤ → ℤ → ℤ → ℤ → List Vec
+quarter left right low high =
+    vec left (pos 100) low ∷ vec right (pos 100) low ∷ vec right (pos 100) high ∷ vec left (pos 100) high ∷ []
+
+abbrev pub sceneQuarters : List ℕ
+sceneQuarters =
+    sceneBytes (nodeLine (upright (pos 100) (pos 100)) none none 0 4 ∷ [])
+    (patchLine 1 0 4 ∷ patchLine 2 4 4 ∷ patchLine 3 8 4 ∷ patchLine 4 12 4 ∷ [])
+    (quarter (negℤ (pos 100)) (pos 0) (pos 0) (pos 100)
+    ++ (quarter (pos 0) (pos 100) (pos 0) (pos 100)
+    ++ (quarter (negℤ (pos 100)) (pos 0) (negℤ (pos 100)) (pos 0)
+    ++ quarter (pos 0) (pos 100) (negℤ (pos 100)) (pos 0))))
+
 -- "A scene of 32 bytes with no node is legal and shows nothing."
 abbrev pub noNodes : List ℕ
 noNodes = sceneBytes [] [] []

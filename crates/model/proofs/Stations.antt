@@ -1,20 +1,16 @@
 -- Document 01's starred stations, over scene bytes: one list under one statement.
 use mathlib.Core.Path.{_≡_, refl}
-use mathlib.Core.List.{List, [], _∷_, map, flatten}
+use mathlib.Core.List.{List, [], _∷_, map}
 use Prim.Native.Nat.{ℕ}
-use lib.IntN.{ℤ, pos}
+use lib.IntN.{pos}
 use lib.ListN.{getD, replicate}
 use Rattle.model.specs.Vector.{vec, origin}
-use Rattle.model.specs.Patch.{edges, flat, strictlyConvex}
-use Rattle.model.specs.Ray.{met, precedes, nearest, closestPatch, panelOf, closest}
-use Rattle.model.specs.Tree.{contents, mapTree, order, liesOn, inFront, divides}
-use Rattle.model.specs.Format.{u16At, u32At, signed16, pointAt, sectionAt, headerOf, nodeAt, patchAt, recordsOf, decode, patchOf, patchTable, patchNumbered, treeAt, numberTree, patchTree}
-use Rattle.model.specs.Row.{joined, segmentsFrom, segments, numbersOf, rowOf, usedPairs, usedPart}
-use Rattle.model.specs.Picture.{cells, picture, counts, unlitLists}
+use Rattle.model.specs.Row.{usedPart}
 use Rattle.model.specs.Call.{Call}
-use Rattle.model.specs.Questions.{answer, hasHeader, isSection, hasSections, coordinatesInRange, offOneLine, planesProper, everyNode, children, childrenProper, runsFollow, patchRunsFollow, cornerRunsFollow, runsProper, panelsInRange, neverFalling, panelsNeverFall, panelsProper, patchesProper, planesDivide, sceneQuestions, viewInRange, lengthsFit, counterBelowEnd, unlitAfter, rowFits, rowsFit, callQuestions, questions, surveyAnswer}
+use Rattle.model.specs.Questions.{surveyAnswer}
 use Rattle.model.specs.Survey.{callPicture, callCounts, callUnlit}
-use Rattle.model.proofs.Scenes.{sceneS, sceneT, sceneTless5, sceneTless7, scene3and5, noNodes, sOfHalfWidth, callOn, usual}
+use Rattle.model.proofs.Computing.{everything}
+use Rattle.model.proofs.Scenes.{sceneS, sceneT, sceneTless5, sceneTless7, scene3and5, sceneQuarters, noNodes, sOfHalfWidth, callOn, usual}
 
 -- what is seen of a call: its answer (0 is "done"), its picture, the used pairs of some rows, and the counts of some panels (of "nothing" at 0)
 pub record Outcome : Type 0 where
@@ -69,7 +65,17 @@ stations =
     ∷ shows (callOn sceneS origin 1 1 4) (5 ∷ []) [] [] [] []
     ∷ []
 
+-- Beside them, since no starred station tells left from right or top from bottom: cells stand row after row from the top, each row from the left.
+abbrev pub quarters : Station
+quarters =
+    shows (callOn sceneQuarters origin 4 2 4) (1 ∷ 1 ∷ 2 ∷ 2 ∷ 3 ∷ 3 ∷ 4 ∷ 4 ∷ []) (0 ∷ []) ([] ∷ []) (1 ∷ 0 ∷ [])
+    (2 ∷ 0 ∷ [])
+
 -- What the definitions say of each starred station is what document 01 says of it.
 pub starred-stations : map seen stations ≡ map (λ (s : Station). s .said) stations
-unfolding seen flatten edges flat strictlyConvex met precedes nearest closestPatch panelOf closest contents mapTree order liesOn inFront divides u16At u32At signed16 pointAt sectionAt headerOf nodeAt patchAt recordsOf decode patchOf patchTable patchNumbered treeAt numberTree patchTree joined segmentsFrom segments numbersOf rowOf usedPairs usedPart cells picture counts unlitLists answer hasHeader isSection hasSections coordinatesInRange offOneLine planesProper everyNode children childrenProper runsFollow patchRunsFollow cornerRunsFollow runsProper panelsInRange neverFalling panelsNeverFall panelsProper patchesProper planesDivide sceneQuestions viewInRange lengthsFit counterBelowEnd unlitAfter rowFits rowsFit callQuestions questions surveyAnswer callPicture callCounts callUnlit
+unfolding everything seen
 starred-stations = refl
+
+pub rows-from-the-top : seen quarters ≡ quarters .said
+unfolding everything seen
+rows-from-the-top = refl

@@ -11,7 +11,7 @@ use lib.Signed.{ltZ, _≤ℤ_, _<ℤ_, leZ-yes, ltZ-yes, clashℤ}
 use Rattle.integer.proofs.Ring.{one-*ℤ}
 use Rattle.integer.proofs.Identity.{ring, reify}
 use Rattle.integer.proofs.Order.{<-by, ≤-by, <→≤, ≡→≤, +-nonneg, +-pos-nonneg, Compared, below, same, above, compared}
-use Rattle.integer.proofs.Product.{*-pos, *-nonneg, *-pos-cancel, *-nonneg-cancel, zero-product, sq-pos, pos→≢}
+use Rattle.integer.proofs.Products.{*-pos, *-nonneg, *-pos-cancel, *-nonneg-cancel, zero-product, sq-pos, pos→≢}
 
 abbrev pub sgn : ℤ → ℤ
 sgn (pos zero) = pos 0

@@ -1,0 +1,2 @@
+-- Machine vectors as the model's vectors.
+pub mod Machine
