@@ -1,5 +1,7 @@
--- What a comparison of two machine words tells of the numbers that they hold: `search comparisons` at an order of two such numbers.
-use mathlib.Core.Path.{_≡_, sym, subst, ap₂, ap, _∙_}
+-- What a comparison of two machine words tells of the numbers that they hold. A branch leaves `ltZ` or `leZ` of two words, or an equation of
+-- their bits; `search comparisons` turns it into the order or the equation of two numbers that fit their words: parameters, results of
+-- calls, literals. Assumes nothing.
+use mathlib.Core.Path.{_≡_, sym, subst, ap, ap₂, _∙_}
 use mathlib.Core.Bool.{Bool, true, false, not}
 use lib.Dec.{T, lit<, lt→ltb, nleb→lt}
 use lib.IntN.{ℤ, pos, negsuc}

@@ -1,11 +1,12 @@
 -- Machine arithmetic by reflection. A need of a function over signed numbers speaks of what the machine computes, where each
 -- intermediate result passes through a word, `toZ w (ofZ w z)`. `search machine` reads such a number as a value of `Computed`; from that the
 -- number that was meant and a bound on its size are computed, so that a need is one test of numerals:
---     an overflow need, `SFits w z`            no-overflow (search machine depth 40 fits 20000, tt)
---     a result's equation, `z ≡ v`             exact w64 (search machine depth 40 fits 20000, tt, refl)
---     a bound, `Within n z`                    magnitude w64 (search machine depth 40 fits 20000, tt, tt)
---     a bound on sizes, `natAbs z * .. < 2 ^ 63`     room w64 (search machine depth 40 fits 20000, tt)
--- The search's result and its test are one tuple, so that the test is computed after the search.
+--     an overflow need, `SFits w z`                  no-overflow (search machine depth 40 fits 20000, tt)
+--     a result's equation, `z ≡ v`                   exact w64 (search machine depth 40 fits 20000, tt, refl)
+--     a bound, `Within n z`                          magnitude w64 (search machine depth 40 fits 20000, tt, tt)
+--     a callee's bound, `natAbs z * .. < 2 ^ 63`     room w64 (search machine depth 40 fits 20000, tt)
+-- Where unsigned or narrower numbers are cast, it is `search (machine, casts)`; after calls `search (machine, result)`.
+-- The search's result and its test are one tuple, so that the test is computed after the search. Assumes nothing.
 use mathlib.Core.Path.{_≡_, refl, sym, _∙_, ap, ap₂, subst}
 use Prim.Native.Nat.{ℕ, suc, _+_, _*_, _^_, _≤_, _<_, max}
 use native.Mathlib.Nat.{add-le-add, mul-le-mul, lt-of-le-of-lt}
@@ -13,14 +14,14 @@ use native.Mathlib.Omega.{arith}
 use lib.Dec.{T, leb, ltb, leb→le, ltb→lt}
 use lib.IntN.{ℤ, pos, negsuc, natAbs, negℤ, _+ℤ_, _*ℤ_, +ℤ-idl}
 use mir.Syntax.{Width}
-use mir.Val.{Fits, SFits, hbits, toZ, ofZ}
-use borrow.Author.Needs.{sfits-of}
+use mir.Val.{Fits, SFits, bits, hbits, toZ, ofZ}
 use mir.ValLaws.{toZ-ofZ, toZ-pos}
+use borrow.Author.Needs.{sfits-of}
 use Rattle.integer.specs.Magnitude.{Within}
-use Rattle.integer.proofs.Magnitude.{within-self, within-more, within-negation, within-sum, within-product, within-fits, within-stored, within-word, within-natural}
+use Rattle.integer.proofs.Magnitude.{within-self, within-more, within-negation, within-sum, within-product, within-fits, within-stored, within-signed, within-unsigned}
 
--- How the machine came by a number. `opposite` is its negation, which it computes as a difference; `counted` is an unsigned number, cast;
--- `result` is what a call returned, by the equation that the callee ensures; `word` is a number of unknown size.
+-- How the machine came by a number. `opposite` is its negation, which it computes as a difference; `counted` is an unsigned number that was
+-- cast, and `narrow` a signed one; `result` is what a call returned, by the equation that the callee ensures; `word` is a number of unknown size.
 pub data Computed (w : Width) : ℤ → Type 0 where
   known : {n : ℕ} {z : ℤ} → Within n z → Computed w z
   positive : (n : ℕ) → Computed w (pos n)
@@ -35,8 +36,9 @@ pub data Computed (w : Width) : ℤ → Type 0 where
   narrow : (v : Width) (x : ℤ) → T (ltb (hbits v) (hbits w)) → SFits v x → Computed w (toZ v (ofZ v x))
   word : (x : ℤ) → SFits w x → Computed w (toZ w (ofZ w x))
 
-abbrev pub natural : {v w : Width} (n : ℕ) → Fits v n → Computed w (toZ w n)
-natural n f = counted n (within-natural f)
+-- a number of a narrower unsigned type
+abbrev pub natural : {v w : Width} (n : ℕ) → Fits v n → T (ltb (bits v) (bits w)) → Computed w (toZ w n)
+natural n f t = counted n (within-unsigned f)
 
 -- the number that was meant
 abbrev pub ideal : {w : Width} {z : ℤ} → Computed w z → ℤ
@@ -116,7 +118,7 @@ sound {w} (counted {b = b} n h) k t =
 sound (result e m) k t =
     let s = sound m k t in
     record { same = e ∙ s .same; size = s .size; rest = s .rest }
-sound (narrow v x u f) k t = record { same = toZ-ofZ v x f; size = within-word f; rest = t }
+sound (narrow v x u f) k t = record { same = toZ-ofZ v x f; size = within-signed f; rest = t }
 sound {w} (word x f) k t = record { same = toZ-ofZ w x f; size = within-self x; rest = t }
 
 pub no-overflow : {w : Width} {z : ℤ} → (m : Computed w z) × T (ltb (peak m (bound m)) (2 ^ hbits w)) → SFits w z
@@ -170,11 +172,15 @@ room w (s, t) =
     let l = limited s (limit s) (ltb→lt (peaks s (limit s)) (2 ^ hbits w) t) in
     lt-of-le-of-lt (l .under) (l .rest)
 
--- ---- what `search` goes by
+-- ---- what `search` goes by. The sets are small, since each rule is held against every fact in reach
+-- `opposite` stands before `sum`, which fits whatever it fits
 pub ruleset operations = (positive, negative, opposite, negation, sum, product, stored)
 
 -- every number has a known bound
-pub ruleset machine = (known, operations, counted, natural, narrow, result, size, plus, times, sfits-of, tt)
+pub ruleset machine = (known, operations, size, plus, times)
 
--- parameters of unknown size: the test is then proved, not computed
+-- beside it, for casts
+pub ruleset casts = (counted, natural, narrow, sfits-of, tt)
+
+-- in its place, where the parameters' sizes are unknown: the test is then proved, by `omega (arith, lt→ltb)`, and not computed
 pub ruleset words = (word, operations)

@@ -1,37 +1,39 @@
--- Laws of magnitudes: how large sums, products and negations are at most, and that a number of small magnitude passes through a machine word unchanged.
-use mathlib.Core.Path.{_≡_, refl, sym, subst}
+-- Laws of magnitudes and signs: how large a negation, a sum and a product are at most; that a number of small size passes through a machine word
+-- unchanged; and what the order says of the sign. Assumes nothing.
+use mathlib.Core.Path.{_≡_, refl}
 use mathlib.Core.Bool.{Bool, true, false, cond}
 use Prim.Native.Nat.{ℕ, zero, suc, _+_, _*_, _-_, _^_, _≤_, _<_}
-use native.Mathlib.Nat.{le-refl, le-trans, add-le-add, mul-le-mul, lt-of-le-of-lt, le-of-eq, le-of-lt, not-suc-le-zero}
+use native.Mathlib.Nat.{le-refl, le-trans, le-of-eq, le-of-lt, lt-of-le-of-lt, add-le-add, mul-le-mul, not-suc-le-zero}
 use native.Mathlib.Omega.{arith}
 use lib.Dec.{T, leb, ltb, leb→le}
-use lib.IntN.{ℤ, pos, negsuc, natAbs, negℤ, subℕ, _+ℤ_, _-ℤ_, _*ℤ_}
+use lib.IntN.{ℤ, pos, negsuc, natAbs, negℤ, _+ℤ_, _-ℤ_, _*ℤ_}
 use lib.Signed.{mag, natAbs-le, _<ℤ_, _≤ℤ_}
 use mir.Syntax.{Width}
 use mir.Val.{Fits, SFits, bits, hbits, toZ, ofZ}
 use mir.ValLaws.{toZ-ofZ}
 use Rattle.integer.specs.Magnitude.{Within, signOf}
 
--- ---- the size of a negation, a sum and a product
-size-neg : (z : ℤ) → natAbs (negℤ z) ≡ natAbs z
-size-neg (pos zero) = refl
-size-neg (pos (suc n)) = refl
-size-neg (negsuc n) = refl
+-- ---- sizes
+size-negation : (z : ℤ) → natAbs (negℤ z) ≡ natAbs z
+size-negation (pos zero) = refl
+size-negation (pos (suc n)) = refl
+size-negation (negsuc n) = refl
 
-size-cond : (t : Bool) (a b : ℕ) → natAbs (cond t (negsuc (suc b - suc a)) (pos (a - suc b))) ≤ a + suc b
-size-cond true a b = omega arith
-size-cond false a b = omega arith
+-- a − (b + 1), whichever way the comparison of the two went
+size-difference : (t : Bool) (a b : ℕ) → natAbs (cond t (negsuc (suc b - suc a)) (pos (a - suc b))) ≤ a + suc b
+size-difference true a b = omega arith
+size-difference false a b = omega arith
 
 size-sum : (x y : ℤ) → natAbs (x +ℤ y) ≤ natAbs x + natAbs y
 size-sum (pos a) (pos b) = le-refl (a + b)
-size-sum (pos a) (negsuc b) = size-cond (ltb a (suc b)) a b
-size-sum (negsuc a) (pos b) = omega (arith, size-cond (ltb b (suc a)) b a)
+size-sum (pos a) (negsuc b) = size-difference (ltb a (suc b)) a b
+size-sum (negsuc a) (pos b) = omega (arith, size-difference (ltb b (suc a)) b a)
 size-sum (negsuc a) (negsuc b) = omega arith
 
 size-product : (x y : ℤ) → natAbs (x *ℤ y) ≡ natAbs x * natAbs y
 size-product (pos a) (pos b) = refl
-size-product (pos a) (negsuc b) = size-neg (pos (a * suc b))
-size-product (negsuc a) (pos b) = size-neg (pos (suc a * b))
+size-product (pos a) (negsuc b) = size-negation (pos (a * suc b))
+size-product (negsuc a) (pos b) = size-negation (pos (suc a * b))
 size-product (negsuc a) (negsuc b) = refl
 
 -- ---- bounds
@@ -46,37 +48,37 @@ pub within-more : {n m : ℕ} {z : ℤ} → Within n z → n ≤ m → Within m 
 within-more h k = record { within = le-trans (h .within) k }
 
 pub within-negation : {n : ℕ} {z : ℤ} → Within n z → Within n (negℤ z)
-within-negation {n} {z} h = record { within = le-trans (le-of-eq (size-neg z)) (h .within) }
+within-negation {z = z} h = record { within = le-trans (le-of-eq (size-negation z)) (h .within) }
 
 pub within-sum : {n m : ℕ} {x y : ℤ} → Within n x → Within m y → Within (n + m) (x +ℤ y)
-within-sum {n} {m} {x} {y} h k = record { within = le-trans (size-sum x y) (add-le-add (h .within) (k .within)) }
+within-sum {x = x} {y = y} h k = record { within = le-trans (size-sum x y) (add-le-add (h .within) (k .within)) }
 
 pub within-difference : {n m : ℕ} {x y : ℤ} → Within n x → Within m y → Within (n + m) (x -ℤ y)
 within-difference h k = within-sum h (within-negation k)
 
 pub within-product : {n m : ℕ} {x y : ℤ} → Within n x → Within m y → Within (n * m) (x *ℤ y)
-within-product {n} {m} {x} {y} h k =
+within-product {x = x} {y = y} h k =
     record { within = le-trans (le-of-eq (size-product x y)) (mul-le-mul (h .within) (k .within)) }
 
 -- ---- machine words
-mag-le : (z : ℤ) → mag z ≤ natAbs z
-mag-le (pos n) = le-refl n
-mag-le (negsuc n) = omega arith
+mag-size : (z : ℤ) → mag z ≤ natAbs z
+mag-size (pos n) = le-refl n
+mag-size (negsuc n) = omega arith
 
 pub within-fits : {w : Width} {n : ℕ} {z : ℤ} → Within n z → n < 2 ^ hbits w → SFits w z
-within-fits {z = z} h k = record { sfits = lt-of-le-of-lt (le-trans (mag-le z) (h .within)) k }
+within-fits {z = z} h k = record { sfits = lt-of-le-of-lt (le-trans (mag-size z) (h .within)) k }
 
 pub within-stored : (w : Width) {n : ℕ} {z : ℤ} → Within n z → n < 2 ^ hbits w → toZ w (ofZ w z) ≡ z
 within-stored w {z = z} h k = toZ-ofZ w z (within-fits h k)
 
-pub within-word : {w : Width} {z : ℤ} → SFits w z → Within (2 ^ hbits w) z
-within-word {z = z} f = record { within = natAbs-le z (f .sfits) }
+-- a number of a signed type, and of an unsigned one
+pub within-signed : {w : Width} {z : ℤ} → SFits w z → Within (2 ^ hbits w) z
+within-signed {z = z} f = record { within = natAbs-le z (f .sfits) }
 
--- a number of an unsigned type
-pub within-natural : {w : Width} {n : ℕ} → Fits w n → Within (2 ^ bits w) (pos n)
-within-natural f = record { within = le-of-lt (f .fits) }
+pub within-unsigned : {w : Width} {n : ℕ} → Fits w n → Within (2 ^ bits w) (pos n)
+within-unsigned f = record { within = le-of-lt (f .fits) }
 
--- ---- the sign, by the order
+-- ---- signs
 pub sign-negative : {z : ℤ} → z <ℤ pos 0 → signOf z ≡ negsuc 0
 unfolding signOf
 sign-negative {z = pos zero} h = absurd (h .lt)

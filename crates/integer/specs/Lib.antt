@@ -1,2 +1,2 @@
--- The definitions that the crate's contracts cite.
+-- The definitions that the contracts cite.
 pub mod Magnitude

@@ -1,6 +1,9 @@
+// Exact arithmetic on signed numbers. Each result is the mathematical one, and each `requires` asks for room in terms of the sizes of the
+// arguments alone: whatever order the sum is taken in, no part of it is larger. So a caller that knows bounds on its numbers shows it by one
+// computed test (`room` of `proofs/Machine.antt`), and needs none of the parts.
 ghost use mathlib.Core.Path.{_≡_};
-ghost use Prim.Native.Nat.{_^_, _<_, _*_, _+_};
-ghost use lib.IntN.{natAbs, _-ℤ_, _*ℤ_, _+ℤ_};
+ghost use Prim.Native.Nat.{_+_, _*_, _^_, _<_};
+ghost use lib.IntN.{natAbs, _+ℤ_, _-ℤ_, _*ℤ_};
 ghost use Rattle.integer.specs.Magnitude.{signOf};
 
 pub fn difference(a: i64, b: i64) -> i64
@@ -10,13 +13,14 @@ pub fn difference(a: i64, b: i64) -> i64
     a - b
 }
 
-pub fn product(a: i64, b: i64) -> i64
-    requires { ⌜ natAbs a * natAbs b < 2 ^ 63 ⌝ }
-    ensures { λ r. ⌜ r ≡ a *ℤ b ⌝ }
+pub fn product(x: i64, y: i64) -> i64
+    requires { ⌜ natAbs x * natAbs y < 2 ^ 63 ⌝ }
+    ensures { λ r. ⌜ r ≡ x *ℤ y ⌝ }
 {
-    a * b
+    x * y
 }
 
+// A part of a cross product.
 pub fn cross_part(a: i64, b: i64, c: i64, d: i64) -> i64
     requires { ⌜ natAbs a * natAbs b + natAbs c * natAbs d < 2 ^ 63 ⌝ }
     ensures { λ r. ⌜ r ≡ a *ℤ b -ℤ c *ℤ d ⌝ }
@@ -31,6 +35,7 @@ pub fn dot(ax: i64, ay: i64, az: i64, bx: i64, by: i64, bz: i64) -> i64
     ax * bx + ay * by + az * bz
 }
 
+// -1, 0 or 1.
 pub fn sign(x: i64) -> i64
     ensures { λ r. ⌜ r ≡ signOf x ⌝ }
 {

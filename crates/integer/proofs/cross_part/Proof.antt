@@ -1,3 +1,4 @@
+-- `integer::cross_part` meets its contract: the `requires` bounds every number that passes through a word. Assumes nothing.
 use mathlib.Core.Path.{refl}
 use native.Mathlib.Omega.{arith}
 use lib.Dec.{lt→ltb}

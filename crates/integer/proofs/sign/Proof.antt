@@ -1,3 +1,4 @@
+-- `integer::sign` meets its contract: each branch tells the order to 0. Assumes nothing.
 use mathlib.Core.Path.{sym}
 use Rattle.integer.proofs.Magnitude.{sign-negative, sign-positive, sign-zero}
 use Rattle.integer.proofs.Comparison.{comparisons}
