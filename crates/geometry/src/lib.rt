@@ -1,8 +1,7 @@
 // Exact geometry on coordinates within ±10,000: every number fits an i64, to the ends of the range.
 ghost use mathlib.Core.Path.{_≡_};
-ghost use Rattle.integer.specs.Magnitude.{Within};
-ghost use Rattle.model.specs.Vector.{minus, dot, cross};
-ghost use Rattle.geometry.specs.Machine.{vecOf, Bounded};
+ghost use Rattle.model.specs.Vector.{minus, dot, cross, planeNormal};
+ghost use Rattle.geometry.specs.Machine.{vecOf, planeOf, Bounded, VectorIs, NumberIs};
 
 pub struct Vector {
     pub x: i64,
@@ -11,13 +10,82 @@ pub struct Vector {
 }
 
 // b − a
-pub fn from_to(a: Vector, b: Vector) -> Vector
+fn from_to(a: Vector, b: Vector) -> Vector
     requires { ⌜ Bounded 10000 a × Bounded 10000 b ⌝ }
-    ensures { λ r. ⌜ vecOf r ≡ minus (vecOf b) (vecOf a) ⌝ }
+    ensures { λ r. ⌜ VectorIs 20000 (minus (vecOf b) (vecOf a)) r ⌝ }
 {
     Vector {
-        x: b.x - a.x,
-        y: b.y - a.y,
-        z: b.z - a.z,
+        x: integer::difference(b.x, a.x),
+        y: integer::difference(b.y, a.y),
+        z: integer::difference(b.z, a.z),
     }
+}
+
+// u × v
+fn cross_product(u: Vector, v: Vector) -> Vector
+    requires { ⌜ Bounded 20000 u × Bounded 20000 v ⌝ }
+    ensures { λ r. ⌜ VectorIs 800000000 (cross (vecOf u) (vecOf v)) r ⌝ }
+{
+    Vector {
+        x: integer::cross_part(u.y, v.z, u.z, v.y),
+        y: integer::cross_part(u.z, v.x, u.x, v.z),
+        z: integer::cross_part(u.x, v.y, u.y, v.x),
+    }
+}
+
+// u · v
+fn dot_product(u: Vector, v: Vector) -> i64
+    requires { ⌜ Bounded 800000000 u × Bounded 800000000 v ⌝ }
+    ensures { λ r. ⌜ r ≡ dot (vecOf u) (vecOf v) ⌝ }
+{
+    integer::dot(u.x, u.y, u.z, v.x, v.y, v.z)
+}
+
+// (b − a) × (c − a)
+pub fn plane_normal(a: Vector, b: Vector, c: Vector) -> Vector
+    requires { ⌜ Bounded 10000 a × Bounded 10000 b × Bounded 10000 c ⌝ }
+    ensures { λ r. ⌜ VectorIs 800000000 (planeNormal (planeOf a b c)) r ⌝ }
+{
+    cross_product(from_to(a, b), from_to(a, c))
+}
+
+// (p − a) · n
+pub fn side(normal: Vector, a: Vector, p: Vector) -> i64
+    requires { ⌜ Bounded 800000000 normal × Bounded 10000 a × Bounded 10000 p ⌝ }
+    ensures { λ r. ⌜ NumberIs 48000000000000 (dot (minus (vecOf p) (vecOf a)) (vecOf normal)) r ⌝ }
+{
+    dot_product(from_to(a, p), normal)
+}
+
+// (corner − eye) · n
+pub fn eye_product(eye: Vector, corner: Vector, normal: Vector) -> i64
+    requires { ⌜ Bounded 10000 eye × Bounded 10000 corner × Bounded 800000000 normal ⌝ }
+    ensures { λ r. ⌜ NumberIs 48000000000000 (dot (minus (vecOf corner) (vecOf eye)) (vecOf normal)) r ⌝ }
+{
+    side(normal, eye, corner)
+}
+
+// (v − eye) × (w − eye)
+pub fn edge_vector(eye: Vector, v: Vector, w: Vector) -> Vector
+    requires { ⌜ Bounded 10000 eye × Bounded 10000 v × Bounded 10000 w ⌝ }
+    ensures { λ r. ⌜ VectorIs 800000000 (cross (minus (vecOf v) (vecOf eye)) (minus (vecOf w) (vecOf eye))) r ⌝ }
+{
+    plane_normal(eye, v, w)
+}
+
+// n · ((w − v) × (q − v))
+pub fn turn(normal: Vector, v: Vector, w: Vector, q: Vector) -> i64
+    requires { ⌜ Bounded 800000000 normal × Bounded 10000 v × Bounded 10000 w × Bounded 10000 q ⌝ }
+    ensures { λ r. ⌜ NumberIs 1920000000000000000
+        (dot (vecOf normal) (cross (minus (vecOf w) (vecOf v)) (minus (vecOf q) (vecOf v)))) r ⌝ }
+{
+    dot_product(normal, plane_normal(v, w, q))
+}
+
+// direction · edge
+pub fn edge_number(direction: Vector, edge: Vector) -> i64
+    requires { ⌜ Bounded 563000 direction × Bounded 800000000 edge ⌝ }
+    ensures { λ r. ⌜ NumberIs 1351200000000000 (dot (vecOf direction) (vecOf edge)) r ⌝ }
+{
+    dot_product(direction, edge)
 }

@@ -7,7 +7,7 @@ use native.Mathlib.Nat.{le-refl, le-trans, le-of-eq, le-of-lt, lt-of-le-of-lt, a
 use native.Mathlib.Omega.{arith}
 use lib.Dec.{T, leb, ltb, leb→le}
 use lib.IntN.{ℤ, pos, negsuc, natAbs, negℤ, _+ℤ_, _-ℤ_, _*ℤ_}
-use lib.Signed.{mag, natAbs-le, _<ℤ_, _≤ℤ_}
+use lib.Signed.{mag, natAbs-le, ltZ, _<ℤ_, _≤ℤ_}
 use mir.Syntax.{Width}
 use mir.Val.{Fits, SFits, bits, hbits, toZ, ofZ}
 use mir.ValLaws.{toZ-ofZ}
@@ -30,11 +30,19 @@ size-sum (pos a) (negsuc b) = size-difference (ltb a (suc b)) a b
 size-sum (negsuc a) (pos b) = omega (arith, size-difference (ltb b (suc a)) b a)
 size-sum (negsuc a) (negsuc b) = omega arith
 
-size-product : (x y : ℤ) → natAbs (x *ℤ y) ≡ natAbs x * natAbs y
+pub size-product : (x y : ℤ) → natAbs (x *ℤ y) ≡ natAbs x * natAbs y
 size-product (pos a) (pos b) = refl
 size-product (pos a) (negsuc b) = size-negation (pos (a * suc b))
 size-product (negsuc a) (pos b) = size-negation (pos (suc a * b))
 size-product (negsuc a) (negsuc b) = refl
+
+-- a positive number is its size
+pub size-positive : {z : ℤ} → pos 0 <ℤ z → z ≡ pos (natAbs z)
+size-positive {z} h = go z (h .lt)
+  where
+    go : (z : ℤ) → T (ltZ (pos 0) z) → z ≡ pos (natAbs z)
+    go (pos n) t = refl
+    go (negsuc n) t = absurd t
 
 -- ---- bounds
 pub within-self : (z : ℤ) → Within (natAbs z) z

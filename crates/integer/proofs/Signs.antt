@@ -105,6 +105,10 @@ same-+ {s} {a} {b} h k =
 pub same-scale : {s a k : ℤ} → pos zero <ℤ k → SameSign s a → SameSign s (k *ℤ a)
 same-scale {s} {a} {k} p h = record { agree = <-by (*-pos p (h .agree)) (ring (s ∷ a ∷ k ∷ []) (search reify depth 40 fits 200000, tt)) }
 
+pub same-unscale : {s a k : ℤ} → pos zero <ℤ k → SameSign s (k *ℤ a) → SameSign s a
+same-unscale {s} {a} {k} p h =
+    record { agree = *-pos-cancel p (<-by (h .agree) (ring (s ∷ a ∷ k ∷ []) (search reify depth 40 fits 200000, tt))) }
+
 -- what agrees with a positive number is positive
 pub same-pos : {s a : ℤ} → pos zero <ℤ s → SameSign s a → pos zero <ℤ a
 same-pos p h = *-pos-cancel p (h .agree)

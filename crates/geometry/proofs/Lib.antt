@@ -1,0 +1,2 @@
+-- Laws for the proofs of this crate and of its callers.
+pub mod Results
