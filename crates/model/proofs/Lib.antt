@@ -1,10 +1,14 @@
 -- The mathematics over the definitions.
+
+-- the worked examples
 pub mod Computing
 pub mod Encode
 pub mod Scenes
 pub mod Stations
 pub mod Refusals
+-- tests over lists
 pub mod Tests
+-- the geometry of met patches
 pub mod Vectors
 pub mod Rounds
 pub mod Patches
@@ -13,3 +17,15 @@ pub mod Sides
 pub mod Separation
 pub mod OnePlane
 pub mod Inside
+-- the closest patch, and the walk that meets it first
+pub mod Precedes
+pub mod Closest
+pub mod FirstMet
+pub mod Visibility
+-- pictures, counts, and chosen panels taken away
+pub mod Ranges
+pub mod Cells
+pub mod Counts
+pub mod Pictures
+pub mod Kept
+pub mod Removal

@@ -1,3 +1,4 @@
+-- `geometry::plane_normal` meets its contract: what it calls returns the differences and their cross product. Assumes nothing.
 use mathlib.Core.Path.{ap₂}
 use borrow.Author.Needs.{needs}
 use Rattle.model.specs.Vector.{cross}

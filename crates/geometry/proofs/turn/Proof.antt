@@ -1,6 +1,7 @@
+-- `geometry::turn` meets its contract: the dot product with a normal that is known. Assumes nothing.
 use mathlib.Core.Path.{ap}
 use borrow.Author.Needs.{needs}
-use Rattle.integer.proofs.Machine.{machine}
+use Rattle.integer.proofs.Machine.{machine, result}
 use Rattle.model.specs.Vector.{dot}
 use Rattle.geometry.specs.Machine.{vecOf}
 use Rattle.geometry.proofs.Results.{number}
@@ -14,7 +15,7 @@ turn-spec =
     (λ c κs. search needs)
     (λ c κs. search needs)
     (λ c. number (
-      search machine depth 40 fits 20000,
+      search (machine, result) depth 40 fits 20000,
       tt,
       tt,
       ap (dot (vecOf (c .before .before .args .normal))) (c .before .plane-normal .ensures .value),
