@@ -10,6 +10,14 @@ use Rattle.model.specs.Vector.{Vec, minus, dot, planeNormal, side}
 use Rattle.geometry.specs.declared.Vector.{Vector}
 use Rattle.geometry.specs.Machine.{vecOf, planeOf, VectorIs, NumberIs}
 
+-- A need from a fact of its place: `given (λ c. fact) (λ _ h. search ..)`. The place is bound as `_`, so that `search` looks at h alone: where
+-- a function reads fields, its place holds more records than `search` enters.
+pub given : {C : Type 0} {H P : C → Type 0} → ((c : C) → H c) → ((c : C) → H c → P c) → (c : C) → P c
+given fact need c = need c (fact c)
+
+pub both : {A B : Type 0} → A → B → A × B
+both a b = (a, b)
+
 -- what the machine computed from bounded numbers: `number (search (machine, result) depth 40 fits 20000, tt, tt, refl)`
 pub number :
     {n : ℕ} {z r : ℤ} →

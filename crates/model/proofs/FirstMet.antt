@@ -10,7 +10,7 @@ use native.Mathlib.Omega.{arith}
 use lib.Dec.{T, leb, leb→le}
 use Rattle.model.specs.Vector.{Vec}
 use Rattle.model.specs.Patch.{Patch}
-use Rattle.model.specs.Ray.{met, precedes, nearest, closestPatch, IsClosestPatch}
+use Rattle.model.specs.Ray.{met, precedes, nearest, closestPatch, IsClosestPatch, firstMet}
 use Rattle.model.specs.Questions.{neverFalling}
 use Rattle.model.proofs.Tests.{is-true, both, of-cons, of-append}
 use Rattle.model.proofs.Precedes.{nearer, Before, precedes-true, precedes-asym}
@@ -45,20 +45,15 @@ rest-never-falls n [] t = tt
 rest-never-falls n (m ∷ ns) t = both (leb n m) (neverFalling (m ∷ ns)) .0 t .1
 
 module _ (eye d : Vec) where
-  -- the first patch of a list that is met
-  unfoldable pub firstMet : List Patch → Option Patch
-  firstMet [] = none
-  firstMet (p ∷ ps) = cond (met eye d p) (some p) (firstMet ps)
-
-  pub firstMet-append : (xs ys : List Patch) → firstMet (xs ++ ys) ≡ orElse (firstMet xs) (firstMet ys)
+  pub firstMet-append : (xs ys : List Patch) → firstMet eye d (xs ++ ys) ≡ orElse (firstMet eye d xs) (firstMet eye d ys)
   unfolding firstMet
   firstMet-append [] ys = refl
   firstMet-append (p ∷ xs) ys = go (met eye d p) (firstMet-append xs ys)
     where
       go :
           (b : Bool) →
-          firstMet (xs ++ ys) ≡ orElse (firstMet xs) (firstMet ys) →
-          cond b (some p) (firstMet (xs ++ ys)) ≡ orElse (cond b (some p) (firstMet xs)) (firstMet ys)
+          firstMet eye d (xs ++ ys) ≡ orElse (firstMet eye d xs) (firstMet eye d ys) →
+          cond b (some p) (firstMet eye d (xs ++ ys)) ≡ orElse (cond b (some p) (firstMet eye d xs)) (firstMet eye d ys)
       go true e = refl
       go false e = e
 
@@ -78,7 +73,7 @@ module _ (eye d : Vec) where
       (ps : List Patch) →
       T (neverFalling (map (λ (p : Patch). p .panel) ps)) →
       Level ps →
-      firstMet ps ≡ closestPatch eye d ps
+      firstMet eye d ps ≡ closestPatch eye d ps
   unfolding firstMet closestPatch nearest
   level-run [] t l = refl
   level-run (p ∷ ps) t l =
@@ -100,8 +95,8 @@ module _ (eye d : Vec) where
       go :
           (b : Bool) →
           met eye d p ≡ b →
-          firstMet ps ≡ closestPatch eye d ps →
-          cond b (some p) (firstMet ps) ≡ nearest eye d b p (closestPatch eye d ps)
+          firstMet eye d ps ≡ closestPatch eye d ps →
+          cond b (some p) (firstMet eye d ps) ≡ nearest eye d b p (closestPatch eye d ps)
       go true e h =
           sym (subst (λ (b : Bool). nearest eye d b p (closestPatch eye d ps) ≡ some p) e
           (closestPatch-some eye d (p ∷ ps) p .1 (shown (is-true e))))

@@ -5,10 +5,10 @@ use mathlib.Core.List.{List·Memᴰ}
 use lib.Dec.{T}
 use lib.IntN.{ℤ, pos, _*ℤ_}
 use Rattle.integer.proofs.Signs.{SameSign, same-sym, same-≢, same-scale, same-unscale, same-trans}
-use Rattle.model.specs.Vector.{Vec, minus, dot}
+use Rattle.model.specs.Vector.{Vec, minus, dot, times}
 use Rattle.model.specs.Patch.{Patch, Edge, corner, normal, edges}
 use Rattle.model.specs.Ray.{eyeProduct, edgeVector, edgeNumber, met}
-use Rattle.model.proofs.Vectors.{det, times, onLine, meets-plane, edge-number}
+use Rattle.model.proofs.Vectors.{det, onLine, meets-plane, edge-number}
 use Rattle.model.proofs.Rounds.{edge-ends}
 use Rattle.model.proofs.Patches.{Proper, corner-height, normal-square, met-says}
 use Rattle.model.proofs.Sides.{distance-positive}

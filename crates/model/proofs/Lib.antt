@@ -8,6 +8,7 @@ pub mod Stations
 pub mod Refusals
 -- tests over lists
 pub mod Tests
+pub mod Answers
 -- the geometry of met patches
 pub mod Vectors
 pub mod Rounds

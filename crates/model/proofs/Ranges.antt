@@ -3,8 +3,8 @@ use mathlib.Core.Path.{_≡_, refl, sym, ap, ap₂, subst, _∙_}
 use mathlib.Core.List.{List, [], _∷_, _++_, map, flatten, List·Memᴰ, List·Memᴰ·head, List·Memᴰ·tail, List·Memᴰ·not-nil}
 use Prim.Native.Nat.{ℕ, zero, suc, suc-le-suc, _+_, _*_, _<_}
 use native.Mathlib.Nat.{add-zero, add-suc, suc-add, zero-add, zero-mul, suc-mul, mul-zero, mul-suc, add-comm, add-assoc, not-suc-le-zero, zero-lt-suc, le-of-suc-le-suc}
-use lib.ListN.{length, getD, length-append, List·getD-append}
-use lib.Seq.{getD-append-add}
+use lib.ListN.{length, getD, length-append, List·getD-append, take, drop}
+use lib.Seq.{take-at, drop-append-add, getD-append-add}
 use Rattle.model.specs.Lists.{range}
 use Rattle.model.proofs.Tests.{of-cons, of-append}
 
@@ -92,3 +92,22 @@ module _ {A : Type 0} (width : ℕ) (row : ℕ → List A) (row-length : (j : �
     where
       place : suc j * width + i ≡ length (row a) + (j * width + i)
       place = rw (row-length a, suc-mul, add-comm (j * width) width, add-assoc)
+
+  -- row j is the part from j × width on
+  pub rows-part :
+      (a height j : ℕ) →
+      j < height →
+      take width (drop (j * width) (flatten (map row (range a height)))) ≡ row (a + j)
+  unfolding flatten
+  rows-part a zero j k = absurd (not-suc-le-zero k)
+  rows-part a (suc n) zero k =
+      rw (zero-mul, add-zero) (take-at (row a) (flatten (map row (range (suc a) n))) width (row-length a))
+  rows-part a (suc n) (suc j) k =
+      let rest : List A = flatten (map row (range (suc a) n)) in
+      ap (λ (m : ℕ). take width (drop m (row a ++ rest))) place
+      ∙ ap (λ (l : List A). take width l) (drop-append-add (row a) rest (j * width))
+      ∙ rows-part (suc a) n j (le-of-suc-le-suc k)
+      ∙ ap row (next a j)
+    where
+      place : suc j * width ≡ length (row a) + j * width
+      place = rw (row-length a, suc-mul, add-comm (j * width) width)

@@ -11,12 +11,12 @@ use Rattle.integer.proofs.Order.{<→≤}
 use Rattle.integer.proofs.Products.{*-pos, *-nonneg, sq-pos, neg-of-neg}
 use Rattle.integer.proofs.Signs.{SameSign, same-sym, same-trans}
 use Rattle.model.specs.Lists.{every, any}
-use Rattle.model.specs.Vector.{Vec, Plane, minus, dot, isZero, planeNormal, side, turnedOver}
+use Rattle.model.specs.Vector.{Vec, Plane, minus, dot, isZero, planeNormal, side, turnedOver, plus, times}
 use Rattle.model.specs.Patch.{Patch, corner, normal}
 use Rattle.model.specs.Ray.{eyeProduct, met}
 use Rattle.model.specs.Tree.{liesOn, inFront}
 use Rattle.model.proofs.Tests.{both, every-true, any-true}
-use Rattle.model.proofs.Vectors.{plus, times, det-swap, dot-sum, dot-times, side-turned, side-from}
+use Rattle.model.proofs.Vectors.{det-swap, dot-sum, dot-times, side-turned, side-from}
 use Rattle.model.proofs.Patches.{is-zero, Proper, first-corner, corner-height, met-says}
 use Rattle.model.proofs.Fan.{met-ahead, met-along}
 

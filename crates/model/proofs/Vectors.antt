@@ -3,17 +3,11 @@ use mathlib.Core.Path.{_≡_}
 use mathlib.Core.List.{[], _∷_}
 use lib.IntN.{ℤ, pos, negℤ, _+ℤ_, _-ℤ_, _*ℤ_}
 use Rattle.integer.proofs.Identity.{ring, reify, combine₁, combine₂, combine₃}
-use Rattle.model.specs.Vector.{Vec, Plane, vec, minus, dot, cross, planeNormal, side, turnedOver}
+use Rattle.model.specs.Vector.{Vec, Plane, vec, minus, plus, times, dot, cross, planeNormal, side, turnedOver}
 
 -- a · (b × c)
 abbrev pub det : Vec → Vec → Vec → ℤ
 det a b c = dot a (cross b c)
-
-abbrev pub plus : Vec → Vec → Vec
-plus a b = vec (a .x +ℤ b .x) (a .y +ℤ b .y) (a .z +ℤ b .z)
-
-abbrev pub times : ℤ → Vec → Vec
-times k a = vec (k *ℤ a .x) (k *ℤ a .y) (k *ℤ a .z)
 
 -- a product with a sum of multiples
 pub dot-sum : (a b c : Vec) (k l : ℤ) → dot a (plus (times k b) (times l c)) ≡ k *ℤ dot a b +ℤ l *ℤ dot a c

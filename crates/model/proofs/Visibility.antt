@@ -10,7 +10,7 @@ use lib.Signed.{_≤ℤ_, ltZ, ltZ-no}
 use Rattle.model.specs.Lists.{every}
 use Rattle.model.specs.Vector.{Vec, Plane, side, turnedOver}
 use Rattle.model.specs.Patch.{Patch}
-use Rattle.model.specs.Ray.{met, precedes, closestPatch, panelOf, closest}
+use Rattle.model.specs.Ray.{met, precedes, closestPatch, panelOf, closest, firstMet}
 use Rattle.model.specs.Tree.{Tree, leaf, node, contents, order, liesOn, inFront, divides}
 use Rattle.model.specs.Questions.{offOneLine, neverFalling}
 use Rattle.model.proofs.Tests.{is-true, both, every-true, of-append}
@@ -19,7 +19,7 @@ use Rattle.model.proofs.Sides.{lies-on-turned, eye-turned}
 use Rattle.model.proofs.Separation.{front-first, own-before-back}
 use Rattle.model.proofs.OnePlane.{level}
 use Rattle.model.proofs.Precedes.{nearer, precedes-true}
-use Rattle.model.proofs.FirstMet.{orElse, orElse-assoc, firstMet, firstMet-append, level-run, Separated, closestPatch-separated, closestPatch-cong}
+use Rattle.model.proofs.FirstMet.{orElse, orElse-assoc, firstMet-append, level-run, Separated, closestPatch-separated, closestPatch-cong}
 
 -- a node's plane and own patches pass questions 4, 6 (corner counts), 7 (order) and 8
 pub record ProperNode (s : Plane) (own : List Patch) : Type 0 where

@@ -96,3 +96,8 @@ pub record IsClosestPatch (eye d : Vec) (ps : List Patch) (p : Patch) : Type 0 w
   pub isMet : T (met eye d p)
   pub least : (q : Patch) → List·Memᴰ q ps → T (met eye d q) → T (precedes eye d q p) → ⊥
   pub earliest : (q : Patch) → List·Memᴰ q before → T (met eye d q) → T (precedes eye d p q)
+
+-- the first patch of a list that a ray meets: what a walk front to back shows
+unfoldable pub firstMet : Vec → Vec → List Patch → Option Patch
+firstMet eye d [] = none
+firstMet eye d (p ∷ ps) = cond (met eye d p) (some p) (firstMet eye d ps)

@@ -18,6 +18,12 @@ origin = vec (pos 0) (pos 0) (pos 0)
 abbrev pub minus : Vec → Vec → Vec
 minus a b = vec (a .x -ℤ b .x) (a .y -ℤ b .y) (a .z -ℤ b .z)
 
+abbrev pub plus : Vec → Vec → Vec
+plus a b = vec (a .x +ℤ b .x) (a .y +ℤ b .y) (a .z +ℤ b .z)
+
+abbrev pub times : ℤ → Vec → Vec
+times k a = vec (k *ℤ a .x) (k *ℤ a .y) (k *ℤ a .z)
+
 abbrev pub dot : Vec → Vec → ℤ
 dot a b = a .x *ℤ b .x +ℤ a .y *ℤ b .y +ℤ a .z *ℤ b .z
 

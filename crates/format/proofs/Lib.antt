@@ -1,0 +1,9 @@
+-- Laws of the byte format.
+pub mod Booleans
+pub mod Tables
+pub mod Decoded
+mod TwosComplement
+mod Made
+mod HeaderTests
+mod Sections
+mod Places

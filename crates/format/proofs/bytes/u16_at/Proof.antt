@@ -1,0 +1,18 @@
+use borrow.Author.Needs.{needs}
+use Rattle.model.specs.Format.{u16At}
+use Rattle.format.proofs.bytes.u16_at.Statement.{statement}
+use Rattle.format.proofs.bytes.u16_at.Tie as tie
+
+returns : tie.Need-returns
+unfolding u16At
+returns c = search needs
+
+pub u16-at-spec : {M : Type 1} → statement M
+u16-at-spec =
+    tie.close
+    (tie.spec
+    (λ c. search needs)
+    (λ c. search needs)
+    (λ c. search needs)
+    (λ c κs. search needs)
+    returns)

@@ -1,0 +1,103 @@
+// The header of a scene, and questions 1 and 2.
+use crate::bytes::u16_at;
+use crate::bytes::u32_at;
+ghost use mathlib.Core.Path.{_≡_};
+ghost use Prim.Native.Nat.{_+_, _≤_, _<_};
+ghost use lib.ListN.{length};
+ghost use Rattle.model.specs.Format.{headerOf, sectionAt};
+ghost use Rattle.model.specs.Questions.{hasHeader, isSection, hasSections};
+ghost use Rattle.format.specs.Machine.{sectionOf, SectionIs, HeaderIs};
+
+pub struct Section {
+    pub offset: usize,
+    pub size: usize,
+}
+
+pub struct Header {
+    pub version: usize,
+    pub reserved: usize,
+    pub whole: usize,
+    pub nodes: Section,
+    pub patches: Section,
+    pub corners: Section,
+}
+
+fn section_at(bytes: &[u8], at: usize) -> Section
+    requires { ⌜ at + 8 ≤ length (now bytes) ⌝ }
+    ensures { λ r. ⌜ SectionIs (sectionAt (now (bytes .entry)) at) r ⌝ }
+{
+    Section {
+        offset: u32_at(bytes, at),
+        size: u32_at(bytes, at + 4),
+    }
+}
+
+pub fn read_header(bytes: &[u8]) -> Header
+    requires { ⌜ 32 ≤ length (now bytes) ⌝ }
+    ensures { λ r. ⌜ HeaderIs (headerOf (now (bytes .entry))) r ⌝ }
+{
+    Header {
+        version: u16_at(bytes, 0),
+        reserved: u16_at(bytes, 2),
+        whole: u32_at(bytes, 4),
+        nodes: section_at(bytes, 8),
+        patches: section_at(bytes, 16),
+        corners: section_at(bytes, 24),
+    }
+}
+
+// question 1
+pub fn has_header(bytes: &[u8]) -> bool
+    ensures { λ r. ⌜ r ≡ hasHeader (now (bytes .entry)) ⌝ }
+{
+    let n = bytes.len();
+    if n < 32 {
+        return false;
+    }
+    if 57376 < n {
+        return false;
+    }
+    let h = read_header(bytes);
+    if h.version != 1 {
+        return false;
+    }
+    if h.reserved != 0 {
+        return false;
+    }
+    h.whole == n
+}
+
+// the section begins at a place and holds whole records, not more than a limit
+fn is_section(s: Section, start: usize, step: usize, most: usize) -> bool
+    requires { ⌜ 0 < step ⌝ }
+    ensures { λ r. ⌜ r ≡ isSection start step most (sectionOf s) ⌝ }
+{
+    if s.offset != start {
+        return false;
+    }
+    if s.size % step != 0 {
+        return false;
+    }
+    s.size / step <= most
+}
+
+// question 2
+pub fn has_sections(bytes: &[u8]) -> bool
+    requires { ⌜ 32 ≤ length (now bytes) ⌝ }
+    ensures { λ r. ⌜ r ≡ hasSections (now (bytes .entry)) ⌝ }
+{
+    let h = read_header(bytes);
+    let nodes = h.nodes;
+    let patches = h.patches;
+    let corners = h.corners;
+    if !is_section(nodes, 32, 26, 1024) {
+        return false;
+    }
+    if !is_section(patches, nodes.offset + nodes.size, 6, 1024) {
+        return false;
+    }
+    if !is_section(corners, patches.offset + patches.size, 6, 4096) {
+        return false;
+    }
+    corners.offset + corners.size == h.whole
+}

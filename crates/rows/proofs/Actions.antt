@@ -1,0 +1,119 @@
+-- The table of actions: its rule, and what the rule says of a span and a segment.
+use mathlib.Core.Path.{_≡_, refl, sym, _∙_}
+use mathlib.Core.Bool.{Bool, true, false, cond, _&&_, Bool·beq}
+use mathlib.Core.List.{List, [], _∷_}
+use Prim.Native.Nat.{ℕ, zero, suc, _+_, _*_, _/_, _%_, _≤_, _<_}
+use native.Mathlib.Omega.{arith}
+use lib.Dec.{T, eqb, leb, ltb, leb·zero}
+use lib.ListN.{length, getD}
+use borrow.Author.Tests.{lt-ltb, le-ltb, le-leb, lt-leb}
+use Rattle.rows.specs.Step.{Starts, by-start, inside, beyond, Ends, ahead, within-it, at-end, past, Acts}
+use Rattle.rows.proofs.Tests.{and-both}
+use Rattle.rows.proofs.Table.{obeys, entry}
+
+-- the parts of an action code
+abbrev pub paints : ℕ → Bool
+paints code = eqb (code % 2) 1
+
+abbrev pub keepsBefore : ℕ → Bool
+keepsBefore code = eqb (code / 2 % 2) 1
+
+abbrev pub keepsAfter : ℕ → Bool
+keepsAfter code = eqb (code / 4 % 2) 1
+
+abbrev pub goesOn : ℕ → Bool
+goesOn code = eqb (code / 8) 1
+
+-- the places a and b of a span's ends can occur together
+abbrev pub possible : ℕ → ℕ → Bool
+possible a b = cond (eqb a 2) (eqb b 3) (leb a b)
+
+-- the rule of the entry for the places a and b
+abbrev pub rule : ℕ → ℕ → ℕ → Bool
+rule a b code =
+    cond (possible a b)
+    (Bool·beq (paints code) (ltb a 2 && ltb 0 b)
+    && (Bool·beq (keepsBefore code) (ltb 0 a) && (Bool·beq (keepsAfter code) (ltb b 2) && Bool·beq (goesOn code) (eqb b 3))))
+    true
+
+abbrev pub test : ℕ → ℕ → Bool
+test k code = rule (k / 4) (k % 4) code
+
+beq-path : (a b : Bool) → T (Bool·beq a b) → a ≡ b
+beq-path true true t = refl
+beq-path true false t = absurd t
+beq-path false true t = absurd t
+beq-path false false t = refl
+
+pub start-below : {first min max a : ℕ} → Starts first min max a → a < 3
+start-below (by-start p) = omega arith
+start-below (inside p q) = omega arith
+start-below (beyond p) = omega arith
+
+pub end-below : {last min max b : ℕ} → Ends last min max b → b < 4
+end-below (ahead p) = omega arith
+end-below (within-it p q) = omega arith
+end-below (at-end p) = omega arith
+end-below (past p) = omega arith
+
+module _ (first last min max : ℕ) (span : first ≤ last) (segment : min ≤ max) where
+  start-inside : {a : ℕ} → Starts first min max a → ltb a 2 ≡ leb first max
+  start-inside (by-start p) = rw (le-leb first max (omega arith))
+  start-inside (inside p q) = rw (le-leb first max q)
+  start-inside (beyond p) = rw (lt-leb first max p)
+
+  start-before : {a : ℕ} → Starts first min max a → ltb 0 a ≡ ltb min first
+  start-before (by-start p) = rw (le-ltb min first p)
+  start-before (inside p q) = rw (lt-ltb min first p)
+  start-before (beyond p) = rw (lt-ltb min first (omega arith))
+
+  end-inside : {b : ℕ} → Ends last min max b → ltb 0 b ≡ leb min last
+  end-inside (ahead p) = rw (lt-leb min last p)
+  end-inside (within-it p q) = rw (le-leb min last p)
+  end-inside (at-end p) = rw (le-leb min last (omega arith))
+  end-inside (past p) = rw (le-leb min last (omega arith))
+
+  end-after : {b : ℕ} → Ends last min max b → ltb b 2 ≡ ltb last max
+  end-after (ahead p) = rw (lt-ltb last max (omega arith))
+  end-after (within-it p q) = rw (lt-ltb last max q)
+  end-after (at-end p) = rw (le-ltb last max (omega arith))
+  end-after (past p) = rw (le-ltb last max (omega arith))
+
+  end-next : {b : ℕ} → Ends last min max b → eqb b 3 ≡ ltb max last
+  end-next (ahead p) = rw (le-ltb max last (omega arith))
+  end-next (within-it p q) = rw (le-ltb max last (omega arith))
+  end-next (at-end p) = rw (le-ltb max last (omega arith))
+  end-next (past p) = rw (lt-ltb max last p)
+
+  together : {a b : ℕ} → Starts first min max a → Ends last min max b → possible a b ≡ true
+  together {b} (by-start p) e = leb·zero b
+  together (inside p q) (ahead r) = absurd (omega arith)
+  together (inside p q) (within-it r t) = refl
+  together (inside p q) (at-end r) = refl
+  together (inside p q) (past r) = refl
+  together (beyond p) (ahead r) = absurd (omega arith)
+  together (beyond p) (within-it r t) = absurd (omega arith)
+  together (beyond p) (at-end r) = absurd (omega arith)
+  together (beyond p) (past r) = refl
+
+  acts : (a b code : ℕ) → Starts first min max a → Ends last min max b → T (rule a b code) → Acts first last min max (paints code) (keepsBefore code) (keepsAfter code) (goesOn code)
+  acts a b code s e t =
+      let r = rw (together s e) at t in
+      let p = and-both (Bool·beq (paints code) (ltb a 2 && ltb 0 b)) _ r in
+      let q = and-both (Bool·beq (keepsBefore code) (ltb 0 a)) _ (p .1) in
+      let u = and-both (Bool·beq (keepsAfter code) (ltb b 2)) _ (q .1) in
+      record {
+        paint-is = beq-path (paints code) (ltb a 2 && ltb 0 b) (p .0) ∙ rw (start-inside s, end-inside e);
+        before-is = beq-path (keepsBefore code) (ltb 0 a) (q .0) ∙ start-before s;
+        after-is = beq-path (keepsAfter code) (ltb b 2) (u .0) ∙ end-after e;
+        next-is = beq-path (goesOn code) (eqb b 3) (u .1) ∙ end-next e;
+      }
+
+  -- a table that obeys the rule at each entry says what to do
+  pub acts-by : (codes : List ℕ) → T (obeys test 0 codes) → length codes ≡ 12 → (a b : ℕ) → Starts first min max a → Ends last min max b → let code : ℕ = getD codes (4 * a + b) 0 in Acts first last min max (paints code) (keepsBefore code) (keepsAfter code) (goesOn code)
+  acts-by codes t l a b s e =
+      let k : ℕ = 4 * a + b in
+      let code : ℕ = getD codes k 0 in
+      let p : k / 4 ≡ a = omega (arith, end-below e) in
+      let q : k % 4 ≡ b = omega (arith, end-below e) in
+      acts a b code s e (rw (p, q) at (entry test codes t k (omega (arith, start-below s, end-below e))))

@@ -1,0 +1,17 @@
+pub mod Tests
+pub mod Segments
+pub mod Sets
+pub mod Rows
+pub mod Cut
+pub mod Painting
+pub mod Numbers
+pub mod Moves
+pub mod Turns
+pub mod Table
+pub mod Actions
+pub mod Keeping
+pub mod Stepping
+pub mod Sweeping
+pub mod Sweeps
+pub mod Full
+pub mod Used

@@ -1,0 +1,44 @@
+-- The numbers of a row: those of its segments, and then zeros. One segment after the other is moved down, or up.
+use mathlib.Core.Path.{_≡_, refl, sym, ap, subst, _∙_}
+use mathlib.Core.List.{List, [], _∷_, _++_, append-assoc, append-nil}
+use Prim.Native.Nat.{ℕ, zero, suc, _+_, _*_, _-_, _≤_, _<_}
+use native.Mathlib.Omega.{arith}
+use lib.ListN.{length, getD, set, replicate, length-append}
+use lib.Seq.{getD-append-add, set-at}
+use Rattle.model.specs.Row.{Segment, numbersOf}
+use Rattle.rows.specs.Segments.{Placed, Ordered, none, more, rowFrom, segmentAt, written, Holds}
+use Rattle.rows.proofs.Rows.{zeros, numbers-length, numbers-append, rowFrom-parts}
+
+-- the segments `passed` and `rest` and then n zeros make up the row
+pub record Shape (passed rest : List Segment) (n : ℕ) (row : List ℕ) : Type 0 where
+  pub size : 2 * (length passed + length rest) + n ≡ 256
+  pub row-is : row ≡ numbersOf passed ++ (numbersOf rest ++ zeros n)
+
+pub shaped : (passed rest : List Segment) → length passed + length rest ≤ 128 → Shape passed rest (256 - 2 * (length passed + length rest)) (rowFrom (passed ++ rest))
+shaped passed rest h =
+    let e : length (passed ++ rest) ≡ length passed + length rest = length-append passed rest in
+    record {
+      size = omega arith;
+      row-is = rowFrom-parts (passed ++ rest) (omega arith) ∙ rw (e, numbers-append passed rest, append-assoc);
+    }
+
+pub shape-row : {passed rest : List Segment} {n : ℕ} {row : List ℕ} → Shape passed rest n row → row ≡ rowFrom (passed ++ rest)
+shape-row {passed} {rest} {n} sh =
+    let e : 256 - 2 * (length passed + length rest) ≡ n = omega arith in
+    sh .row-is ∙ sym (rw e at (shaped passed rest (omega arith) .row-is))
+
+-- a number of the pairs after the first ones
+pub number-at : (passed : List Segment) (ys : List ℕ) (m j : ℕ) → m ≡ 2 * length passed + j → getD (numbersOf passed ++ ys) m 0 ≡ getD ys j 0
+number-at passed ys m j e =
+    let l : m ≡ length (numbersOf passed) + j = omega (arith, numbers-length passed) in
+    rw l (getD-append-add (numbersOf passed) ys j 0)
+
+set-second : (xs : List ℕ) (a y b : ℕ) (ys : List ℕ) → set (xs ++ a ∷ y ∷ ys) (suc (length xs)) b ≡ xs ++ a ∷ b ∷ ys
+set-second [] a y b ys = refl
+set-second (x ∷ xs) a y b ys = ap (λ (l : List ℕ). x ∷ l) (set-second xs a y b ys)
+
+pub pair-written : (passed : List Segment) (x y : ℕ) (ys : List ℕ) (k : ℕ) (s : Segment) → length passed ≡ k → written (numbersOf passed ++ x ∷ y ∷ ys) k s ≡ numbersOf passed ++ s .offset ∷ s .count ∷ ys
+pair-written passed x y ys k s e =
+    let l : length (numbersOf passed) ≡ 2 * k = omega (arith, numbers-length passed) in
+    let m : 2 * k + 1 ≡ suc (length (numbersOf passed)) = omega arith in
+    rw (set-at (numbersOf passed) x (y ∷ ys) (s .offset) (2 * k) l, m) (set-second (numbersOf passed) (s .offset) y (s .count) ys)

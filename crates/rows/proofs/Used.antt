@@ -1,0 +1,57 @@
+-- The used pairs of a row, and the part of the unlit lists that holds them.
+use mathlib.Core.Path.{_≡_, refl, sym, ap, _∙_}
+use mathlib.Core.Bool.{Bool, true, false, cond}
+use mathlib.Core.List.{List, [], _∷_, _++_, append-assoc, append-nil}
+use Prim.Native.Nat.{ℕ, suc, _+_, _*_, _-_, _/_, _%_, _≤_, _<_}
+use native.Mathlib.Nat.{le-of-suc-le-suc}
+use native.Mathlib.Numerals.{add-one, add-two}
+use native.Mathlib.Omega.{arith}
+use lib.Dec.{leb}
+use lib.ListN.{length, getD, take, drop, length-drop, length-take, drop-of-length-le}
+use lib.Seq.{drop-cons, take-add, take-all}
+use borrow.Author.Tests.{le-leb, lt-leb}
+use Rattle.model.specs.Row.{usedPairs, usedPart, rowLength}
+use Rattle.rows.proofs.Rows.{used-pair}
+
+-- the first i numbers, of whole pairs, are used; the others are still to be looked at
+pub record UsedTo (row : List ℕ) (i : ℕ) : Type 0 where
+  pub even : i % 2 ≡ 0
+  pub bound : i ≤ 256
+  pub used : usedPairs row ≡ take i row ++ usedPairs (drop i row)
+
+pub used-starts : (row : List ℕ) → UsedTo row 0
+used-starts row = record { even = refl; bound = omega arith; used = refl }
+
+pair-of : (row : List ℕ) (i : ℕ) → i + 1 < length row → drop i row ≡ getD row i 0 ∷ getD row (i + 1) 0 ∷ drop (i + 2) row
+pair-of row i h =
+    drop-cons row i 0 (omega arith)
+    ∙ ap (λ (xs : List ℕ). getD row i 0 ∷ xs) (drop-cons row (suc i) 0 (omega arith))
+    ∙ rw (add-one i, add-two i)
+
+module _ {row : List ℕ} {i : ℕ} (full : length row ≡ 256) (inv : UsedTo row i) where
+  pub used-over : 256 ≤ i → row ≡ usedPairs row
+  unfolding usedPairs
+  used-over h = sym (inv .used ∙ rw (drop-of-length-le row {i = i} (omega arith), append-nil, take-all i row (omega arith)))
+
+  pub used-ends : i < 256 → getD row (i + 1) 0 ≡ 0 → take i row ≡ usedPairs row
+  unfolding usedPairs
+  used-ends h z = sym (inv .used ∙ rw (pair-of row i (omega (arith, inv .even)), z, append-nil))
+
+  pub used-goes : i < 256 → (getD row (i + 1) 0 ≡ 0 → ⊥) → UsedTo row (i + 2)
+  used-goes h n =
+      let p = pair-of row i (omega (arith, inv .even)) in
+      record {
+        even = omega (arith, inv .even);
+        bound = omega (arith, inv .even);
+        used = inv .used ∙ rw (take-add i 2 row, append-assoc, p, used-pair (getD row i 0) (getD row (i + 1) 0) (drop (i + 2) row) (omega arith));
+      }
+
+pub part-outside : (lists : List ℕ) (j : ℕ) → length lists / 256 ≤ j → [] ≡ usedPart lists j
+unfolding usedPart
+part-outside lists j h = rw (lt-leb (256 * (j + 1)) (length lists) (omega arith))
+
+pub part-inside : (lists : List ℕ) (j : ℕ) → j < length lists / 256 → usedPairs (take (256 * j + 256 - 256 * j) (drop (256 * j) lists)) ≡ usedPart lists j
+unfolding usedPart
+part-inside lists j h =
+    let e : 256 * j + 256 - 256 * j ≡ 256 = omega arith in
+    rw (le-leb (256 * (j + 1)) (length lists) (omega arith), e)

@@ -1,0 +1,4 @@
+-- What the contracts of this crate cite: laying a span, and the parts that it is made of.
+pub mod Span
+pub mod Segments
+pub mod Step

@@ -1,0 +1,93 @@
+-- What the parts of laying a span do with one segment.
+use mathlib.Core.Path.{_≡_}
+use mathlib.Core.Bool.{Bool, true, false, _&&_}
+use mathlib.Core.List.{List, [], _∷_, _++_}
+use Prim.Native.Nat.{ℕ, suc, _+_, _-_, _≤_, _<_, min, max}
+use lib.Dec.{leb, ltb}
+use lib.ListN.{length}
+use Rattle.model.specs.Row.{Segment}
+use Rattle.rows.specs.Span.{inSpan, painted}
+use Rattle.rows.specs.Segments.{within, Placed, rowFrom, segmentAt, Holds}
+
+-- the segment, where the test passes
+abbrev pub piece : Bool → Segment → List Segment
+piece true s = s ∷ []
+piece false s = []
+
+-- a segment's columns before the span
+unfoldable pub keptBefore : ℕ → Segment → List Segment
+keptBefore first s =
+    piece (ltb (s .offset) first) (record { offset = s .offset; count = min (first - s .offset) (s .count) })
+
+-- and those after it
+unfoldable pub keptAfter : ℕ → Segment → List Segment
+keptAfter last s =
+    let start : ℕ = max (s .offset) (suc last) in
+    piece (ltb (suc last) (s .offset + s .count)) (record { offset = start; count = s .offset + s .count - start })
+
+-- what a span leaves of a segment
+unfoldable pub kept : ℕ → ℕ → Segment → List Segment
+kept first last s = keptBefore first s ++ keptAfter last s
+
+-- where a span's `first` lies against a segment from `min` to `max`
+pub data Starts (first min max : ℕ) : ℕ → Type 0 where
+  by-start : first ≤ min → Starts first min max 0
+  inside : min < first → first ≤ max → Starts first min max 1
+  beyond : max < first → Starts first min max 2
+
+-- where its `last` lies
+pub data Ends (last min max : ℕ) : ℕ → Type 0 where
+  ahead : last < min → Ends last min max 0
+  within-it : min ≤ last → last < max → Ends last min max 1
+  at-end : last ≡ max → Ends last min max 2
+  past : max < last → Ends last min max 3
+
+-- a span from `first` to `last` against a segment from `min` to `max`: whether there are columns to paint, whether the segment has columns before the span
+-- and after it, and whether the next segment is to be looked at
+pub record Acts (first last min max : ℕ) (paint before after next : Bool) : Type 0 where
+  pub paint-is : paint ≡ (leb first max && leb min last)
+  pub before-is : before ≡ ltb min first
+  pub after-is : after ≡ ltb last max
+  pub next-is : next ≡ ltb max last
+
+-- the segment `s` now stands in the row as number k
+pub record Inserts (k : ℕ) (s : Segment) (row row′ : List ℕ) : Type 0 where
+  pub inserts :
+      (width : ℕ) (done rest : List Segment) → Holds width k row done rest → length done + length rest < 128 →
+      row′ ≡ rowFrom (done ++ s ∷ rest)
+
+-- segment k is gone
+pub record Removes (k : ℕ) (row row′ : List ℕ) : Type 0 where
+  pub removes :
+      (width : ℕ) (done : List Segment) (s : Segment) (rest : List Segment) → Holds width k row done (s ∷ rest) →
+      row′ ≡ rowFrom (done ++ rest)
+
+-- the span meets the segment, which is number k of a row
+pub record Overlaps (k first last : ℕ) (s : Segment) (before after : Bool) : Type 0 where
+  pub place : k < 128
+  pub inside : s .offset + s .count ≤ 256
+  pub starts : first < s .offset + s .count
+  pub ends : s .offset ≤ last
+  pub before-is : before ≡ ltb (s .offset) first
+  pub after-is : after ≡ ltb (suc last) (s .offset + s .count)
+
+-- in the place of segment k stands what the span leaves of it
+pub record Keeps (k first last : ℕ) (row row′ : List ℕ) : Type 0 where
+  pub keeps :
+      (width : ℕ) (done : List Segment) (s : Segment) (rest : List Segment) → Holds width k row done (s ∷ rest) →
+      length done + length (kept first last s ++ rest) ≤ 128 → row′ ≡ rowFrom (done ++ (kept first last s ++ rest))
+
+-- segment k is one that a span can be laid on
+pub record Reached (k first last : ℕ) (row cells : List ℕ) : Type 0 where
+  pub place : k < 128
+  pub span : first ≤ last
+  pub placed : Placed (length cells) 0 (segmentAt row k)
+  pub fits : length cells ≤ 256
+
+-- a span is laid on segment k: `next` is the number of the next segment, and `go` says whether the span may meet it
+pub record Steps (k first last panel : ℕ) (row cells row′ cells′ : List ℕ) (next : ℕ) (go : Bool) : Type 0 where
+  pub row-is : Keeps k first last row row′
+  pub cells-are :
+      cells′ ≡ painted (λ (i : ℕ). within (segmentAt row k) i && inSpan first last i) panel cells
+  pub next-is : next ≡ k + length (keptBefore first (segmentAt row k))
+  pub go-is : go ≡ leb (segmentAt row k .offset + segmentAt row k .count) last

@@ -1,0 +1,125 @@
+// A span of columns is laid on the segments of a row, one after the other.
+use crate::pairs::insert;
+use crate::pairs::pair_at;
+use crate::pairs::remove;
+use crate::pairs::set_pair;
+use crate::positions::Action;
+use crate::positions::action_for;
+ghost use mathlib.Core.Path.{_≡_};
+ghost use mathlib.Core.Bool.{Bool, cond};
+ghost use Prim.Native.Nat.{ℕ, _+_, _≤_, _<_, min, max};
+ghost use lib.ListN.{length};
+ghost use Rattle.rows.specs.Span.{inSpan, painted, Row, Lays};
+ghost use Rattle.model.specs.Row.{rowOf};
+ghost use Rattle.rows.specs.Segments.{segmentAt};
+ghost use Rattle.rows.specs.Step.{Overlaps, Keeps, Reached, Steps};
+
+// The next segment to look at, and whether the span may meet it.
+pub struct Step {
+    pub next: usize,
+    pub go: bool,
+}
+
+fn larger(a: u16, b: u16) -> u16
+    ensures { λ r. ⌜ r ≡ max a b ⌝ }
+{
+    if a < b { b } else { a }
+}
+
+fn smaller(a: u16, b: u16) -> u16
+    ensures { λ r. ⌜ r ≡ min a b ⌝ }
+{
+    if a < b { a } else { b }
+}
+
+fn advanced(k: usize, before: bool) -> usize
+    requires { ⌜ k < 128 ⌝ }
+    ensures { λ r. ⌜ r ≡ cond before (k + 1) k ⌝ }
+{
+    if before {
+        return k + 1;
+    }
+    k
+}
+
+fn paint(cells: &mut [u16], from: u16, to: u16, panel: u16)
+    requires { ⌜ to < length (now cells) ⌝ }
+    ensures { λ r. ⌜ now (cells .exit) ≡ painted (inSpan from to) panel (now (cells .entry)) ⌝ }
+{
+    let end = to as usize + 1;
+    let mut i = from as usize;
+    while i < end {
+        cells[i] = panel;
+        i += 1;
+    }
+}
+
+// What the span leaves of segment k, which it meets. The end is read first: the columns after the span keep it.
+fn keep(row: &mut [u16; 256], k: usize, first: u16, last: u16, a: Action)
+    requires { ⌜ Overlaps k first last (segmentAt (now row) k) (a .before) (a .after) ⌝ }
+    ensures { λ r. ⌜ Keeps k first last (now (row .entry)) (now (row .exit)) ⌝ }
+{
+    let p = pair_at(row, k);
+    let end = p.offset + p.count;
+    if a.before {
+        set_pair(row, k, p.offset, first - p.offset);
+        if a.after {
+            let start = last + 1;
+            insert(row, k + 1, start, end - start);
+        }
+        return;
+    }
+    if a.after {
+        let start = last + 1;
+        set_pair(row, k, start, end - start);
+        return;
+    }
+    remove(row, k);
+}
+
+pub fn lay_on(
+    row: &mut [u16; 256],
+    cells: &mut [u16],
+    k: usize,
+    first: u16,
+    last: u16,
+    panel: u16,
+) -> Step
+    requires { ⌜ Reached k first last (now row) (now cells) ⌝ }
+    ensures { λ r. ⌜ Steps k first last panel (now (row .entry)) (now (cells .entry)) (now (row .exit)) (now (cells .exit)) (r .next) (r .go) ⌝ }
+{
+    let p = pair_at(row, k);
+    let max = p.offset + (p.count - 1);
+    let a = action_for(first, last, p.offset, max);
+    let s = Step {
+        next: advanced(k, a.before),
+        go: a.next,
+    };
+    if a.paint {
+        paint(cells, larger(first, p.offset), smaller(last, max), panel);
+        keep(row, k, first, last, a);
+    }
+    s
+}
+
+// The segments are looked at in order, up to the first that ends at or after the span's end. There are at most 128.
+pub fn sweep(row: &mut [u16; 256], cells: &mut [u16], first: u16, last: u16, panel: u16)
+    requires { ⌜ (first ≤ last) × Row (length (now cells)) (now row) ⌝ }
+    ensures { λ r. ⌜ ((unlit : ℕ → Bool) → now (row .entry) ≡ rowOf (length (now (cells .entry))) unlit → Lays unlit first last panel (now (cells .entry)) (now (row .exit)) (now (cells .exit))) ⌝ }
+{
+    let mut k: usize = 0;
+    let mut looked: usize = 0;
+    while looked < 128 {
+        let p = pair_at(row, k);
+        if p.count == 0 {
+            return;
+        }
+        let s = lay_on(row, cells, k, first, last, panel);
+        if s.go {
+            k = s.next;
+            looked += 1;
+        } else {
+            return;
+        }
+    }
+}

@@ -1,0 +1,56 @@
+// A row of unlit segments: built, painted over by spans of columns, handed out.
+mod laying;
+mod pairs;
+mod positions;
+
+use laying::sweep;
+use pairs::used_part;
+ghost use mathlib.Core.Path.{_≡_};
+ghost use mathlib.Core.Bool.{Bool, true};
+ghost use Prim.Native.Nat.{ℕ};
+ghost use lib.ListN.{length};
+ghost use Rattle.model.specs.Row.{rowOf, usedPart};
+ghost use Rattle.rows.specs.Span.{Row, Lays, Reports};
+
+// What laying a span reports.
+pub struct Laid {
+    // no column of the row is unlit any more
+    pub full: bool,
+}
+
+// A row whose columns are all unlit.
+pub fn fresh(width: u16) -> [u16; 256]
+    ensures { λ r. ⌜ r ≡ rowOf width (λ i. true) ⌝ }
+{
+    let mut row = [0u16; 256];
+    row[1] = width;
+    row
+}
+
+// Lays the span of the columns `first` to `last` on a row, in place, and paints the panel into the columns that were unlit; `cells` is the row's part of the picture.
+// The row must be that of some set of unlit columns, as `fresh` and this function leave it: of other numbers nothing useful could be said.
+pub fn lay(row: &mut [u16; 256], cells: &mut [u16], first: u16, last: u16, panel: u16) -> Laid
+    requires { ⌜ Row (length (now cells)) (now row) ⌝ }
+    ensures laid { λ r. ⌜ ((unlit : ℕ → Bool) → now (row .entry) ≡ rowOf (length (now (cells .entry))) unlit → Lays unlit first last panel (now (cells .entry)) (now (row .exit)) (now (cells .exit))) ⌝ }
+    ensures reported { λ r. ⌜ ((unlit : ℕ → Bool) → now (row .entry) ≡ rowOf (length (now (cells .entry))) unlit → Reports unlit first last (length (now (cells .entry))) (r .full)) ⌝ }
+{
+    if first <= last {
+        sweep(row, cells, first, last, panel);
+        let count = row[1];
+        return Laid { full: count == 0 };
+    }
+    let count = row[1];
+    Laid { full: count == 0 }
+}
+
+// The used pairs of a row of the unlit lists, as that part of them; the empty part where the row is not wholly inside.
+pub fn used_pairs(unlit: &[u16], row: usize) -> &[u16]
+    ensures { λ r. ⌜ now r ≡ usedPart (now (unlit .entry)) row ⌝ }
+{
+    if unlit.len() / 256 <= row {
+        return &unlit[0..0];
+    }
+    let start = 256 * row;
+    let end = start + 256;
+    used_part(&unlit[start..end])
+}

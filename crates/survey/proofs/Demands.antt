@@ -1,0 +1,130 @@
+-- Demands 2 and 3, from the survey's contract alone.
+use mathlib.Core.Path.{_≡_, refl, sym, _∙_, ap, subst}
+use mathlib.Core.Bool.{Bool, _&&_}
+use mathlib.Core.Logic.{_↔_}
+use mathlib.Core.List.{List, sum, List·Memᴰ, map, flatten}
+use Prim.Native.Nat.{ℕ, _+_, _*_, _≤_, _<_}
+use native.Mathlib.Nat.{zero-add, mul-comm}
+use lib.Dec.{T, eqb, leb, leb→le}
+use lib.ListN.{length, getD, take, drop, length-map}
+use Rattle.model.specs.Lists.{every, range, occurrences}
+use Rattle.model.specs.Vector.{Vec}
+use Rattle.model.specs.Patch.{Patch}
+use Rattle.model.specs.Ray.{IsClosest, closest}
+use Rattle.model.specs.Window.{Window, direction}
+use Rattle.model.specs.Format.{Scene, PatchRecord, decode, patchTable, patchOf, highestPanel}
+use Rattle.model.specs.Row.{rowOf, rowLength}
+use Rattle.model.specs.Picture.{picture, counts, countEntries, unlitLists, cellPanel}
+use Rattle.model.specs.Questions.{surveyAnswer, within, panelsInRange, panelsNeverFall, panelsProper}
+use Rattle.model.specs.Survey.{callPicture, callCounts, callUnlit, callCounter}
+use Rattle.model.specs.Removal.{isChosen, kept, TakenAway}
+use Rattle.model.proofs.Tests.{both, every-true}
+use Rattle.model.proofs.Ranges.{of-map, range-length, rows-part, rows-length}
+use Rattle.model.proofs.Answers.{AcceptedCall, accepted-call}
+use Rattle.model.proofs.Closest.{closest-right}
+use Rattle.model.proofs.Counts.{counts-at}
+use Rattle.model.proofs.Pictures.{picture-length, picture-at, picture-total}
+use Rattle.model.proofs.Removal.{pictures-counts, cell-differs, cell-shows}
+use Rattle.rows.proofs.Rows.{row-length, row-congr}
+use Rattle.survey.proofs.PanelNumbers.{panel-bounded}
+use Rattle.survey.specs.Contract.{Lent, callOn, results, leftBy, Surveyed}
+use Rattle.survey.specs.Demands.{patchesIn, cell, ClosestPanels, ChosenTakenAway, DemandThree}
+
+-- an accepted call leaves the results
+pub accepted-leaves :
+    {bytes : List ℕ} {eye : Vec} {w : Window} {before after : Lent} {result : ℕ} →
+    Surveyed bytes eye w before after result →
+    result ≡ 0 →
+    after ≡ results (callOn bytes eye w before)
+accepted-leaves {bytes} {eye} {w} {before} h e =
+    h .left
+    ∙ ap (λ (n : ℕ). leftBy n (results (callOn bytes eye w before)) before) (sym (h .answered) ∙ e)
+
+module _ (bytes : List ℕ) (eye : Vec) (w : Window) (before : Lent) (accepted : AcceptedCall (callOn bytes eye w before)) where
+  abbrev cellRow : ℕ → List ℕ
+  cellRow j = rowOf (w .width) (λ (i : ℕ). eqb (closest eye (direction w i j) (patchesIn bytes)) 0)
+
+  unlit-row :
+      (j : ℕ) → j < w .height →
+      take rowLength (drop (j * rowLength) (callUnlit (callOn bytes eye w before)))
+      ≡ rowOf (w .width) (λ (i : ℕ). eqb (cell w (callPicture (callOn bytes eye w before)) i j) 0)
+  unfolding callUnlit unlitLists callPicture
+  unlit-row j h =
+      rows-part rowLength cellRow (λ k. row-length (w .width) _) 0 (w .height) j h
+      ∙ ap cellRow (zero-add j)
+      ∙ row-congr (w .width) _ _
+      (λ i k. ap (λ (n : ℕ). eqb n 0) (sym (picture-at eye (w .width) (w .height) (direction w) (patchesIn bytes) i j k h)))
+
+  results-closest : ClosestPanels bytes eye w (results (callOn bytes eye w before))
+  unfolding callPicture callCounts callUnlit unlitLists counts
+  results-closest =
+      record {
+        cells =
+            λ i j h k.
+            subst (IsClosest eye (direction w i j) (patchesIn bytes))
+            (sym (picture-at eye (w .width) (w .height) (direction w) (patchesIn bytes) i j h k))
+            (closest-right eye (direction w i j) (patchesIn bytes));
+        whole = picture-length eye (w .width) (w .height) (direction w) (patchesIn bytes);
+        counted = λ n h. counts-at (callPicture (callOn bytes eye w before)) n h;
+        entries =
+            length-map (range 0 countEntries) (λ (n : ℕ). occurrences n (callPicture (callOn bytes eye w before)))
+            ∙ range-length 0 countEntries;
+        summed = picture-total eye (w .width) (w .height) (direction w) (patchesIn bytes)
+            (panel-bounded (decode bytes) (accepted .scene .panels));
+        rows = unlit-row;
+        rowCount = rows-length rowLength cellRow (λ k. row-length (w .width) _) 0 (w .height) ∙ mul-comm rowLength (w .height);
+      }
+
+module _
+    (firstBytes secondBytes : List ℕ)
+    (eye : Vec)
+    (w : Window)
+    (before₁ before₂ : Lent)
+    (chosen : ℕ → Bool)
+    (taken : TakenAway chosen (patchesIn firstBytes) (patchesIn secondBytes))
+  where
+    taken-away :
+        ChosenTakenAway firstBytes chosen eye w (results (callOn firstBytes eye w before₁))
+        (results (callOn secondBytes eye w before₂))
+    unfolding callPicture callCounts
+    taken-away =
+        let first = patchesIn firstBytes in
+        let second = patchesIn secondBytes in
+        let same = pictures-counts chosen first second taken eye (w .width) (w .height) (direction w) in
+        let at = picture-at eye (w .width) (w .height) (direction w) first in
+        record {
+          equal = (λ e. same .0 (sym e), λ f. sym (same .1 f));
+          closest =
+              λ i j h k.
+              subst (IsClosest eye (direction w i j) first) (sym (at i j h k)) (closest-right eye (direction w i j) first);
+          differ =
+              λ i j h k.
+              let c = cell-differs chosen first second taken eye (w .width) (w .height) (direction w) i j h k in
+              (λ f. c .0 (λ e. f (sym e)), λ t e. c .1 t (sym e));
+          shown =
+              λ i j h k t.
+              subst (IsClosest eye (direction w i j) (kept chosen first))
+              (sym (cell-shows chosen first second taken eye (w .width) (w .height) (direction w) i j h k))
+              (closest-right eye (direction w i j) (kept chosen first));
+        }
+
+-- Demand 2.
+pub closest-panels :
+    {bytes : List ℕ} {eye : Vec} {w : Window} {before after : Lent} {result : ℕ} →
+    Surveyed bytes eye w before after result →
+    result ≡ 0 →
+    ClosestPanels bytes eye w after
+closest-panels {bytes} {eye} {w} {before} h e =
+    subst (ClosestPanels bytes eye w) (sym (accepted-leaves h e))
+    (results-closest bytes eye w before (accepted-call (callOn bytes eye w before) .0 (sym (h .answered) ∙ e)))
+
+-- Demand 3.
+pub chosen-panels-taken-away :
+    {firstBytes secondBytes : List ℕ} {eye : Vec} {w : Window} {before₁ after₁ before₂ after₂ : Lent} {result₁ result₂ : ℕ} →
+    Surveyed firstBytes eye w before₁ after₁ result₁ →
+    Surveyed secondBytes eye w before₂ after₂ result₂ →
+    DemandThree firstBytes secondBytes eye w after₁ after₂ result₁ result₂
+chosen-panels-taken-away {firstBytes} {secondBytes} {eye} {w} {before₁} {after₁} {before₂} {after₂} h k chosen e f taken =
+    subst (λ (l : Lent). ChosenTakenAway firstBytes chosen eye w l after₂) (sym (accepted-leaves h e))
+    (subst (λ (l : Lent). ChosenTakenAway firstBytes chosen eye w (results (callOn firstBytes eye w before₁)) l) (sym (accepted-leaves k f))
+    (taken-away firstBytes secondBytes eye w before₁ before₂ chosen taken))

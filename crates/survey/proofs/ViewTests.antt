@@ -1,0 +1,52 @@
+-- Questions 10 and 11, answered test by test.
+use mathlib.Core.Path.{_≡_, sym, _∙_}
+use mathlib.Core.Bool.{Bool, true, false, _&&_, and-false}
+use Prim.Native.Nat.{ℕ, _*_, _≤_, _<_}
+use native.Mathlib.Nat.{mul-le-mul}
+use native.Mathlib.Omega.{arith}
+use lib.Dec.{eqb, leb}
+use mir.Syntax.{w16, w64}
+use mir.Val.{Fits}
+use borrow.Author.Tests.{le-leb, lt-leb, eq-eqb, ne-eqb}
+use Rattle.model.specs.Row.{rowLength}
+use Rattle.model.specs.Picture.{countEntries}
+use Rattle.model.specs.Questions.{within}
+
+module _ (low n high : ℕ) where
+  pub too-low : n < low → false ≡ within low high n
+  too-low h = simp (lt-leb low n h)
+
+  pub low-enough : low ≤ n → leb n high ≡ within low high n
+  low-enough h = simp (le-leb low n h)
+
+-- three tests, the answers of functions: one that fails, and the last, which decides
+module _ (a b c r : Bool) (first : r ≡ a) where
+  pub first-fails : r ≡ false → false ≡ (a && b && c)
+  first-fails f = simp (← first, f)
+
+  module _ (s : Bool) (second : s ≡ b) where
+    pub second-fails : s ≡ false → false ≡ (a && b && c)
+    second-fails f = simp (← second, f, and-false)
+
+    pub third-decides : (t : Bool) → t ≡ c → r ≡ true → s ≡ true → t ≡ (a && b && c)
+    third-decides t third e f = simp (← first, ← second, ← third, e, f)
+
+module _ (area height picture counts unlit : ℕ) where
+  abbrev fit : Bool
+  fit = eqb picture area && eqb counts countEntries && eqb unlit (height * rowLength)
+
+  pub picture-differs : (n : ℕ) → n ≡ area → (picture ≡ n → ⊥) → false ≡ fit
+  picture-differs n e f = simp (ne-eqb picture area (λ p. f (p ∙ sym e)))
+
+  pub counts-differ : (counts ≡ 1025 → ⊥) → false ≡ fit
+  counts-differ f = simp (ne-eqb counts 1025 f, and-false)
+
+  pub unlit-decides : (n : ℕ) → n ≡ area → picture ≡ n → counts ≡ 1025 → eqb unlit (height * 256) ≡ fit
+  unlit-decides n e p q = simp (eq-eqb picture area (p ∙ e), eq-eqb counts 1025 q)
+
+-- the product of two numbers of 16 bits has room in 64
+pub area-fits : {a b : ℕ} → Fits w16 a → Fits w16 b → Fits w64 (a * b)
+area-fits {a} {b} f g =
+    let h : a ≤ 65535 = omega (arith, f .fits) in
+    let k : b ≤ 65535 = omega (arith, g .fits) in
+    record { fits = omega (arith, mul-le-mul h k) }

@@ -1,0 +1,47 @@
+-- What the survey call promises, for every input.
+use mathlib.Core.Path.{_≡_}
+use mathlib.Core.List.{List}
+use Prim.Native.Nat.{ℕ, zero, suc}
+use lib.ListN.{length}
+use Rattle.model.specs.Vector.{Vec}
+use Rattle.model.specs.Window.{Window}
+use Rattle.model.specs.Call.{Call}
+use Rattle.model.specs.Questions.{surveyAnswer}
+use Rattle.model.specs.Survey.{callPicture, callCounts, callUnlit, callCounter}
+
+-- what the lent buffers and the station counter hold
+pub record Lent : Type 0 where
+  pub picture : List ℕ
+  pub counts : List ℕ
+  pub unlit : List ℕ
+  pub counter : ℕ
+
+-- the call on a scene from an eye through a window, with these buffers lent
+abbrev pub callOn : List ℕ → Vec → Window → Lent → Call
+callOn bytes e w lent =
+    record {
+      scene = bytes;
+      eye = e;
+      window = w;
+      pictureLength = length (lent .picture);
+      countsLength = length (lent .counts);
+      unlitLength = length (lent .unlit);
+      counter = lent .counter;
+    }
+
+-- what an accepted call leaves
+abbrev pub results : Call → Lent
+results c =
+    record { picture = callPicture c; counts = callCounts c; unlit = callUnlit c; counter = callCounter c }
+
+-- the results where the answer is 0, and what was there before where it is a refusal: "nothing lent is altered"
+abbrev pub leftBy : ℕ → Lent → Lent → Lent
+leftBy zero new old = new
+leftBy (suc n) new old = old
+
+-- The survey call: its result is the answer, and it leaves the results or, refusing, what it was lent.
+pub record Surveyed (bytes : List ℕ) (eye : Vec) (window : Window) (before after : Lent) (result : ℕ) : Type 0 where
+  pub answered : result ≡ surveyAnswer (callOn bytes eye window before)
+  pub left :
+      after
+      ≡ leftBy (surveyAnswer (callOn bytes eye window before)) (results (callOn bytes eye window before)) before

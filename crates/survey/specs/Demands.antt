@@ -1,0 +1,67 @@
+-- Demands 2 and 3 as statements about calls.
+use mathlib.Core.Path.{_≡_}
+use mathlib.Core.Bool.{Bool}
+use mathlib.Core.Logic.{_↔_}
+use mathlib.Core.List.{List, sum}
+use Prim.Native.Nat.{ℕ, _+_, _*_, _<_}
+use lib.Dec.{T, eqb}
+use lib.ListN.{length, getD, take, drop}
+use Rattle.model.specs.Lists.{occurrences}
+use Rattle.model.specs.Vector.{Vec}
+use Rattle.model.specs.Patch.{Patch}
+use Rattle.model.specs.Ray.{IsClosest}
+use Rattle.model.specs.Window.{Window, direction}
+use Rattle.model.specs.Format.{decode, patchTable}
+use Rattle.model.specs.Row.{rowOf, rowLength}
+use Rattle.model.specs.Picture.{countEntries}
+use Rattle.model.specs.Removal.{isChosen, kept, TakenAway}
+use Rattle.survey.specs.Contract.{Lent, Surveyed}
+
+-- the patches of a scene
+abbrev pub patchesIn : List ℕ → List Patch
+patchesIn bytes = patchTable (decode bytes)
+
+-- cell (i, j) of a picture
+abbrev pub cell : Window → List ℕ → ℕ → ℕ → ℕ
+cell w picture i j = getD picture (j * w .width + i) 0
+
+-- Demand 2, of an accepted call: "Each cell of an accepted scene's picture holds .. the polygon closest to the eye along that cell's sight line"; "each count is
+-- the number of such cells"; the counts "add up to width × height"; the unlit lists are the rows of the cells that hold 0.
+pub record ClosestPanels (bytes : List ℕ) (eye : Vec) (w : Window) (after : Lent) : Type 0 where
+  pub cells :
+      (i j : ℕ) → i < w .width → j < w .height →
+      IsClosest eye (direction w i j) (patchesIn bytes) (cell w (after .picture) i j)
+  pub whole : length (after .picture) ≡ w .width * w .height
+  pub counted : (n : ℕ) → n < countEntries → getD (after .counts) n 0 ≡ occurrences n (after .picture)
+  pub entries : length (after .counts) ≡ countEntries
+  pub summed : sum _+_ 0 (after .counts) ≡ w .width * w .height
+  pub rows :
+      (j : ℕ) → j < w .height →
+      take rowLength (drop (j * rowLength) (after .unlit))
+      ≡ rowOf (w .width) (λ (i : ℕ). eqb (cell w (after .picture) i j) 0)
+  pub rowCount : length (after .unlit) ≡ w .height * rowLength
+
+-- Demand 3, of two accepted calls from one station and window, on a scene and on one that "has just the first's patches less all those of the chosen panels":
+-- "The two pictures are equal, cell by cell, exactly when every chosen panel's count, from the call on the first scene, is zero. Equal or not, each cell of the
+-- first holds its closest panel .., or 0; the pictures differ in exactly the cells where the first shows a chosen panel, and in each of these the second shows
+-- the closest of the panels kept, or 0."
+pub record ChosenTakenAway (bytes : List ℕ) (chosen : ℕ → Bool) (eye : Vec) (w : Window) (first second : Lent) : Type 0 where
+  pub equal :
+      (first .picture ≡ second .picture) ↔ ((n : ℕ) → T (isChosen chosen n) → getD (first .counts) n 0 ≡ 0)
+  pub closest :
+      (i j : ℕ) → i < w .width → j < w .height →
+      IsClosest eye (direction w i j) (patchesIn bytes) (cell w (first .picture) i j)
+  pub differ :
+      (i j : ℕ) → i < w .width → j < w .height →
+      (¬ (cell w (first .picture) i j ≡ cell w (second .picture) i j)) ↔ T (isChosen chosen (cell w (first .picture) i j))
+  pub shown :
+      (i j : ℕ) → i < w .width → j < w .height → T (isChosen chosen (cell w (first .picture) i j)) →
+      IsClosest eye (direction w i j) (kept chosen (patchesIn bytes)) (cell w (second .picture) i j)
+
+-- The whole of demand 3: whatever the two calls were lent, and whatever their trees.
+abbrev pub DemandThree :
+    (firstBytes secondBytes : List ℕ) (eye : Vec) (w : Window) (first second : Lent) (firstResult secondResult : ℕ) → Type 0
+DemandThree firstBytes secondBytes eye w first second firstResult secondResult =
+    (chosen : ℕ → Bool) → firstResult ≡ 0 → secondResult ≡ 0 →
+    TakenAway chosen (patchesIn firstBytes) (patchesIn secondBytes) →
+    ChosenTakenAway firstBytes chosen eye w first second

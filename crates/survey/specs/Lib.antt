@@ -1,0 +1,5 @@
+-- The contracts of the exported calls, and the statements of demands 2 and 3.
+pub mod Painting
+pub mod EdgeVectors
+pub mod Contract
+pub mod Demands

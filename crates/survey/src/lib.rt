@@ -1,0 +1,3 @@
+// The survey call.
+mod edges;
+pub mod view;

@@ -1,0 +1,105 @@
+-- What the tests say of each node record and each patch of the table holds of each node and each patch of the tree.
+use mathlib.Core.Path.{_≡_, refl, sym, ap, subst, _∙_}
+use mathlib.Core.Bool.{_&&_}
+use mathlib.Core.List.{List, [], _∷_, map, map-map, List·Memᴰ, Memᴰ·append-left, Memᴰ·append-right}
+use Prim.Native.Nat.{ℕ, zero, suc, _<_}
+use native.Mathlib.Omega.{arith}
+use native.Mathlib.Decide.{decLt}
+use lib.Dec.{T}
+use lib.ListN.{length, take, drop, length-map, take-append-drop}
+use Rattle.model.specs.Lists.{every}
+use Rattle.model.specs.Vector.{Plane}
+use Rattle.model.specs.Patch.{Patch, cornersCounted, flat, strictlyConvex}
+use Rattle.model.specs.Tree.{Tree, leaf, node, mapTree}
+use Rattle.model.specs.Format.{Run, NodeRecord, PatchRecord, Scene, inRun, patchOf, patchTable, patchNumbered, numberTree, patchTree}
+use Rattle.model.specs.Questions.{offOneLine, planesProper, runsFollow, patchRunsFollow, cornerRunsFollow, neverFalling, panelsNeverFall, patchesProper}
+use Rattle.model.proofs.Tests.{both, every-true}
+use Rattle.model.proofs.Ranges.{getD-member}
+use Rattle.walk.proofs.Counting.{by-number}
+use Rattle.walk.proofs.Rooted.{nodeNumbered}
+use Rattle.walk.proofs.Subtrees.{treeOf, run, treeAt-is, tree-node, tree-leaf}
+use Rattle.walk.proofs.Runs.{follows}
+
+-- ---- the part of a list that a run names
+
+pub part-map : {A B : Type 0} (f : A → B) (r : Run) (l : List A) → inRun r (map f l) ≡ map f (inRun r l)
+part-map {A} {B} f r l = ap (take (r .count)) (drop-map (r .first) l) ∙ take-map (r .count) (drop (r .first) l)
+  where
+    take-map : (n : ℕ) (l : List A) → take n (map f l) ≡ map f (take n l)
+    take-map zero l = refl
+    take-map (suc n) [] = refl
+    take-map (suc n) (a ∷ l) = ap (_∷_ (f a)) (take-map n l)
+
+    drop-map : (n : ℕ) (l : List A) → drop n (map f l) ≡ map f (drop n l)
+    drop-map zero l = refl
+    drop-map (suc n) [] = refl
+    drop-map (suc n) (a ∷ l) = drop-map n l
+
+pub part-member : {A : Type 0} {a : A} (r : Run) (l : List A) → List·Memᴰ a (inRun r l) → List·Memᴰ a l
+part-member {a} r l m =
+    subst (List·Memᴰ a) (take-append-drop (r .first) l)
+    (Memᴰ·append-right (take (r .first) l) (subst (List·Memᴰ a) (take-append-drop (r .count) (drop (r .first) l)) (Memᴰ·append-left (drop (r .count) (drop (r .first) l)) m)))
+
+-- ---- nodes
+
+-- what holds of the plane and the own list of every node of a tree
+abbrev pub EveryNode : {A : Type 0} → (Plane → List A → Type 0) → Tree A → Type 0
+EveryNode P leaf = Unit {0}
+EveryNode P (node s own front back) = P s own × EveryNode P front × EveryNode P back
+
+module _ (s : Scene) (runs : T (patchRunsFollow s)) where
+  -- a node of the tree has the patches of its record's run
+  run-patches : (n : NodeRecord) → List·Memᴰ n (s .nodes) → map (patchNumbered s) (run 0 n) ≡ inRun (n .patchRun) (patchTable s)
+  unfolding patchNumbered patchTable patchRunsFollow
+  run-patches n m =
+      by-number (patchTable s) _ (n .patchRun .first) (n .patchRun .count)
+      (rw (length-map (s .patches) (patchOf (s .corners))) (follows (λ (n : NodeRecord). n .patchRun) (length (s .patches)) 0 (s .nodes) runs .inside n m))
+
+  module _ (P : Plane → List Patch → Type 0) (each : (n : NodeRecord) → List·Memᴰ n (s .nodes) → P (n .plane) (inRun (n .patchRun) (patchTable s))) where
+    In : Tree ℕ → Type 0
+    In t = EveryNode P (mapTree (patchNumbered s) t)
+
+    below : (depth k : ℕ) → In (treeOf run depth (s .nodes) k)
+    unfolding In mapTree treeOf
+    below zero k = tt
+    below (suc depth) k = go (decLt k (length (s .nodes))) (below depth (n .positive)) (below depth (n .negative))
+      where
+        n : NodeRecord
+        n = nodeNumbered (s .nodes) k
+
+        go : Dec (k < length (s .nodes))
+            → In (treeOf run depth (s .nodes) (n .positive)) → In (treeOf run depth (s .nodes) (n .negative))
+            → In (treeOf run (suc depth) (s .nodes) k)
+        go (yes h) front back =
+            let m : List·Memᴰ n (s .nodes) = getD-member (s .nodes) k _ h in
+            subst In (sym (tree-node run (s .nodes) depth k h)) (rw (run-patches n m) (each n m), front, back)
+        go (no h) front back = subst In (sym (tree-leaf run (s .nodes) (suc depth) k (omega arith))) tt
+
+    pub carried : EveryNode P (patchTree s)
+    unfolding patchTree numberTree In
+    carried = rw treeAt-is (below (length (s .nodes)) 0)
+
+-- ---- the tests
+
+-- question 4
+pub plane-proper : (s : Scene) → T (planesProper s) → (n : NodeRecord) → List·Memᴰ n (s .nodes) → T (offOneLine (n .plane))
+unfolding planesProper
+plane-proper s t = every-true (λ (n : NodeRecord). offOneLine (n .plane)) (s .nodes) .0 t
+
+-- question 7
+pub panels-rise : (s : Scene) → T (panelsNeverFall s) → (n : NodeRecord) → List·Memᴰ n (s .nodes) → T (neverFalling (map (λ (p : Patch). p .panel) (inRun (n .patchRun) (patchTable s))))
+unfolding panelsNeverFall patchTable patchOf
+panels-rise s t n m =
+    rw (part-map (patchOf (s .corners)) (n .patchRun) (s .patches), map-map)
+    (every-true (λ (n : NodeRecord). neverFalling (map (λ (p : PatchRecord). p .panel) (inRun (n .patchRun) (s .patches)))) (s .nodes) .0 t n m)
+
+-- questions 6 and 8
+pub corners-counted : (s : Scene) → T (cornerRunsFollow s) → (p : Patch) → List·Memᴰ p (patchTable s) → T (cornersCounted p)
+unfolding cornerRunsFollow
+corners-counted s t =
+    every-true cornersCounted (patchTable s) .0
+    (both (runsFollow 0 (length (s .corners)) (map (λ (p : PatchRecord). p .cornerRun) (s .patches))) (every cornersCounted (patchTable s)) .0 t .1)
+
+pub patch-proper : (s : Scene) → T (patchesProper s) → (p : Patch) → List·Memᴰ p (patchTable s) → T (flat p) × T (strictlyConvex p)
+unfolding patchesProper
+patch-proper s t p m = both (flat p) (strictlyConvex p) .0 (every-true (λ (p : Patch). flat p && strictlyConvex p) (patchTable s) .0 t p m)

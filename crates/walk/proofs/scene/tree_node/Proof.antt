@@ -1,0 +1,16 @@
+-- `walk::scene::tree_node` meets its contract.
+use borrow.Author.Needs.{needs}
+use Rattle.walk.proofs.SceneNodes.{node-is}
+use Rattle.walk.proofs.scene.tree_node.Statement.{statement}
+use Rattle.walk.proofs.scene.tree_node.Tie as tie
+
+node-requires : tie.Need-node-requires
+node-requires c κs = search needs
+
+returns : tie.Need-returns
+returns c =
+    let s = c .before .before in
+    node-is _ (s .args .l) (s .pre .0) (s .args .k) (s .pre .1) _ (c .node .ensures)
+
+pub tree-node-spec : {M : Type 1} → statement M
+tree-node-spec = tie.close (tie.spec node-requires returns)

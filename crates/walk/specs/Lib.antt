@@ -1,0 +1,5 @@
+-- What the crate's contracts cite.
+pub mod Written
+pub mod Walked
+pub mod Near
+pub mod Division

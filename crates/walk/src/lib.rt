@@ -1,0 +1,4 @@
+// The tree of planes: its walk front to back, and question 9.
+pub mod division;
+pub mod order;
+pub mod scene;
