@@ -5,5 +5,5 @@ pub mod Decoded
 mod TwosComplement
 mod Made
 mod HeaderTests
-mod Sections
+pub mod Sections
 mod Places

@@ -64,7 +64,7 @@ pub record AcceptedScene (bytes : List ℕ) : Type 0 where
 numbered : {n : ℕ} → suc n ≢ 0
 numbered e = omega arith
 
-answer-done : {A : Type 0} (a : A) → answer [] a ≡ 0
+pub answer-done : {A : Type 0} (a : A) → answer [] a ≡ 0
 unfolding answer
 answer-done a = refl
 

@@ -9,6 +9,7 @@ pub mod Refusals
 -- tests over lists
 pub mod Tests
 pub mod Answers
+pub mod FirstNo
 -- the geometry of met patches
 pub mod Vectors
 pub mod Rounds

@@ -30,9 +30,9 @@ unfolding contents
 every-leaf test bytes k e = sym (ap (λ (t : Tree ℕ). every test (map (patchNumbered (decode bytes)) (contents t))) e)
 
 pub every-node :
-    (test : Patch → Bool) {bytes : List ℕ} {l : Layout} {k : ℕ} {n : Node}
-    → NodeIs bytes l k n
-    → AllOf (every test (patchesBelow bytes k)) (every test (map (patchNumbered (decode bytes)) (range (n .patches .first) (n .patches .count))))
+    (test : Patch → Bool) {bytes : List ℕ} {l : Layout} {k : ℕ} {n : Node} →
+    NodeIs bytes l k n →
+    AllOf (every test (patchesBelow bytes k)) (every test (map (patchNumbered (decode bytes)) (range (n .patches .first) (n .patches .count))))
     (every test (patchesBelow bytes (n .positive))) (every test (patchesBelow bytes (n .negative)))
 unfolding contents
 every-node test {bytes} {k} {n} is = record { split = whole }
@@ -60,9 +60,9 @@ every-node test {bytes} {k} {n} is = record { split = whole }
 -- ---- question 9
 
 pub node-divides :
-    (bytes : List ℕ) (n : Node) {r : Plane}
-    → PlaneIs (planeOf (n .a) (n .b) (n .c)) r
-    → AllOf (nodeDivides bytes n)
+    (bytes : List ℕ) (n : Node) {r : Plane} →
+    PlaneIs (planeOf (n .a) (n .b) (n .c)) r →
+    AllOf (nodeDivides bytes n)
     (every (held r (record { negative = false; positive = false })) (map (patchNumbered (decode bytes)) (range (n .patches .first) (n .patches .count))))
     (every (held r (record { negative = false; positive = true })) (patchesBelow bytes (n .positive)))
     (every (held r (record { negative = true; positive = false })) (patchesBelow bytes (n .negative)))
@@ -84,15 +84,22 @@ unfolding mapTree divides
 divides-leaf bytes k e = sym (ap (λ (t : Tree ℕ). divides (mapTree (patchNumbered (decode bytes)) t)) e)
 
 pub divides-node :
-    {bytes : List ℕ} {l : Layout} {k : ℕ} {n : Node}
-    → NodeIs bytes l k n
-    → AllOf (divides (patchTreeBelow bytes k)) (nodeDivides bytes n) (divides (patchTreeBelow bytes (n .positive))) (divides (patchTreeBelow bytes (n .negative)))
+    {bytes : List ℕ} {l : Layout} {k : ℕ} {n : Node} →
+    NodeIs bytes l k n →
+    AllOf (divides (patchTreeBelow bytes k)) (nodeDivides bytes n) (divides (patchTreeBelow bytes (n .positive)))
+    (divides (patchTreeBelow bytes (n .negative)))
 unfolding mapTree divides nodeDivides
 divides-node {bytes} {n} is =
     record {
       split =
           ap (λ (t : Tree ℕ). divides (mapTree f t)) (is .tree)
-          ∙ ap₂ (λ (front back : List Patch). every (liesOn s) (map f (range (n .patches .first) (n .patches .count))) && every (inFront s) front && every (inFront (turnedOver s)) back && divides (patchTreeBelow bytes (n .positive)) && divides (patchTreeBelow bytes (n .negative)))
+          ∙ ap₂
+          (λ (front back : List Patch).
+          every (liesOn s) (map f (range (n .patches .first) (n .patches .count)))
+          && every (inFront s) front
+          && every (inFront (turnedOver s)) back
+          && divides (patchTreeBelow bytes (n .positive))
+          && divides (patchTreeBelow bytes (n .negative)))
           (contents-map f (treeBelow bytes (n .positive))) (contents-map f (treeBelow bytes (n .negative)));
     }
   where

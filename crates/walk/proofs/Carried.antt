@@ -38,7 +38,9 @@ part-map {A} {B} f r l = ap (take (r .count)) (drop-map (r .first) l) ∙ take-m
 pub part-member : {A : Type 0} {a : A} (r : Run) (l : List A) → List·Memᴰ a (inRun r l) → List·Memᴰ a l
 part-member {a} r l m =
     subst (List·Memᴰ a) (take-append-drop (r .first) l)
-    (Memᴰ·append-right (take (r .first) l) (subst (List·Memᴰ a) (take-append-drop (r .count) (drop (r .first) l)) (Memᴰ·append-left (drop (r .count) (drop (r .first) l)) m)))
+    (Memᴰ·append-right (take (r .first) l)
+    (subst (List·Memᴰ a) (take-append-drop (r .count) (drop (r .first) l))
+    (Memᴰ·append-left (drop (r .count) (drop (r .first) l)) m)))
 
 -- ---- nodes
 
@@ -67,9 +69,9 @@ module _ (s : Scene) (runs : T (patchRunsFollow s)) where
         n : NodeRecord
         n = nodeNumbered (s .nodes) k
 
-        go : Dec (k < length (s .nodes))
-            → In (treeOf run depth (s .nodes) (n .positive)) → In (treeOf run depth (s .nodes) (n .negative))
-            → In (treeOf run (suc depth) (s .nodes) k)
+        go : Dec (k < length (s .nodes)) →
+            In (treeOf run depth (s .nodes) (n .positive)) → In (treeOf run depth (s .nodes) (n .negative)) →
+            In (treeOf run (suc depth) (s .nodes) k)
         go (yes h) front back =
             let m : List·Memᴰ n (s .nodes) = getD-member (s .nodes) k _ h in
             subst In (sym (tree-node run (s .nodes) depth k h)) (rw (run-patches n m) (each n m), front, back)
@@ -87,7 +89,12 @@ unfolding planesProper
 plane-proper s t = every-true (λ (n : NodeRecord). offOneLine (n .plane)) (s .nodes) .0 t
 
 -- question 7
-pub panels-rise : (s : Scene) → T (panelsNeverFall s) → (n : NodeRecord) → List·Memᴰ n (s .nodes) → T (neverFalling (map (λ (p : Patch). p .panel) (inRun (n .patchRun) (patchTable s))))
+pub panels-rise :
+    (s : Scene) →
+    T (panelsNeverFall s) →
+    (n : NodeRecord) →
+    List·Memᴰ n (s .nodes) →
+    T (neverFalling (map (λ (p : Patch). p .panel) (inRun (n .patchRun) (patchTable s))))
 unfolding panelsNeverFall patchTable patchOf
 panels-rise s t n m =
     rw (part-map (patchOf (s .corners)) (n .patchRun) (s .patches), map-map)

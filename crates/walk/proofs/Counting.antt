@@ -53,15 +53,18 @@ module _ (f : ℕ → ℕ) (c : ℕ) where
   picked a zero h z = sym (z (omega arith))
   picked a (suc n) h z = go (eq-or-lt-of-le h) (λ l. picked (suc a) n l (λ k. z (omega arith)))
     where
-      go : (a ≡ c) ⊎ (a < c) → (a < c → total (λ (j : ℕ). only (eqb c j) (f j)) (range (suc a) n) ≡ f c) → only (eqb c a) (f a) + total (λ (j : ℕ). only (eqb c j) (f j)) (range (suc a) n) ≡ f c
+      go :
+          (a ≡ c) ⊎ (a < c) →
+          (a < c → total (λ (j : ℕ). only (eqb c j) (f j)) (range (suc a) n) ≡ f c) →
+          only (eqb c a) (f a) + total (λ (j : ℕ). only (eqb c j) (f j)) (range (suc a) n) ≡ f c
       go (inl e) rest = rw (eq-eqb c a (sym e), missed (suc a) n (omega arith), add-zero) (ap f e)
       go (inr l) rest = rw (ne-eqb c a (omega arith), rest l, zero-add)
 
 pub each-once :
-    (f : ℕ → ℕ) (l : List ℕ) (a n : ℕ)
-    → ((c : ℕ) → List·Memᴰ c l → (a ≤ c) × (a + n ≤ c → f c ≡ 0))
-    → ((j : ℕ) → a ≤ j → j < a + n → occurrences j l ≡ 1)
-    → total f l ≡ total f (range a n)
+    (f : ℕ → ℕ) (l : List ℕ) (a n : ℕ) →
+    ((c : ℕ) → List·Memᴰ c l → (a ≤ c) × (a + n ≤ c → f c ≡ 0)) →
+    ((j : ℕ) → a ≤ j → j < a + n → occurrences j l ≡ 1) →
+    total f l ≡ total f (range a n)
 each-once f l a n inside once =
     total-cong f (λ (c : ℕ). total (λ (j : ℕ). only (eqb c j) (f j)) (range a n)) l
     (λ c m. sym (picked f c a n (inside c m .0) (inside c m .1)))

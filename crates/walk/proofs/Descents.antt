@@ -32,27 +32,41 @@ use Rattle.walk.proofs.Writes.{none-written, written-more}
 pub record Descent (bytes : List ℕ) (k : ℕ) (eye : Vec) (first count : ℕ) (c : Children) : Type 0 where
   pub near-above : k < c .near
   pub far-above : k < c .far
-  pub order-is : order eye (treeBelow bytes k) ≡ order eye (treeBelow bytes (c .near)) ++ (range first count ++ order eye (treeBelow bytes (c .far)))
-  pub size : length (order eye (treeBelow bytes k)) ≡ length (order eye (treeBelow bytes (c .near))) + (count + length (order eye (treeBelow bytes (c .far))))
+  pub order-is :
+      order eye (treeBelow bytes k) ≡
+      order eye (treeBelow bytes (c .near)) ++ (range first count ++ order eye (treeBelow bytes (c .far)))
+  pub size :
+      length (order eye (treeBelow bytes k)) ≡
+      length (order eye (treeBelow bytes (c .near))) + (count + length (order eye (treeBelow bytes (c .far))))
 
 either-child : (b : Bool) (k m n : ℕ) → k < m → k < n → k < cond b m n
 either-child true k m n h h′ = h
 either-child false k m n h h′ = h′
 
 pub descent :
-    {bytes : List ℕ} {l : Layout} {k : ℕ} {n : Node} {eye : Vec} {c : Children}
-    → NodeIs bytes l k n → NearFirst (planeOf (n .a) (n .b) (n .c)) eye (n .positive) (n .negative) c
-    → Descent bytes k eye (n .patches .first) (n .patches .count) c
+    {bytes : List ℕ} {l : Layout} {k : ℕ} {n : Node} {eye : Vec} {c : Children} →
+    NodeIs bytes l k n → NearFirst (planeOf (n .a) (n .b) (n .c)) eye (n .positive) (n .negative) c →
+    Descent bytes k eye (n .patches .first) (n .patches .count) c
 descent {bytes} {l} {k} {n} {eye} {c} is near =
     record {
-      near-above = rw (near .near-child) (either-child (ltZ (side (planeOf (n .a) (n .b) (n .c)) eye) (pos 0)) k _ _ (is .negative-above) (is .positive-above));
-      far-above = rw (near .far-child) (either-child (ltZ (side (planeOf (n .a) (n .b) (n .c)) eye) (pos 0)) k _ _ (is .positive-above) (is .negative-above));
+      near-above = rw (near .near-child) (either-child behind k _ _ (is .negative-above) (is .positive-above));
+      far-above = rw (near .far-child) (either-child behind k _ _ (is .positive-above) (is .negative-above));
       order-is = walk;
       size = ap length walk ∙ rw (length-append, length-append, range-length);
     }
   where
-    walk : order eye (treeBelow bytes k) ≡ order eye (treeBelow bytes (c .near)) ++ (range (n .patches .first) (n .patches .count) ++ order eye (treeBelow bytes (c .far)))
-    walk = ap (order eye) (is .tree) ∙ order-node (treeBelow bytes) (planeOf (n .a) (n .b) (n .c)) (range (n .patches .first) (n .patches .count)) (n .positive) (n .negative) eye c near
+    behind : Bool
+    behind = ltZ (side (planeOf (n .a) (n .b) (n .c)) eye) (pos 0)
+
+    own : List ℕ
+    own = range (n .patches .first) (n .patches .count)
+
+    walk :
+        order eye (treeBelow bytes k) ≡
+        order eye (treeBelow bytes (c .near)) ++ (own ++ order eye (treeBelow bytes (c .far)))
+    walk =
+        ap (order eye) (is .tree)
+        ∙ order-node (treeBelow bytes) (planeOf (n .a) (n .b) (n .c)) own (n .positive) (n .negative) eye c near
 
 pub nothing-below : {t : Tree ℕ} (eye : Vec) (o : List ℕ) (at : ℕ) → t ≡ leaf → Written o at (order eye t) o at
 unfolding order
@@ -60,12 +74,12 @@ nothing-below eye o at e = rw e (none-written o at)
 
 -- three parts written one after another are the walk at and below k
 pub assembled :
-    {bytes : List ℕ} {k : ℕ} {eye : Vec} {first count : ℕ} {c : Children} {o o₁ o₂ o₃ : List ℕ} {at e₁ e₂ e₃ : ℕ}
-    → Descent bytes k eye first count c → at + length (order eye (treeBelow bytes k)) ≤ length o
-    → Written o at (order eye (treeBelow bytes (c .near))) o₁ e₁
-    → Written o₁ e₁ (range first count) o₂ e₂
-    → Written o₂ e₂ (order eye (treeBelow bytes (c .far))) o₃ e₃
-    → Written o at (order eye (treeBelow bytes k)) o₃ e₃
+    {bytes : List ℕ} {k : ℕ} {eye : Vec} {first count : ℕ} {c : Children} {o o₁ o₂ o₃ : List ℕ} {at e₁ e₂ e₃ : ℕ} →
+    Descent bytes k eye first count c → at + length (order eye (treeBelow bytes k)) ≤ length o →
+    Written o at (order eye (treeBelow bytes (c .near))) o₁ e₁ →
+    Written o₁ e₁ (range first count) o₂ e₂ →
+    Written o₂ e₂ (order eye (treeBelow bytes (c .far))) o₃ e₃ →
+    Written o at (order eye (treeBelow bytes k)) o₃ e₃
 assembled {first} {count} {o₃} {e₃} d room w₁ w₂ w₃ =
     rw (d .order-is, ← append-assoc)
     (written-more (written-more w₁ (omega (arith, d .size, w₁ .ended)) w₂)

@@ -56,8 +56,8 @@ pub record Found (s : Plane) (p : Patch) (found : Sides) (k : ℕ) : Type 0 wher
   pub sides : SidesAre s (map (cornerOf p) (range 0 k)) found
 
 first-corners :
-    (p : Patch) (test : Vec → Bool) (k : ℕ)
-    → any test (map (cornerOf p) (range 0 (k + 1))) ≡ (any test (map (cornerOf p) (range 0 k)) || test (cornerOf p k))
+    (p : Patch) (test : Vec → Bool) (k : ℕ) →
+    any test (map (cornerOf p) (range 0 (k + 1))) ≡ (any test (map (cornerOf p) (range 0 k)) || test (cornerOf p k))
 first-corners p test k =
     ap (λ (l : List ℕ). any test (map (cornerOf p) l)) (range-append 0 k 1 ∙ ap (λ (n : ℕ). range 0 k ++ (n ∷ [])) (zero-add k))
     ∙ ap (any test) (map-append (cornerOf p) (range 0 k) (k ∷ []))
@@ -68,7 +68,13 @@ module _ {s : Plane} {p : Patch} where
   pub found-none : Found s p (record { negative = false; positive = false }) 0
   found-none = record { most = omega arith; sides = record { negative-is = refl; positive-is = refl } }
 
-  pub found-more : {found r : Sides} {k : ℕ} {z : ℤ} → Found s p found k → k < p .count → z ≡ sideOf s (cornerOf p k) → Joins found z r → Found s p r (k + 1)
+  pub found-more :
+      {found r : Sides} {k : ℕ} {z : ℤ} →
+      Found s p found k →
+      k < p .count →
+      z ≡ sideOf s (cornerOf p k) →
+      Joins found z r →
+      Found s p r (k + 1)
   found-more {found} {r} {k} {z} f h e j =
       record {
         most = omega arith;
@@ -90,10 +96,10 @@ corner-bounded {p} {k} {v} b h e = point-bounded v (subst (λ (c : Vec). T (poin
 -- ---- a patch held to a plane
 
 pub held-found :
-    {s : Plane} {p : model.Patch} {r : Patch} {found : Sides} (wanted : Sides) {b : Bool}
-    → SidesAre s (patchOf r .corners) found → TreePatch p r
-    → b ≡ (Bool·beq (found .negative) (wanted .negative) && Bool·beq (found .positive) (wanted .positive))
-    → b ≡ held s wanted p
+    {s : Plane} {p : model.Patch} {r : Patch} {found : Sides} (wanted : Sides) {b : Bool} →
+    SidesAre s (patchOf r .corners) found → TreePatch p r →
+    b ≡ (Bool·beq (found .negative) (wanted .negative) && Bool·beq (found .positive) (wanted .positive)) →
+    b ≡ held s wanted p
 unfolding held
 held-found {s} wanted sides is h =
     h ∙ rw (sides .negative-is, sides .positive-is) (ap (held s wanted) (is .value))

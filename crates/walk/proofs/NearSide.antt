@@ -12,7 +12,10 @@ use Rattle.walk.specs.Near.{NearFirst}
 use Rattle.walk.specs.declared.order.Children.{Children}
 
 module _ (s : Plane) (eye : Vec) {z : ℤ} (positive negative : ℕ) (value : z ≡ side s eye) where
-  children-at : (b : Bool) → ltZ z (pos 0) ≡ b → NearFirst s eye positive negative (record { near = cond b negative positive; far = cond b positive negative })
+  children-at :
+      (b : Bool) →
+      ltZ z (pos 0) ≡ b →
+      NearFirst s eye positive negative (record { near = cond b negative positive; far = cond b positive negative })
   children-at b e = record { near-child = rw (behind); far-child = rw (behind) }
     where
       behind : ltZ (side s eye) (pos 0) ≡ b
@@ -26,14 +29,14 @@ module _ (s : Plane) (eye : Vec) {z : ℤ} (positive negative : ℕ) (value : z 
 
 -- the walk of a node: near side, own patches, far side
 pub order-node :
-    {A : Type 0} (below : ℕ → Tree A) (s : Plane) (own : List A) (positive negative : ℕ) (eye : Vec) (r : Children)
-    → NearFirst s eye positive negative r
-    → order eye (node s own (below positive) (below negative)) ≡ order eye (below (r .near)) ++ (own ++ order eye (below (r .far)))
+    {A : Type 0} (below : ℕ → Tree A) (s : Plane) (own : List A) (positive negative : ℕ) (eye : Vec) (r : Children) →
+    NearFirst s eye positive negative r →
+    order eye (node s own (below positive) (below negative)) ≡ order eye (below (r .near)) ++ (own ++ order eye (below (r .far)))
 unfolding order
 order-node below s own positive negative eye r h = rw (h .near-child, h .far-child) (go (ltZ (side s eye) (pos 0)))
   where
-    go : (b : Bool)
-        → cond b (order eye (below negative) ++ (own ++ order eye (below positive))) (order eye (below positive) ++ (own ++ order eye (below negative)))
+    go : (b : Bool) →
+        cond b (order eye (below negative) ++ (own ++ order eye (below positive))) (order eye (below positive) ++ (own ++ order eye (below negative)))
         ≡ order eye (below (cond b negative positive)) ++ (own ++ order eye (below (cond b positive negative)))
     go true = refl
     go false = refl

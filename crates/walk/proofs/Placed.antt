@@ -21,7 +21,9 @@ use Rattle.walk.specs.declared.division.Plane.{Plane}
 
 zero-is : (z : ℤ) → isZero z ≡ (not (ltZ z (pos 0)) && not (ltZ (pos 0) z))
 zero-is (pos zero) = refl
-zero-is (pos (suc n)) = sym (ap (λ (b : Bool). not (ltZ (pos (suc n)) (pos 0)) && not b) (lt-ltb 0 (suc n) (zero-lt-suc n)) ∙ and-false (not (ltZ (pos (suc n)) (pos 0))))
+zero-is (pos (suc n)) =
+    let b : Bool = not (ltZ (pos (suc n)) (pos 0)) in
+    sym (ap (λ (c : Bool). b && not c) (lt-ltb 0 (suc n) (zero-lt-suc n)) ∙ and-false b)
 zero-is (negsuc n) = refl
 
 above-turned : (z : ℤ) → ltZ (pos 0) (negℤ z) ≡ ltZ z (pos 0)
@@ -72,7 +74,9 @@ module _ {s : model.Plane} {r : Plane} (is : PlaneIs s r) where
   unfolding liesOn held
   held-on = λ i p. on p i
     where
-      on : (p : Patch) → every (λ (c : Vec). isZero (side s c)) (p .corners) ≡ (Bool·beq (any (onNegative r) (p .corners)) false && Bool·beq (any (onPositive r) (p .corners)) false)
+      on : (p : Patch) →
+          every (λ (c : Vec). isZero (side s c)) (p .corners)
+          ≡ (Bool·beq (any (onNegative r) (p .corners)) false && Bool·beq (any (onPositive r) (p .corners)) false)
       on p =
           (λ i. every (λ (c : Vec). (ap isZero (side-is c) ∙ zero-is (sideOf r c)) i) (p .corners))
           ∙ every-neither (onNegative r) (onPositive r) (p .corners)
@@ -82,8 +86,8 @@ module _ {s : model.Plane} {r : Plane} (is : PlaneIs s r) where
   unfolding inFront held
   held-front = λ i p. front p i
     where
-      front : (p : Patch)
-          → (every (λ (c : Vec). leZ (pos 0) (side s c)) (p .corners) && any (λ (c : Vec). ltZ (pos 0) (side s c)) (p .corners))
+      front : (p : Patch) →
+          (every (λ (c : Vec). leZ (pos 0) (side s c)) (p .corners) && any (λ (c : Vec). ltZ (pos 0) (side s c)) (p .corners))
           ≡ (Bool·beq (any (onNegative r) (p .corners)) false && Bool·beq (any (onPositive r) (p .corners)) true)
       front p =
           ap₂ _&&_
@@ -98,12 +102,21 @@ module _ {s : model.Plane} {r : Plane} (is : PlaneIs s r) where
       turned : (c : Vec) → side (turnedOver s) c ≡ negℤ (sideOf r c)
       turned c = side-turned s c ∙ ap negℤ (side-is c)
 
-      back : (p : Patch)
-          → (every (λ (c : Vec). leZ (pos 0) (side (turnedOver s) c)) (p .corners) && any (λ (c : Vec). ltZ (pos 0) (side (turnedOver s) c)) (p .corners))
+      not-behind : (c : Vec) → leZ (pos 0) (side (turnedOver s) c) ≡ not (onPositive r c)
+      not-behind c =
+          ap (leZ (pos 0)) (turned c) ∙ leZ-not (pos 0) (negℤ (sideOf r c)) ∙ ap not (below-turned (sideOf r c))
+
+      before : (c : Vec) → ltZ (pos 0) (side (turnedOver s) c) ≡ onNegative r c
+      before c = ap (ltZ (pos 0)) (turned c) ∙ above-turned (sideOf r c)
+
+      back : (p : Patch) →
+          (every (λ (c : Vec). leZ (pos 0) (side (turnedOver s) c)) (p .corners)
+          && any (λ (c : Vec). ltZ (pos 0) (side (turnedOver s) c)) (p .corners))
           ≡ (Bool·beq (any (onNegative r) (p .corners)) true && Bool·beq (any (onPositive r) (p .corners)) false)
       back p =
           ap₂ _&&_
-          ((λ i. every (λ (c : Vec). (ap (leZ (pos 0)) (turned c) ∙ leZ-not (pos 0) (negℤ (sideOf r c)) ∙ ap not (below-turned (sideOf r c))) i) (p .corners))
-          ∙ every-not (onPositive r) (p .corners) ∙ sym (same-false (any (onPositive r) (p .corners))))
-          ((λ i. any (λ (c : Vec). (ap (ltZ (pos 0)) (turned c) ∙ above-turned (sideOf r c)) i) (p .corners)) ∙ sym (same-true (any (onNegative r) (p .corners))))
+          ((λ i. every (λ (c : Vec). not-behind c i) (p .corners))
+          ∙ every-not (onPositive r) (p .corners)
+          ∙ sym (same-false (any (onPositive r) (p .corners))))
+          ((λ i. any (λ (c : Vec). before c i) (p .corners)) ∙ sym (same-true (any (onNegative r) (p .corners))))
           ∙ and-comm (Bool·beq (any (onPositive r) (p .corners)) false) (Bool·beq (any (onNegative r) (p .corners)) true)

@@ -36,9 +36,9 @@ pub record Rooted (nodes : List NodeRecord) : Type 0 where
   pub named : (j : ℕ) → 0 < j → j < length nodes → occurrences j (children nodes) ≡ 1
 
 pub everyNode-at :
-    (test : ℕ → NodeRecord → Bool) (a : ℕ) (nodes : List NodeRecord)
-    → T (everyNode test a nodes)
-    → (k : ℕ) → k < length nodes → T (test (a + k) (nodeNumbered nodes k))
+    (test : ℕ → NodeRecord → Bool) (a : ℕ) (nodes : List NodeRecord) →
+    T (everyNode test a nodes) →
+    (k : ℕ) → k < length nodes → T (test (a + k) (nodeNumbered nodes k))
 unfolding everyNode
 everyNode-at test a [] t k h = absurd (omega arith)
 everyNode-at test a (n ∷ nodes) t zero h = rw add-zero (both (test a n) (everyNode test (suc a) nodes) .0 t .0)
@@ -56,11 +56,17 @@ module _ (s : Scene) (most : length (s .nodes) ≤ noChild) where
   properNode : ℕ → NodeRecord → Bool
   properNode k n = properChild (length (s .nodes)) k (n .positive) && properChild (length (s .nodes)) k (n .negative)
 
-  rising : T (everyNode properNode 0 (s .nodes)) → (k : ℕ) → k < length (s .nodes) → (k < nodeNumbered (s .nodes) k .positive) × (k < nodeNumbered (s .nodes) k .negative)
+  rising :
+      T (everyNode properNode 0 (s .nodes)) →
+      (k : ℕ) →
+      k < length (s .nodes) →
+      (k < nodeNumbered (s .nodes) k .positive) × (k < nodeNumbered (s .nodes) k .negative)
   unfolding properNode
   rising t k h =
       let n : NodeRecord = nodeNumbered (s .nodes) k in
-      let u = both (properChild (length (s .nodes)) k (n .positive)) (properChild (length (s .nodes)) k (n .negative)) .0 (rw zero-add at (everyNode-at properNode 0 (s .nodes) t k h)) in
+      let u =
+      both (properChild (length (s .nodes)) k (n .positive)) (properChild (length (s .nodes)) k (n .negative)) .0
+      (rw zero-add at (everyNode-at properNode 0 (s .nodes) t k h)) in
       (above-parent _ k (n .positive) most h (u .0), above-parent _ k (n .negative) most h (u .1))
 
   pub rooted : T (childrenProper s) → Rooted (s .nodes)
@@ -70,16 +76,19 @@ module _ (s : Scene) (most : length (s .nodes) ≤ noChild) where
       let u = both (everyNode properNode 0 (s .nodes)) (every once (range 1 (length (s .nodes) - 1))) .0 t in
       record {
         rising = rising (u .0);
-        named = λ j h l. eqb→eq _ 1 (every-true once (range 1 (length (s .nodes) - 1)) .0 (u .1) j (in-range 1 (length (s .nodes) - 1) j .1 (h, omega arith)));
+        named =
+            λ j h l. eqb→eq _ 1
+            (every-true once (range 1 (length (s .nodes) - 1)) .0 (u .1) j
+            (in-range 1 (length (s .nodes) - 1) j .1 (h, omega arith)));
       }
 
 -- ---- sums over nodes
 
 -- each node's own and what its children add up to
 with-children :
-    (own sum : ℕ → ℕ) (nodes : List NodeRecord) (a : ℕ)
-    → ((k : ℕ) → k < length nodes → sum (a + k) ≡ own (a + k) + (sum (nodeNumbered nodes k .positive) + sum (nodeNumbered nodes k .negative)))
-    → total sum (range a (length nodes)) ≡ total own (range a (length nodes)) + total sum (children nodes)
+    (own sum : ℕ → ℕ) (nodes : List NodeRecord) (a : ℕ) →
+    ((k : ℕ) → k < length nodes → sum (a + k) ≡ own (a + k) + (sum (nodeNumbered nodes k .positive) + sum (nodeNumbered nodes k .negative))) →
+    total sum (range a (length nodes)) ≡ total own (range a (length nodes)) + total sum (children nodes)
 unfolding total children
 with-children own sum [] a step = refl
 with-children own sum (n ∷ nodes) a step =
@@ -89,9 +98,9 @@ with-children own sum (n ∷ nodes) a step =
     omega arith
 
 children-above :
-    (nodes : List NodeRecord)
-    → ((k : ℕ) → k < length nodes → (0 < nodeNumbered nodes k .positive) × (0 < nodeNumbered nodes k .negative))
-    → (c : ℕ) → List·Memᴰ c (children nodes) → 0 < c
+    (nodes : List NodeRecord) →
+    ((k : ℕ) → k < length nodes → (0 < nodeNumbered nodes k .positive) × (0 < nodeNumbered nodes k .negative)) →
+    (c : ℕ) → List·Memᴰ c (children nodes) → 0 < c
 unfolding children
 children-above [] h = λ c m. absurd (List·Memᴰ·not-nil m)
 children-above (n ∷ nodes) h =
@@ -100,10 +109,10 @@ children-above (n ∷ nodes) h =
 
 -- a sum that each node passes on to its parent is at node 0 the sum over all nodes
 pub sum-at-root :
-    (nodes : List NodeRecord) → Rooted nodes → (own sum : ℕ → ℕ)
-    → ((k : ℕ) → k < length nodes → sum k ≡ own k + (sum (nodeNumbered nodes k .positive) + sum (nodeNumbered nodes k .negative)))
-    → ((k : ℕ) → length nodes ≤ k → sum k ≡ 0)
-    → sum 0 ≡ total own (range 0 (length nodes))
+    (nodes : List NodeRecord) → Rooted nodes → (own sum : ℕ → ℕ) →
+    ((k : ℕ) → k < length nodes → sum k ≡ own k + (sum (nodeNumbered nodes k .positive) + sum (nodeNumbered nodes k .negative))) →
+    ((k : ℕ) → length nodes ≤ k → sum k ≡ 0) →
+    sum 0 ≡ total own (range 0 (length nodes))
 unfolding total
 sum-at-root [] r own sum step none = none 0 (omega arith)
 sum-at-root (n ∷ rest) r own sum step none =

@@ -15,7 +15,11 @@ use Rattle.walk.proofs.Counting.{range-append}
 abbrev pub runEnd : Run → ℕ
 runEnd r = r .first + r .count
 
-one-more : (test : ℕ → Bool) (first start count n sum : ℕ) → first ≡ start → sum ≡ tally test (range (start + count) n) → tally test (range first count) + sum ≡ tally test (range start (count + n))
+one-more :
+    (test : ℕ → Bool) (first start count n sum : ℕ) →
+    first ≡ start →
+    sum ≡ tally test (range (start + count) n) →
+    tally test (range first count) + sum ≡ tally test (range start (count + n))
 one-more test first start count n sum e h = rw (range-append, tally-append, e, h)
 
 -- the runs of some records, from `start` to `end`

@@ -61,7 +61,11 @@ module _ (bytes : List ℕ) (l : Layout) (w : Walkable bytes l) where
         plane-in = every-true planes (s .nodes) .0 (both (every planes (s .nodes)) (every pointInRange (s .corners)) .0 (w .coordinates) .0) n m;
         positive-above = is-rooted .rising k h .0;
         negative-above = is-rooted .rising k h .1;
-        run-inside = rw (← patch-count (w .laid)) (follows (λ (n : NodeRecord). n .patchRun) (length (s .patches)) 0 (s .nodes) (both (patchRunsFollow s) (cornerRunsFollow s) .0 (w .runs) .0) .inside n m);
+        run-inside =
+            rw (← patch-count (w .laid))
+            (follows (λ (n : NodeRecord). n .patchRun) (length (s .patches)) 0 (s .nodes)
+            (both (patchRunsFollow s) (cornerRunsFollow s) .0 (w .runs) .0)
+            .inside n m);
         tree =
             treeAt-is _ (s .nodes) k
             ∙ subtree-node run (s .nodes) is-rooted k h
@@ -76,9 +80,12 @@ module _ (bytes : List ℕ) (l : Layout) (w : Walkable bytes l) where
           let s = both (pointInRange (vecOf (r .a)) && pointInRange (vecOf (r .b))) (pointInRange (vecOf (r .c))) .0 (f .plane-in) in
           let t = both (pointInRange (vecOf (r .a))) (pointInRange (vecOf (r .b))) .0 (s .0) in
           record {
-            a-bounded = point-bounded (r .a) (t .0);
-            b-bounded = point-bounded (r .b) (t .1);
-            c-bounded = point-bounded (r .c) (s .1);
+            points =
+                record {
+                  a-bounded = point-bounded (r .a) (t .0);
+                  b-bounded = point-bounded (r .b) (t .1);
+                  c-bounded = point-bounded (r .c) (s .1);
+                };
             positive-above = f .positive-above;
             negative-above = f .negative-above;
             run-inside = f .run-inside;

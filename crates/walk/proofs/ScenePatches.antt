@@ -1,5 +1,6 @@
 -- The patches of a scene that can be walked.
 use mathlib.Core.Path.{subst, _∙_}
+use mathlib.Core.Bool.{Bool}
 use mathlib.Core.List.{List, List·Memᴰ, Memᴰ·map}
 use Prim.Native.Nat.{ℕ, _<_}
 use native.Mathlib.Omega.{arith}
@@ -23,14 +24,17 @@ use Rattle.walk.proofs.Carried.{part-member}
 
 -- the corners of a patch are corners of the scene, which question 3 bounds
 pub patch-bounded :
-    (bytes : List ℕ) (l : Layout) → Walkable bytes l → (k : ℕ) → k < l .patches
-    → {r : Patch} → PatchIs (patchNumbered (decode bytes) k) r → TreePatch (patchNumbered (decode bytes) k) r
+    (bytes : List ℕ) (l : Layout) → Walkable bytes l → (k : ℕ) → k < l .patches →
+    {r : Patch} → PatchIs (patchNumbered (decode bytes) k) r → TreePatch (patchNumbered (decode bytes) k) r
 unfolding coordinatesInRange patchOf
 patch-bounded bytes l w k h {r} is =
     record { value = is .value; bounded = record { eight = is .eight; in-range = λ j b. points (cornerOf r j) (corner j b) } }
   where
     points : (c : Vec) → List·Memᴰ c (decode bytes .corners) → T (pointInRange c)
-    points = every-true pointInRange (decode bytes .corners) .0 (both (every (λ (n : NodeRecord). planeInRange (n .plane)) (decode bytes .nodes)) (every pointInRange (decode bytes .corners)) .0 (w .coordinates) .1)
+    points =
+        let planes : Bool = every (λ (n : NodeRecord). planeInRange (n .plane)) (decode bytes .nodes) in
+        let corners : Bool = every pointInRange (decode bytes .corners) in
+        every-true pointInRange (decode bytes .corners) .0 (both planes corners .0 (w .coordinates) .1)
 
     corner : (j : ℕ) → j < r .count → List·Memᴰ (cornerOf r j) (decode bytes .corners)
     corner j b =

@@ -49,21 +49,20 @@ module _ {A : Type 0} (own : ℕ → NodeRecord → List A) (nodes : List NodeRe
   abbrev pub joined : ℕ → Tree A → Tree A → Tree A
   joined k front back = node (nodeNumbered nodes k .plane) (own k (nodeNumbered nodes k)) front back
 
-  pub tree-node :
-      (depth k : ℕ) → k < length nodes
-      → treeOf own (suc depth) nodes k ≡
-      joined k (treeOf own depth nodes (nodeNumbered nodes k .positive)) (treeOf own depth nodes (nodeNumbered nodes k .negative))
+  -- node k over its children's trees
+  abbrev over : ℕ → ℕ → Tree A
+  over depth k =
+      joined k (treeOf own depth nodes (nodeNumbered nodes k .positive))
+      (treeOf own depth nodes (nodeNumbered nodes k .negative))
+
+  pub tree-node : (depth k : ℕ) → k < length nodes → treeOf own (suc depth) nodes k ≡ over depth k
   unfolding treeOf
-  tree-node depth k h =
-      ap (λ (b : Bool). present b (joined k (treeOf own depth nodes (nodeNumbered nodes k .positive)) (treeOf own depth nodes (nodeNumbered nodes k .negative))))
-      (lt-ltb k (length nodes) h)
+  tree-node depth k h = ap (λ (b : Bool). present b (over depth k)) (lt-ltb k (length nodes) h)
 
   pub tree-leaf : (depth k : ℕ) → length nodes ≤ k → treeOf own depth nodes k ≡ leaf
   unfolding treeOf
   tree-leaf zero k h = refl
-  tree-leaf (suc depth) k h =
-      ap (λ (b : Bool). present b (joined k (treeOf own depth nodes (nodeNumbered nodes k .positive)) (treeOf own depth nodes (nodeNumbered nodes k .negative))))
-      (le-ltb k (length nodes) h)
+  tree-leaf (suc depth) k h = ap (λ (b : Bool). present b (over depth k)) (le-ltb k (length nodes) h)
 
   -- the tree at and below node k, by a bound that serves every node
   abbrev pub subtree : ℕ → Tree A
@@ -72,17 +71,17 @@ module _ {A : Type 0} (own : ℕ → NodeRecord → List A) (nodes : List NodeRe
   module _ (r : Rooted nodes) where
     -- the bound on the depth has no part in the tree once it is large enough
     pub deep-enough :
-        (depth depth′ k : ℕ) → length nodes ≤ depth + k → length nodes ≤ depth′ + k
-        → treeOf own depth nodes k ≡ treeOf own depth′ nodes k
+        (depth depth′ k : ℕ) → length nodes ≤ depth + k → length nodes ≤ depth′ + k →
+        treeOf own depth nodes k ≡ treeOf own depth′ nodes k
     deep-enough zero depth′ k h h′ = tree-leaf zero k (omega arith) ∙ sym (tree-leaf depth′ k (omega arith))
     deep-enough (suc depth) zero k h h′ = tree-leaf (suc depth) k (omega arith) ∙ sym (tree-leaf zero k (omega arith))
     deep-enough (suc depth) (suc depth′) k h h′ =
         go (decLt k (length nodes))
         (λ c l. deep-enough depth depth′ c (omega arith) (omega arith))
       where
-        go : Dec (k < length nodes)
-            → ((c : ℕ) → k < c → treeOf own depth nodes c ≡ treeOf own depth′ nodes c)
-            → treeOf own (suc depth) nodes k ≡ treeOf own (suc depth′) nodes k
+        go : Dec (k < length nodes) →
+            ((c : ℕ) → k < c → treeOf own depth nodes c ≡ treeOf own depth′ nodes c) →
+            treeOf own (suc depth) nodes k ≡ treeOf own (suc depth′) nodes k
         go (yes l) below =
             tree-node depth k l
             ∙ ap₂ (joined k) (below (nodeNumbered nodes k .positive) (r .rising k l .0)) (below (nodeNumbered nodes k .negative) (r .rising k l .1))
@@ -90,18 +89,29 @@ module _ {A : Type 0} (own : ℕ → NodeRecord → List A) (nodes : List NodeRe
         go (no l) below = tree-leaf (suc depth) k (omega arith) ∙ sym (tree-leaf (suc depth′) k (omega arith))
 
     pub subtree-node :
-        (k : ℕ) → k < length nodes
-        → subtree k ≡ joined k (subtree (nodeNumbered nodes k .positive)) (subtree (nodeNumbered nodes k .negative))
+        (k : ℕ) → k < length nodes →
+        subtree k ≡ joined k (subtree (nodeNumbered nodes k .positive)) (subtree (nodeNumbered nodes k .negative))
     subtree-node k h =
         deep-enough (length nodes) (suc (length nodes)) k (omega arith) (omega arith)
         ∙ tree-node (length nodes) k h
 
     -- a tally over the tree at and below node 0 is the sum of the tallies over all nodes
     pub tally-tree :
-        (test : A → Bool)
-        → tally test (contents (subtree 0)) ≡ total (λ (k : ℕ). tally test (own k (nodeNumbered nodes k))) (range 0 (length nodes))
+        (test : A → Bool) →
+        tally test (contents (subtree 0)) ≡ total (λ (k : ℕ). tally test (own k (nodeNumbered nodes k))) (range 0 (length nodes))
     unfolding contents
     tally-tree test =
         sum-at-root nodes r (λ (k : ℕ). tally test (own k (nodeNumbered nodes k))) (λ (k : ℕ). tally test (contents (subtree k)))
         (λ k h. rw (subtree-node k h, tally-append, tally-append))
         (λ k h. rw (tree-leaf (length nodes) k h))
+
+-- so the bound has no part in the model's tree either
+pub treeAt-deep :
+    {nodes : List NodeRecord} →
+    Rooted nodes →
+    (depth depth′ k : ℕ) →
+    length nodes ≤ depth + k →
+    length nodes ≤ depth′ + k →
+    treeAt depth nodes k ≡ treeAt depth′ nodes k
+treeAt-deep {nodes} r depth depth′ k h h′ =
+    treeAt-is depth nodes k ∙ deep-enough run nodes r depth depth′ k h h′ ∙ sym (treeAt-is depth′ nodes k)

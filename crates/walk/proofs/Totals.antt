@@ -3,7 +3,7 @@ use mathlib.Core.Path.{_≡_, refl, sym, ap, ap₂, _∙_}
 use mathlib.Core.Bool.{Bool, true, false}
 use mathlib.Core.List.{List, [], _∷_, _++_, map, List·Memᴰ, List·Memᴰ·head, List·Memᴰ·tail}
 use Prim.Native.Nat.{ℕ, suc, _+_, _*_}
-use native.Mathlib.Nat.{zero-add, add-assoc, zero-mul, suc-add}
+use native.Mathlib.Nat.{zero-add, zero-mul, suc-add}
 use native.Mathlib.Omega.{arith}
 use lib.Dec.{eqb}
 use lib.ListN.{length}
@@ -15,11 +15,6 @@ total f [] = 0
 total f (a ∷ rest) = f a + total f rest
 
 module _ {A : Type 0} where
-  pub total-append : (f : A → ℕ) (s t : List A) → total f (s ++ t) ≡ total f s + total f t
-  unfolding total
-  total-append f [] t = sym (zero-add _)
-  total-append f (a ∷ s) t = rw (total-append f s t, add-assoc)
-
   pub total-cong : (f g : A → ℕ) (l : List A) → ((a : A) → List·Memᴰ a l → f a ≡ g a) → total f l ≡ total g l
   unfolding total
   total-cong f g [] h = refl
@@ -41,7 +36,9 @@ total-map f h [] = refl
 total-map f h (a ∷ l) = ap (λ (n : ℕ). f (h a) + n) (total-map f h l)
 
 -- a double sum in the other order
-pub total-swap : {A B : Type 0} (f : A → B → ℕ) (s : List A) (t : List B) → total (λ (a : A). total (f a) t) s ≡ total (λ (b : B). total (λ (a : A). f a b) s) t
+pub total-swap :
+    {A B : Type 0} (f : A → B → ℕ) (s : List A) (t : List B) →
+    total (λ (a : A). total (f a) t) s ≡ total (λ (b : B). total (λ (a : A). f a b) s) t
 unfolding total
 total-swap f [] t = sym (total-zero t)
 total-swap f (a ∷ s) t = ap (λ (n : ℕ). total (f a) t + n) (total-swap f s t) ∙ sym (total-add (f a) (λ b. total (λ a. f a b) s) t)

@@ -23,7 +23,7 @@ use Rattle.walk.proofs.Totals.{total, total-map, tally-append, tally-ma
 use Rattle.walk.proofs.Counting.{in-range, all-by-number}
 use Rattle.walk.proofs.Rooted.{nodeNumbered, rooted}
 use Rattle.walk.proofs.Subtrees.{treeOf, run, treeAt-is, tally-tree}
-use Rattle.walk.proofs.Runs.{Follows, follows}
+use Rattle.walk.proofs.Runs.{follows}
 
 -- ---- trees
 
@@ -38,8 +38,10 @@ unfolding order mapTree
 order-map f eye leaf = refl
 order-map f eye (node s own front back) = step (ltZ (side s eye) (pos 0)) (order-map f eye front) (order-map f eye back)
   where
-    step : (b : Bool) → order eye (mapTree f front) ≡ map f (order eye front) → order eye (mapTree f back) ≡ map f (order eye back)
-        → cond b (order eye (mapTree f back) ++ (map f own ++ order eye (mapTree f front))) (order eye (mapTree f front) ++ (map f own ++ order eye (mapTree f back)))
+    step : (b : Bool) → order eye (mapTree f front) ≡ map f (order eye front) → order eye (mapTree f back) ≡ map f (order eye back) →
+        cond b
+        (order eye (mapTree f back) ++ (map f own ++ order eye (mapTree f front)))
+        (order eye (mapTree f front) ++ (map f own ++ order eye (mapTree f back)))
         ≡ map f (cond b (order eye back ++ (own ++ order eye front)) (order eye front ++ (own ++ order eye back)))
     step true h k = rw (h, k, map-append, map-append)
     step false h k = rw (h, k, map-append, map-append)
@@ -49,10 +51,11 @@ pub order-tally : {A : Type 0} (test : A → Bool) (eye : Vec) (t : Tree A) → 
 unfolding order contents
 order-tally test eye leaf = refl
 order-tally {A} test eye (node s own front back) =
-    step (ltZ (side s eye) (pos 0)) (order eye front) (order eye back) (contents front) (contents back) (order-tally test eye front) (order-tally test eye back)
+    step (ltZ (side s eye) (pos 0)) (order eye front) (order eye back) (contents front) (contents back)
+    (order-tally test eye front) (order-tally test eye back)
   where
-    step : (b : Bool) (f g f′ g′ : List A) → tally test f ≡ tally test f′ → tally test g ≡ tally test g′
-        → tally test (cond b (g ++ (own ++ f)) (f ++ (own ++ g))) ≡ tally test (own ++ (f′ ++ g′))
+    step : (b : Bool) (f g f′ g′ : List A) → tally test f ≡ tally test f′ → tally test g ≡ tally test g′ →
+        tally test (cond b (g ++ (own ++ f)) (f ++ (own ++ g))) ≡ tally test (own ++ (f′ ++ g′))
     step true f g f′ g′ h k = simp tally-append (omega arith)
     step false f g f′ g′ h k = simp tally-append (omega arith)
 
@@ -70,22 +73,27 @@ same-members l l′ h k m =
 
 pub table-by-number : (s : Scene) → map (patchNumbered s) (range 0 (length (s .patches))) ≡ patchTable s
 unfolding patchNumbered patchTable
-table-by-number s = ap (λ (n : ℕ). map (patchNumbered s) (range 0 n)) (sym (length-map (s .patches) (patchOf (s .corners)))) ∙ all-by-number (patchTable s) _
+table-by-number s =
+    ap (λ (n : ℕ). map (patchNumbered s) (range 0 n)) (sym (length-map (s .patches) (patchOf (s .corners))))
+    ∙ all-by-number (patchTable s) _
+
+-- the numbers of the nodes that the tree has, in its order
+abbrev pub reached : Scene → List ℕ
+reached s = contents (treeOf (λ (k : ℕ) (n : NodeRecord). k ∷ []) (length (s .nodes)) (s .nodes) 0)
 
 module _ (s : Scene) (most : length (s .nodes) ≤ noChild) (fifth : T (childrenProper s)) where
-  -- the nodes are all reached from node 0, each once: `reached` lists their numbers as the tree has them
-  abbrev pub reached : List ℕ
-  reached = contents (treeOf (λ (k : ℕ) (n : NodeRecord). k ∷ []) (length (s .nodes)) (s .nodes) 0)
-
-  pub nodes-once : (test : ℕ → Bool) → tally test reached ≡ tally test (range 0 (length (s .nodes)))
-  nodes-once test = tally-tree (λ (k : ℕ) (n : NodeRecord). k ∷ []) (s .nodes) (rooted s most fifth) test ∙ tally-each test (range 0 (length (s .nodes)))
+  -- every node is reached from node 0, once
+  pub nodes-once : (test : ℕ → Bool) → tally test (reached s) ≡ tally test (range 0 (length (s .nodes)))
+  nodes-once test =
+      tally-tree (λ (k : ℕ) (n : NodeRecord). k ∷ []) (s .nodes) (rooted s most fifth) test
+      ∙ tally-each test (range 0 (length (s .nodes)))
 
   module _ (runs : T (patchRunsFollow s)) where
     -- the tree's patch numbers are those of the table, each once
     pub number-tally : (test : ℕ → Bool) → tally test (contents (numberTree s)) ≡ tally test (range 0 (length (s .patches)))
     unfolding numberTree patchRunsFollow
     number-tally test =
-        let all : Follows (λ (n : NodeRecord). n .patchRun) (length (s .patches)) 0 (s .nodes) = follows (λ n. n .patchRun) (length (s .patches)) 0 (s .nodes) runs in
+        let all = follows (λ (n : NodeRecord). n .patchRun) (length (s .patches)) 0 (s .nodes) runs in
         let count : all .count ≡ length (s .patches) = sym (zero-add _) ∙ all .sum in
         ap (λ (t : Tree ℕ). tally test (contents t)) (treeAt-is (length (s .nodes)) (s .nodes) 0)
         ∙ tally-tree run (s .nodes) (rooted s most fifth) test
@@ -132,10 +140,16 @@ module _ (s : Scene) (most : length (s .nodes) ≤ noChild) (fifth : T (children
     unfolding patchTree
     patch-members p = (
       λ m. rw table-by-number at (renumbered (contents (numberTree s)) (range 0 (length (s .patches))) numbers-once (rw contents-map at m)),
-      λ m. rw contents-map (renumbered (range 0 (length (s .patches))) (contents (numberTree s)) (λ k. sym (numbers-once k)) (rw (← table-by-number s) at m)),
+      λ m. rw contents-map
+          (renumbered (range 0 (length (s .patches))) (contents (numberTree s)) (λ k. sym (numbers-once k))
+          (rw (← table-by-number s) at m)),
     )
       where
-        renumbered : (l l′ : List ℕ) → ((k : ℕ) → occurrences k l ≡ occurrences k l′) → List·Memᴰ p (map (patchNumbered s) l) → List·Memᴰ p (map (patchNumbered s) l′)
+        renumbered :
+            (l l′ : List ℕ) →
+            ((k : ℕ) → occurrences k l ≡ occurrences k l′) →
+            List·Memᴰ p (map (patchNumbered s) l) →
+            List·Memᴰ p (map (patchNumbered s) l′)
         renumbered l l′ h m =
             let found = Memᴰ·of-map (patchNumbered s) l m in
             Memᴰ·cast (sym (found .2)) (Memᴰ·map (patchNumbered s) (same-members l l′ h (found .0) (found .1)))

@@ -62,9 +62,9 @@ writing-none first count o at =
     record { most = omega arith; long = refl; written = rw (add-zero at) (none-written o at) }
 
 pub writing-more :
-    {first count : ℕ} {o : List ℕ} {at : ℕ} {out : List ℕ} {i : ℕ}
-    → Writing first count o at out i → i < count → at + count ≤ length o
-    → Writing first count o at (set out (at + i) (first + i)) (i + 1)
+    {first count : ℕ} {o : List ℕ} {at : ℕ} {out : List ℕ} {i : ℕ} →
+    Writing first count o at out i → i < count → at + count ≤ length o →
+    Writing first count o at (set out (at + i) (first + i)) (i + 1)
 writing-more {first} {count} {o} {at} {out} {i} w h room =
     record {
       most = omega arith;
@@ -72,7 +72,11 @@ writing-more {first} {count} {o} {at} {out} {i} w h room =
       written = rw (range-append, ← add-assoc) (written-one (w .written) (omega arith) (first + i) (omega arith));
     }
 
-pub writing-all : {first count : ℕ} {o : List ℕ} {at : ℕ} {out : List ℕ} {i : ℕ} → Writing first count o at out i → count ≤ i → Written o at (range first count) out (at + count)
+pub writing-all :
+    {first count : ℕ} {o : List ℕ} {at : ℕ} {out : List ℕ} {i : ℕ} →
+    Writing first count o at out i →
+    count ≤ i →
+    Written o at (range first count) out (at + count)
 writing-all {first} {count} {o} {at} {out} {i} w h =
     let e : i ≡ count = omega (arith, w .most) in
     subst (λ (n : ℕ). Written o at (range first n) out (at + n)) e (w .written)

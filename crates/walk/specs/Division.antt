@@ -2,7 +2,7 @@
 use mathlib.Core.Path.{_≡_}
 use mathlib.Core.Bool.{Bool, _&&_, _||_, Bool·beq}
 use mathlib.Core.List.{List, map}
-use Prim.Native.Nat.{ℕ, _+_, _≤_, _<_}
+use Prim.Native.Nat.{ℕ, _≤_, _<_}
 use lib.Dec.{T}
 use lib.IntN.{ℤ, pos}
 use lib.Signed.{ltZ}
@@ -17,7 +17,6 @@ use Rattle.geometry.specs.Machine.{vecOf, planeOf, Bounded}
 use Rattle.format.specs.Patch.{cornerOf, patchOf}
 use Rattle.format.specs.declared.patch.Patch.{Patch}
 use Rattle.format.specs.declared.records.Node.{Node}
-use Rattle.format.specs.declared.layout.Layout.{Layout}
 use Rattle.walk.specs.Walked.{treeBelow}
 use Rattle.walk.specs.declared.division.Plane.{Plane}
 use Rattle.walk.specs.declared.division.Sides.{Sides}
@@ -75,10 +74,3 @@ nodeDivides bytes n =
     every (liesOn s) (map (patchNumbered (decode bytes)) (range (n .patches .first) (n .patches .count)))
     && every (inFront s) (map (patchNumbered (decode bytes)) (contents (treeBelow bytes (n .positive))))
     && every (inFront (turnedOver s)) (map (patchNumbered (decode bytes)) (contents (treeBelow bytes (n .negative))))
-
--- the node's points are in range and its run is inside the patch table
-pub record NodeBounded (l : Layout) (n : Node) : Type 0 where
-  pub a-bounded : Bounded 10000 (n .a)
-  pub b-bounded : Bounded 10000 (n .b)
-  pub c-bounded : Bounded 10000 (n .c)
-  pub run-inside : n .patches .first + n .patches .count ≤ l .patches

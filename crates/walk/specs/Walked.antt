@@ -26,11 +26,14 @@ pub record Walkable (bytes : List ℕ) (l : Layout) : Type 0 where
 abbrev pub treeBelow : List ℕ → ℕ → Tree ℕ
 treeBelow bytes k = treeAt (length (decode bytes .nodes)) (decode bytes .nodes) k
 
--- the machine's node r is node k of such a scene
-pub record NodeIs (bytes : List ℕ) (l : Layout) (k : ℕ) (r : Node) : Type 0 where
+pub record PointsBounded (r : Node) : Type 0 where
   pub a-bounded : Bounded 10000 (r .a)
   pub b-bounded : Bounded 10000 (r .b)
   pub c-bounded : Bounded 10000 (r .c)
+
+-- the machine's node r is node k of such a scene
+pub record NodeIs (bytes : List ℕ) (l : Layout) (k : ℕ) (r : Node) : Type 0 where
+  pub points : PointsBounded r
   pub positive-above : k < r .positive
   pub negative-above : k < r .negative
   pub run-inside : r .patches .first + r .patches .count ≤ l .patches

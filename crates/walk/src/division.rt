@@ -16,10 +16,10 @@ ghost use Rattle.model.specs.Lists.{every, range};
 ghost use Rattle.model.specs.Tree.{contents, mapTree, divides};
 ghost use Rattle.model.specs.Format.{decode, patchNumbered};
 ghost use Rattle.model.specs.Questions.{planesDivide};
-ghost use Rattle.geometry.specs.Machine.{planeOf, Bounded};
+ghost use Rattle.geometry.specs.Machine.{planeOf};
 ghost use Rattle.format.specs.Patch.{patchOf};
-ghost use Rattle.walk.specs.Walked.{Walkable, treeBelow};
-ghost use Rattle.walk.specs.Division.{CornersBounded, PlaneBounded, PlaneIs, SidesAre, Joins, held, NodeBounded, nodeDivides};
+ghost use Rattle.walk.specs.Walked.{Walkable, PointsBounded, treeBelow};
+ghost use Rattle.walk.specs.Division.{CornersBounded, PlaneBounded, PlaneIs, SidesAre, Joins, held, nodeDivides};
 
 // a plane by one of its points and its normal
 pub struct Plane {
@@ -92,8 +92,7 @@ fn run_held(
     plane: Plane,
     wanted: Sides,
 ) -> bool
-    requires { ⌜ Walkable (now bytes) l × PlaneBounded plane
-        × (first + count ≤ l .patches) ⌝ }
+    requires { ⌜ Walkable (now bytes) l × PlaneBounded plane × (first + count ≤ l .patches) ⌝ }
     ensures { λ r. ⌜ r ≡ every (held plane wanted) (map (patchNumbered (decode (now (bytes .entry)))) (range first count)) ⌝ }
 {
     let mut i = 0;
@@ -125,7 +124,7 @@ fn below_held(bytes: &[u8], l: Layout, k: usize, plane: Plane, wanted: Sides) ->
 }
 
 fn plane_of(n: Node) -> Plane
-    requires { ⌜ Bounded 10000 (n .a) × Bounded 10000 (n .b) × Bounded 10000 (n .c) ⌝ }
+    requires { ⌜ PointsBounded n ⌝ }
     ensures { λ r. ⌜ PlaneIs (planeOf (n .a) (n .b) (n .c)) r ⌝ }
 {
     let a = n.a;
@@ -137,7 +136,7 @@ fn plane_of(n: Node) -> Plane
 
 // question 9 at one node
 fn node_divides(bytes: &[u8], l: Layout, n: Node) -> bool
-    requires { ⌜ Walkable (now bytes) l × NodeBounded l n ⌝ }
+    requires { ⌜ Walkable (now bytes) l × PointsBounded n × (n .patches .first + n .patches .count ≤ l .patches) ⌝ }
     ensures { λ r. ⌜ r ≡ nodeDivides (now (bytes .entry)) n ⌝ }
 {
     let plane = plane_of(n);

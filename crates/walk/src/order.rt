@@ -11,7 +11,7 @@ ghost use Rattle.model.specs.Lists.{range};
 ghost use Rattle.model.specs.Tree.{order};
 ghost use Rattle.geometry.specs.Machine.{vecOf, planeOf, Bounded};
 ghost use Rattle.walk.specs.Written.{Written};
-ghost use Rattle.walk.specs.Walked.{Walkable, treeBelow, WholeWalk};
+ghost use Rattle.walk.specs.Walked.{Walkable, PointsBounded, treeBelow, WholeWalk};
 ghost use Rattle.walk.specs.Near.{NearFirst};
 
 // a node's children: the one on the eye's side, and the other
@@ -22,7 +22,7 @@ pub struct Children {
 
 // "With the eye on the plane the positive side is walked first."
 fn near_first(n: Node, eye: Vector) -> Children
-    requires { ⌜ Bounded 10000 (n .a) × Bounded 10000 (n .b) × Bounded 10000 (n .c) × Bounded 10000 eye ⌝ }
+    requires { ⌜ PointsBounded n × Bounded 10000 eye ⌝ }
     ensures { λ r. ⌜ NearFirst (planeOf (n .a) (n .b) (n .c)) (vecOf eye) (n .positive) (n .negative) r ⌝ }
 {
     let normal = plane_normal(n.a, n.b, n.c);

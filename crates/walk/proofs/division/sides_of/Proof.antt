@@ -38,7 +38,9 @@ loop-less c = omega arith
 loop-again : tie.Need-loop-again Inv-loop μ-loop
 loop-again c =
     found-more (c .before .before .before .before .loop .inv) (c .before .before .before .loop-test .taken)
-    (toZ-ofZ w64 (c .before .side .result) (record { sfits = c .before .side .ok }) ∙ c .before .side .ensures .value ∙ ap (sideOf (c .before .before .before .before .before .args .plane)) (c .before .before .corner-of .ensures))
+    (toZ-ofZ w64 (c .before .side .result) (record { sfits = c .before .side .ok })
+    ∙ c .before .side .ensures .value
+    ∙ ap (sideOf (c .before .before .before .before .before .args .plane)) (c .before .before .corner-of .ensures))
     (c .joined .ensures)
 
 returns : tie.Need-returns Inv-loop μ-loop

@@ -83,7 +83,16 @@ module _ (t : ℕ) where
         (
           s .pre .1 .0,
           s .pre .1 .1,
-          omega (arith, r .ensures .ended, range-length (n .before .tree-node .result .patches .first) (n .before .tree-node .result .patches .count), r .kept .1 .1 .0, w .ensures .ended, w .kept .1 .1 .1 .1 .0, d .size, s .pre .1 .2),
+          omega (
+            arith,
+            r .ensures .ended,
+            range-length (n .before .tree-node .result .patches .first) (n .before .tree-node .result .patches .count),
+            r .kept .1 .1 .0,
+            w .ensures .ended,
+            w .kept .1 .1 .1 .1 .0,
+            d .size,
+            s .pre .1 .2,
+          ),
         ),
       )
 

@@ -1,0 +1,19 @@
+use Rattle.format.specs.Patch.{patchOf}
+use borrow.Author.Tests.{not-true, not-false}
+use Rattle.scene.proofs.Loops.{first-no, second-decides}
+use Rattle.scene.proofs.Corners.{proper-patch-both}
+use borrow.Author.Needs.{needs}
+use Rattle.scene.proofs.convexity.patch_proper.Statement.{statement}
+use Rattle.scene.proofs.convexity.patch_proper.Tie as tie
+
+returns : tie.Need-returns
+returns c = first-no (proper-patch-both (patchOf (c .before .before .before .args .p))) (c .before .is-flat .ensures) (not-true _ (c .if1 .taken))
+
+returns-2 : tie.Need-returns-2
+returns-2 c =
+    second-decides (proper-patch-both (patchOf (c .before .before .before .before .args .p))) (c .before .before .is-flat .ensures) (not-false _ (c .before .if1 .left)) (c .strictly-convex .ensures)
+
+pub patch-proper-spec : {M : Type 1} → statement M
+patch-proper-spec =
+    tie.close
+    (tie.spec (λ c κs. search needs) (λ c κs. search needs) returns (λ c κs. search needs) returns-2)

@@ -1,0 +1,5 @@
+-- What the crate's contracts cite.
+pub mod Tests
+pub mod Bounds
+pub mod Children
+pub mod Gate
