@@ -21,7 +21,7 @@ fn in_range(z: i64) -> bool
     z <= 10000
 }
 
-fn point_in_range(v: Vector) -> bool
+pub fn point_in_range(v: Vector) -> bool
     ensures { λ r. ⌜ r ≡ pointInRange (vecOf v) ⌝ }
 {
     if !in_range(v.x) {

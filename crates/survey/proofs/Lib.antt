@@ -1,9 +1,5 @@
--- Demands 2 and 3 from the survey's contract.
+-- The results of a painted walk, the questions on the call, and demands 2 and 3 from the contract.
 pub mod PanelNumbers
-pub mod Demands
-pub mod FirstShown
 pub mod Results
 pub mod ViewTests
-pub mod EdgePlaces
-pub mod EdgeWrites
-pub mod EdgeRuns
+pub mod Demands

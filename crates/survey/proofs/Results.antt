@@ -27,9 +27,9 @@ use Rattle.format.specs.Layout.{LaidOut}
 use Rattle.format.proofs.Decoded.{node-count}
 use Rattle.walk.proofs.Whole.{walk-numbers}
 use Rattle.walk.proofs.Seen.{Accepted, first-met-closest}
-use Rattle.survey.specs.Painting.{shownAfter, RowsPainted}
+use Rattle.painting.specs.Painting.{shownAfter, RowsPainted}
 use Rattle.survey.proofs.PanelNumbers.{panel-positive}
-use Rattle.survey.proofs.FirstShown.{unlit-shows-0}
+use Rattle.painting.proofs.FirstShown.{unlit-shows-0}
 
 -- Question 13: 128 segments suffice for any row of at most 256 columns, whatever is painted.
 row-fits : (width : ℕ) → width ≤ 256 → (eye : Vec) (ray : ℕ → Vec) (walk : List Patch) → T (rowFits width eye ray walk)

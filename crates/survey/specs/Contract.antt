@@ -9,12 +9,19 @@ use Rattle.model.specs.Call.{Call}
 use Rattle.model.specs.Questions.{surveyAnswer}
 use Rattle.model.specs.Survey.{callPicture, callCounts, callUnlit, callCounter}
 
+-- a window by its three numbers
+abbrev pub windowOf : ℕ → ℕ → ℕ → Window
+windowOf w h l = record { width = w; height = h; lens = l }
+
 -- what the lent buffers and the station counter hold
 pub record Lent : Type 0 where
   pub picture : List ℕ
   pub counts : List ℕ
   pub unlit : List ℕ
   pub counter : ℕ
+
+abbrev pub lentOf : List ℕ → List ℕ → List ℕ → ℕ → Lent
+lentOf p n u k = record { picture = p; counts = n; unlit = u; counter = k }
 
 -- the call on a scene from an eye through a window, with these buffers lent
 abbrev pub callOn : List ℕ → Vec → Window → Lent → Call

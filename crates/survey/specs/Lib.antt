@@ -1,5 +1,3 @@
 -- The contracts of the exported calls, and the statements of demands 2 and 3.
-pub mod Painting
-pub mod EdgeVectors
 pub mod Contract
 pub mod Demands

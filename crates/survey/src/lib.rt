@@ -1,3 +1,2 @@
 // The survey call.
-mod edges;
 pub mod view;

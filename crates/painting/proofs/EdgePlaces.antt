@@ -1,0 +1,157 @@
+-- The edges of a patch by the corner that they begin at, and the corners of a patch in hand.
+use mathlib.Core.Path.{_≡_, refl, sym, _∙_, ap, subst}
+use mathlib.Core.Bool.{_&&_}
+use mathlib.Core.List.{List, [], _∷_, _++_, map, map-map}
+use Prim.Native.Nat.{ℕ, zero, suc, _+_, _≤_, _<_}
+use native.Mathlib.Omega.{arith}
+use native.Mathlib.Numerals.{add-one}
+use lib.Dec.{T, leb→le, lit<}
+use lib.IntN.{ℤ}
+use lib.ListN.{length, getD, take, drop, drop-of-length-le}
+use lib.Seq.{drop-cons}
+use mir.Syntax.{w64}
+use mir.Val.{toZ, ofZ}
+use Rattle.integer.specs.Magnitude.{Within, signOf}
+use Rattle.integer.proofs.Magnitude.{within-stored}
+use Rattle.model.specs.Lists.{range}
+use Rattle.model.specs.Vector.{Vec, origin, minus, dot, cross, times, planeNormal}
+use Rattle.model.specs.Patch as model
+use Rattle.model.specs.Patch.{round, firstEdge, edges}
+use Rattle.model.specs.Ray.{eyeProduct, edgeVector}
+use Rattle.model.specs.Questions.{inRange, pointInRange}
+use Rattle.model.proofs.Tests.{both}
+use Rattle.geometry.specs.declared.Vector.{Vector}
+use Rattle.geometry.specs.Machine.{vecOf, planeOf, Bounded, VectorIs, NumberIs}
+use Rattle.format.specs.declared.patch.Patch.{Patch}
+use Rattle.format.specs.Patch.{cornerOf, patchOf}
+use Rattle.format.proofs.Tables.{length-table, table-at}
+use Rattle.spans.specs.Row.{orientedEdges}
+use Rattle.spans.proofs.Orientation.{sign-within}
+use Rattle.walk.proofs.SceneNodes.{point-bounded}
+use Rattle.painting.specs.EdgeVectors.{InHand, EyeSign, edgeNumbered}
+
+-- ---- the edge that begins at corner i
+module _ (cs : List Vec) (i : ℕ) (h : i < length cs) where
+  from-corner : round cs i ≡ getD cs i origin ∷ (drop (suc i) cs ++ take i cs)
+  from-corner = ap (λ (l : List Vec). l ++ take i cs) (drop-cons cs i origin h)
+
+  pub edge-from : firstEdge (round cs i) .from ≡ getD cs i origin
+  edge-from = ap (λ (l : List Vec). firstEdge l .from) from-corner ∙ begins (drop (suc i) cs ++ take i cs)
+    where
+      begins : (rest : List Vec) → firstEdge (getD cs i origin ∷ rest) .from ≡ getD cs i origin
+      begins [] = refl
+      begins (w ∷ rest) = refl
+
+  pub edge-to-next : suc i < length cs → firstEdge (round cs i) .to ≡ getD cs (suc i) origin
+  edge-to-next k =
+      ap (λ (l : List Vec). firstEdge l .to)
+      (from-corner ∙ ap (λ (l : List Vec). getD cs i origin ∷ (l ++ take i cs)) (drop-cons cs (suc i) origin k))
+
+  pub edge-to-first : 1 < length cs → length cs ≤ suc i → firstEdge (round cs i) .to ≡ getD cs 0 origin
+  edge-to-first k e =
+      ap (λ (l : List Vec). firstEdge l .to)
+      (from-corner ∙ ap (λ (l : List Vec). getD cs i origin ∷ (l ++ take i cs)) (drop-of-length-le cs e))
+      ∙ ends i (omega arith)
+    where
+      ends : (j : ℕ) → 0 < j → firstEdge (getD cs i origin ∷ take j cs) .to ≡ getD cs 0 origin
+      ends zero l = absurd (omega arith)
+      ends (suc j) l = ap (λ (l : List Vec). firstEdge (getD cs i origin ∷ take (suc j) l) .to) (drop-cons cs 0 origin (omega arith))
+
+-- ---- the edge vectors: as many as corners, each of the edge from its corner
+module _ (eye : Vec) (p : model.Patch) where
+  abbrev fromCorner : ℕ → Vec
+  fromCorner k = times (signOf (eyeProduct eye p)) (edgeVector eye (firstEdge (round (p .corners) k)))
+
+  oriented-table : orientedEdges eye p ≡ map fromCorner (range 0 (length (p .corners)))
+  unfolding orientedEdges edges
+  oriented-table = map-map _ _ (range 0 (length (p .corners)))
+
+  pub oriented-count : length (orientedEdges eye p) ≡ length (p .corners)
+  oriented-count = ap length oriented-table ∙ length-table fromCorner 0 (length (p .corners))
+
+  pub oriented-at : (i : ℕ) → i < length (p .corners) → edgeNumbered eye p i ≡ fromCorner i
+  oriented-at i h = ap (λ (l : List Vec). getD l i origin) oriented-table ∙ table-at fromCorner (length (p .corners)) i origin h
+
+module _ (p : Patch) where
+  pub hand-count : length (patchOf p .corners) ≡ p .count
+  hand-count = length-table (cornerOf p) 0 (p .count)
+
+  pub hand-corner : (k : ℕ) → k < p .count → getD (patchOf p .corners) k origin ≡ cornerOf p k
+  hand-corner k h = table-at (cornerOf p) (p .count) k origin h
+
+module _ {p : Patch} (h : InHand p) where
+  pub corner-bounded : {k : ℕ} {v : Vector} → k < p .count → vecOf v ≡ cornerOf p k → Bounded 10000 v
+  corner-bounded {k} {v} b e = point-bounded v (subst (λ (c : Vec). T (pointInRange c)) (sym e) (h .in-range k b))
+
+  module _ {i : ℕ} {v : Vector} (b : i < p .count) where
+    pub ends-next : i + 1 < p .count → vecOf v ≡ cornerOf p (i + 1) → VectorIs 10000 (firstEdge (round (patchOf p .corners) i) .to) v
+    ends-next k e =
+        record {
+          value =
+              e ∙ sym (hand-corner p (i + 1) k) ∙ ap (λ (m : ℕ). getD (patchOf p .corners) m origin) (add-one i)
+              ∙ sym (edge-to-next (patchOf p .corners) i (omega (arith, hand-count p)) (omega (arith, hand-count p)));
+          bounded = corner-bounded k e;
+        }
+
+    pub ends-first : p .count ≤ i + 1 → vecOf v ≡ cornerOf p 0 → VectorIs 10000 (firstEdge (round (patchOf p .corners) i) .to) v
+    ends-first k e =
+        let some : 0 < p .count = omega (arith, h .three) in
+        record {
+          value =
+              e ∙ sym (hand-corner p 0 some)
+              ∙ sym (edge-to-first (patchOf p .corners) i (omega (arith, hand-count p)) (omega (arith, hand-count p, h .three)) (omega (arith, hand-count p)));
+          bounded = corner-bounded some e;
+        }
+
+-- ---- the sign of the eye product
+module _ {eye : Vec} {p : Patch} {sign : ℤ} (h : EyeSign eye p sign) where
+  pub sign-small : Within 1 sign
+  sign-small = subst (Within 1) (sym (h .is)) (sign-within (eyeProduct eye (patchOf p)))
+
+  -- it passes through a word
+  pub sign-passed : EyeSign eye p (toZ w64 (ofZ w64 sign))
+  sign-passed = record { is = within-stored w64 sign-small (lit< tt) ∙ h .is }
+
+-- what is computed from the first three corners is the patch's
+pub sign-made :
+    {eye : Vec} {p : Patch} {a b c normal : Vector} {z sign : ℤ} →
+    InHand p →
+    vecOf a ≡ cornerOf p 0 →
+    vecOf b ≡ cornerOf p 1 →
+    vecOf c ≡ cornerOf p 2 →
+    vecOf normal ≡ planeNormal (planeOf a b c) →
+    NumberIs 48000000000000 (dot (minus (vecOf a) eye) (vecOf normal)) z →
+    sign ≡ signOf (toZ w64 (ofZ w64 z)) →
+    EyeSign eye p sign
+sign-made {eye} {p} {a} {b} {c} h ea eb ec en ez es =
+    record {
+      is =
+          es
+          ∙ ap signOf (within-stored w64 (ez .bounded) (lit< tt) ∙ ez .value ∙ ap (dot (minus (vecOf a) eye)) en)
+          ∙ (λ t. signOf (dot (minus (first t) eye) (planeNormal (record { a = first t; b = second t; c = third t }))));
+    }
+  where
+    place : (k : ℕ) → k < 3 → cornerOf p k ≡ getD (patchOf p .corners) k origin
+    place k l = sym (hand-corner p k (omega (arith, h .three)))
+
+    first : vecOf a ≡ getD (patchOf p .corners) 0 origin
+    first = ea ∙ place 0 (omega arith)
+
+    second : vecOf b ≡ getD (patchOf p .corners) 1 origin
+    second = eb ∙ place 1 (omega arith)
+
+    third : vecOf c ≡ getD (patchOf p .corners) 2 origin
+    third = ec ∙ place 2 (omega arith)
+
+-- and what is computed from an edge's corners is the edge's vector
+pub edge-made :
+    (eye : Vec) {p : Patch} {v w : Vec} {sign : ℤ} {i : ℕ} →
+    EyeSign eye p sign →
+    i < p .count →
+    v ≡ cornerOf p i →
+    w ≡ firstEdge (round (patchOf p .corners) i) .to →
+    times sign (cross (minus v eye) (minus w eye)) ≡ edgeNumbered eye (patchOf p) i
+edge-made eye {p} {i = i} s b ev ew =
+    let inside : i < length (patchOf p .corners) = omega (arith, hand-count p) in
+    let from = ev ∙ sym (hand-corner p i b) ∙ sym (edge-from (patchOf p .corners) i inside) in
+    (λ t. times (s .is t) (cross (minus (from t) eye) (minus (ew t) eye))) ∙ sym (oriented-at eye (patchOf p) i inside)

@@ -1,0 +1,27 @@
+-- The rows of a picture and of the unlit lists, each in its place.
+use mathlib.Core.Path.{_≡_}
+use mathlib.Core.List.{List, _++_, map}
+use Prim.Native.Nat.{ℕ, _+_, _*_, _≤_}
+use lib.ListN.{length, take, drop}
+use Rattle.model.specs.Lists.{range}
+use Rattle.model.specs.Vector.{Vec}
+use Rattle.model.specs.Patch.{Patch}
+use Rattle.model.specs.Row.{rowOf, rowLength}
+use Rattle.model.specs.Questions.{unlitAfter}
+use Rattle.painting.specs.Painting.{shownAfter}
+
+-- the lists have just the room for the rows
+pub record Framed (width height : ℕ) (picture unlit : List ℕ) : Type 0 where
+  pub narrow : width ≤ rowLength
+  pub cells : length picture ≡ width * height
+  pub rows : length unlit ≡ height * rowLength
+
+-- a list of rows of one width with another row in the place of row j
+abbrev pub withRow : ℕ → ℕ → List ℕ → List ℕ → List ℕ
+withRow width j row list = take (j * width) list ++ (row ++ drop (j * width + width) list)
+
+-- row j, painted, stands in its places
+pub record RowPlaced
+    (eye : Vec) (ray : ℕ → Vec) (walk : List Patch) (width j : ℕ) (picture unlit picture′ unlit′ : List ℕ) : Type 0 where
+  pub cells-are : picture′ ≡ withRow width j (map (shownAfter eye ray walk) (range 0 width)) picture
+  pub row-is : unlit′ ≡ withRow rowLength j (rowOf width (unlitAfter eye ray walk)) unlit
