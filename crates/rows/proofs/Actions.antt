@@ -1,14 +1,14 @@
 -- The table of actions: its rule, and what the rule says of a span and a segment.
-use mathlib.Core.Path.{_≡_, refl, sym, _∙_}
+use mathlib.Core.Path.{_≡_, refl, _∙_}
 use mathlib.Core.Bool.{Bool, true, false, cond, _&&_, Bool·beq}
-use mathlib.Core.List.{List, [], _∷_}
-use Prim.Native.Nat.{ℕ, zero, suc, _+_, _*_, _/_, _%_, _≤_, _<_}
+use mathlib.Core.List.{List}
+use Prim.Native.Nat.{ℕ, _+_, _*_, _/_, _%_, _≤_, _<_}
 use native.Mathlib.Omega.{arith}
 use lib.Dec.{T, eqb, leb, ltb, leb·zero}
 use lib.ListN.{length, getD}
 use borrow.Author.Tests.{lt-ltb, le-ltb, le-leb, lt-leb}
+use Rattle.model.proofs.Tests.{both}
 use Rattle.rows.specs.Step.{Starts, by-start, inside, beyond, Ends, ahead, within-it, at-end, past, Acts}
-use Rattle.rows.proofs.Tests.{and-both}
 use Rattle.rows.proofs.Table.{obeys, entry}
 
 -- the parts of an action code
@@ -45,47 +45,47 @@ beq-path true false t = absurd t
 beq-path false true t = absurd t
 beq-path false false t = refl
 
-pub start-below : {first min max a : ℕ} → Starts first min max a → a < 3
+pub start-below : {first left right a : ℕ} → Starts first left right a → a < 3
 start-below (by-start p) = omega arith
 start-below (inside p q) = omega arith
 start-below (beyond p) = omega arith
 
-pub end-below : {last min max b : ℕ} → Ends last min max b → b < 4
+pub end-below : {last left right b : ℕ} → Ends last left right b → b < 4
 end-below (ahead p) = omega arith
 end-below (within-it p q) = omega arith
 end-below (at-end p) = omega arith
 end-below (past p) = omega arith
 
-module _ (first last min max : ℕ) (span : first ≤ last) (segment : min ≤ max) where
-  start-inside : {a : ℕ} → Starts first min max a → ltb a 2 ≡ leb first max
-  start-inside (by-start p) = rw (le-leb first max (omega arith))
-  start-inside (inside p q) = rw (le-leb first max q)
-  start-inside (beyond p) = rw (lt-leb first max p)
+module _ (first last left right : ℕ) (span : first ≤ last) (segment : left ≤ right) where
+  start-inside : {a : ℕ} → Starts first left right a → ltb a 2 ≡ leb first right
+  start-inside (by-start p) = rw (le-leb first right (omega arith))
+  start-inside (inside p q) = rw (le-leb first right q)
+  start-inside (beyond p) = rw (lt-leb first right p)
 
-  start-before : {a : ℕ} → Starts first min max a → ltb 0 a ≡ ltb min first
-  start-before (by-start p) = rw (le-ltb min first p)
-  start-before (inside p q) = rw (lt-ltb min first p)
-  start-before (beyond p) = rw (lt-ltb min first (omega arith))
+  start-before : {a : ℕ} → Starts first left right a → ltb 0 a ≡ ltb left first
+  start-before (by-start p) = rw (le-ltb left first p)
+  start-before (inside p q) = rw (lt-ltb left first p)
+  start-before (beyond p) = rw (lt-ltb left first (omega arith))
 
-  end-inside : {b : ℕ} → Ends last min max b → ltb 0 b ≡ leb min last
-  end-inside (ahead p) = rw (lt-leb min last p)
-  end-inside (within-it p q) = rw (le-leb min last p)
-  end-inside (at-end p) = rw (le-leb min last (omega arith))
-  end-inside (past p) = rw (le-leb min last (omega arith))
+  end-inside : {b : ℕ} → Ends last left right b → ltb 0 b ≡ leb left last
+  end-inside (ahead p) = rw (lt-leb left last p)
+  end-inside (within-it p q) = rw (le-leb left last p)
+  end-inside (at-end p) = rw (le-leb left last (omega arith))
+  end-inside (past p) = rw (le-leb left last (omega arith))
 
-  end-after : {b : ℕ} → Ends last min max b → ltb b 2 ≡ ltb last max
-  end-after (ahead p) = rw (lt-ltb last max (omega arith))
-  end-after (within-it p q) = rw (lt-ltb last max q)
-  end-after (at-end p) = rw (le-ltb last max (omega arith))
-  end-after (past p) = rw (le-ltb last max (omega arith))
+  end-after : {b : ℕ} → Ends last left right b → ltb b 2 ≡ ltb last right
+  end-after (ahead p) = rw (lt-ltb last right (omega arith))
+  end-after (within-it p q) = rw (lt-ltb last right q)
+  end-after (at-end p) = rw (le-ltb last right (omega arith))
+  end-after (past p) = rw (le-ltb last right (omega arith))
 
-  end-next : {b : ℕ} → Ends last min max b → eqb b 3 ≡ ltb max last
-  end-next (ahead p) = rw (le-ltb max last (omega arith))
-  end-next (within-it p q) = rw (le-ltb max last (omega arith))
-  end-next (at-end p) = rw (le-ltb max last (omega arith))
-  end-next (past p) = rw (lt-ltb max last p)
+  end-next : {b : ℕ} → Ends last left right b → eqb b 3 ≡ ltb right last
+  end-next (ahead p) = rw (le-ltb right last (omega arith))
+  end-next (within-it p q) = rw (le-ltb right last (omega arith))
+  end-next (at-end p) = rw (le-ltb right last (omega arith))
+  end-next (past p) = rw (lt-ltb right last p)
 
-  together : {a b : ℕ} → Starts first min max a → Ends last min max b → possible a b ≡ true
+  together : {a b : ℕ} → Starts first left right a → Ends last left right b → possible a b ≡ true
   together {b} (by-start p) e = leb·zero b
   together (inside p q) (ahead r) = absurd (omega arith)
   together (inside p q) (within-it r t) = refl
@@ -96,12 +96,14 @@ module _ (first last min max : ℕ) (span : first ≤ last) (segment : min ≤ m
   together (beyond p) (at-end r) = absurd (omega arith)
   together (beyond p) (past r) = refl
 
-  acts : (a b code : ℕ) → Starts first min max a → Ends last min max b → T (rule a b code) → Acts first last min max (paints code) (keepsBefore code) (keepsAfter code) (goesOn code)
+  acts :
+      (a b code : ℕ) → Starts first left right a → Ends last left right b → T (rule a b code) →
+      Acts first last left right (paints code) (keepsBefore code) (keepsAfter code) (goesOn code)
   acts a b code s e t =
       let r = rw (together s e) at t in
-      let p = and-both (Bool·beq (paints code) (ltb a 2 && ltb 0 b)) _ r in
-      let q = and-both (Bool·beq (keepsBefore code) (ltb 0 a)) _ (p .1) in
-      let u = and-both (Bool·beq (keepsAfter code) (ltb b 2)) _ (q .1) in
+      let p = both (Bool·beq (paints code) (ltb a 2 && ltb 0 b)) _ .0 r in
+      let q = both (Bool·beq (keepsBefore code) (ltb 0 a)) _ .0 (p .1) in
+      let u = both (Bool·beq (keepsAfter code) (ltb b 2)) _ .0 (q .1) in
       record {
         paint-is = beq-path (paints code) (ltb a 2 && ltb 0 b) (p .0) ∙ rw (start-inside s, end-inside e);
         before-is = beq-path (keepsBefore code) (ltb 0 a) (q .0) ∙ start-before s;
@@ -110,8 +112,12 @@ module _ (first last min max : ℕ) (span : first ≤ last) (segment : min ≤ m
       }
 
   -- a table that obeys the rule at each entry says what to do
-  pub acts-by : (codes : List ℕ) → T (obeys test 0 codes) → length codes ≡ 12 → (a b : ℕ) → Starts first min max a → Ends last min max b → let code : ℕ = getD codes (4 * a + b) 0 in Acts first last min max (paints code) (keepsBefore code) (keepsAfter code) (goesOn code)
-  acts-by codes t l a b s e =
+  pub acts-by :
+      (codes : List ℕ) → length codes ≡ 12 → (a b : ℕ) → Starts first left right a → Ends last left right b →
+      T (obeys test 0 codes) →
+      let code : ℕ = getD codes (4 * a + b) 0 in
+      Acts first last left right (paints code) (keepsBefore code) (keepsAfter code) (goesOn code)
+  acts-by codes l a b s e t =
       let k : ℕ = 4 * a + b in
       let code : ℕ = getD codes k 0 in
       let p : k / 4 ≡ a = omega (arith, end-below e) in

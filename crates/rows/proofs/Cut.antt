@@ -1,18 +1,19 @@
 -- The segments that a span leaves.
-use mathlib.Core.Path.{_≡_, refl, sym, ap, subst, _∙_}
+use mathlib.Core.Path.{_≡_, refl, sym, _∙_}
 use mathlib.Core.Logic.{_⊎_, inl, inr}
 use mathlib.Core.Bool.{Bool, true, false, not, _&&_, _||_, and-false, or-false, or-true, or-assoc, and-or-distrib-left, and-or-distrib-right}
 use mathlib.Core.List.{List, [], _∷_, _++_, append-assoc}
-use Prim.Native.Nat.{ℕ, zero, suc, _+_, _*_, _-_, _≤_, _<_, min, max}
+use Prim.Native.Nat.{ℕ, suc, _+_, _-_, _≤_, _<_, min, max}
 use native.Mathlib.Omega.{arith}
-use lib.Dec.{T, leb, ltb, leb→le, ltb→lt, le→leb, lt→ltb, nleb→lt, not-T}
-use borrow.Author.Tests.{lt-ltb, le-ltb, le-leb, lt-leb, ltb-true, ltb-false}
+use lib.Dec.{T, ltb, ltb→lt, lt→ltb}
+use borrow.Author.Tests.{lt-ltb, le-ltb, le-leb, lt-leb}
 use Rattle.model.specs.Row.{Segment, segments, afterSpan}
+use Rattle.model.proofs.Tests.{both}
 use Rattle.rows.specs.Span.{inSpan}
 use Rattle.rows.specs.Step.{piece, keptBefore, keptAfter, kept}
-use Rattle.rows.proofs.Tests.{lt-or-ge, same-test, and-both, both-and}
+use Rattle.rows.proofs.Tests.{lt-or-ge, same-test}
 use Rattle.rows.specs.Segments.{within, Placed, Ordered, none, more}
-use Rattle.rows.proofs.Segments.{lower, member, within-inside, within-before, within-after, within-bounds, bounds-within}
+use Rattle.rows.proofs.Segments.{lower, member, within-bounds, bounds-within}
 use Rattle.rows.proofs.Sets.{segments-ordered, segments-member, segments-unique}
 
 pub member-append : (ss ts : List Segment) (i : ℕ) → member (ss ++ ts) i ≡ (member ss i || member ts i)
@@ -37,9 +38,6 @@ against first last i = go (lt-or-ge i first) (lt-or-ge last i)
 pub span-ahead : (first last i : ℕ) → i < first → inSpan first last i ≡ false
 span-ahead first last i a = rw (lt-leb first i a)
 
-span-covered : (first last i : ℕ) → first ≤ i → i ≤ last → inSpan first last i ≡ true
-span-covered first last i a b = rw (le-leb first i a, le-leb i last b)
-
 pub span-behind : (first last i : ℕ) → last < i → inSpan first last i ≡ false
 span-behind first last i a = rw (lt-leb i last a, and-false)
 
@@ -54,15 +52,15 @@ member-before-span first s i =
     member-piece (ltb (s .offset) first) p i
     ∙ same-test (ltb (s .offset) first && within p i) (within s i && ltb i first)
     (λ t.
-    let a = and-both (ltb (s .offset) first) (within p i) t in
+    let a = both (ltb (s .offset) first) (within p i) .0 t in
     let b = within-bounds p i (a .1) in
     let c = ltb→lt (s .offset) first (a .0) in
-    both-and (within s i) (ltb i first) (bounds-within s i (omega arith) (omega arith)) (lt→ltb i first (omega arith)))
+    both (within s i) (ltb i first) .1 (bounds-within s i (omega arith) (omega arith), lt→ltb i first (omega arith)))
     (λ t.
-    let a = and-both (within s i) (ltb i first) t in
+    let a = both (within s i) (ltb i first) .0 t in
     let b = within-bounds s i (a .0) in
     let c = ltb→lt i first (a .1) in
-    both-and (ltb (s .offset) first) (within p i) (lt→ltb (s .offset) first (omega arith)) (bounds-within p i (omega arith) (omega arith)))
+    both (ltb (s .offset) first) (within p i) .1 (lt→ltb (s .offset) first (omega arith), bounds-within p i (omega arith) (omega arith)))
   where
     p : Segment
     p = record { offset = s .offset; count = min (first - s .offset) (s .count) }
@@ -73,15 +71,15 @@ member-after-span last s i =
     member-piece (ltb (suc last) (s .offset + s .count)) p i
     ∙ same-test (ltb (suc last) (s .offset + s .count) && within p i) (within s i && ltb last i)
     (λ t.
-    let a = and-both (ltb (suc last) (s .offset + s .count)) (within p i) t in
+    let a = both (ltb (suc last) (s .offset + s .count)) (within p i) .0 t in
     let b = within-bounds p i (a .1) in
     let c = ltb→lt (suc last) (s .offset + s .count) (a .0) in
-    both-and (within s i) (ltb last i) (bounds-within s i (omega arith) (omega arith)) (lt→ltb last i (omega arith)))
+    both (within s i) (ltb last i) .1 (bounds-within s i (omega arith) (omega arith), lt→ltb last i (omega arith)))
     (λ t.
-    let a = and-both (within s i) (ltb last i) t in
+    let a = both (within s i) (ltb last i) .0 t in
     let b = within-bounds s i (a .0) in
     let c = ltb→lt last i (a .1) in
-    both-and (ltb (suc last) (s .offset + s .count)) (within p i) (lt→ltb (suc last) (s .offset + s .count) (omega arith)) (bounds-within p i (omega arith) (omega arith)))
+    both (ltb (suc last) (s .offset + s .count)) (within p i) .1 (lt→ltb (suc last) (s .offset + s .count) (omega arith), bounds-within p i (omega arith) (omega arith)))
   where
     p : Segment
     p = record { offset = max (s .offset) (suc last); count = s .offset + s .count - max (s .offset) (suc last) }
@@ -114,11 +112,16 @@ member-cut first last (s ∷ ss) i =
     (sym (and-or-distrib-right (within s i) (member ss i) (not (inSpan first last i))))
 
 -- a piece before further segments
-piece-ordered : {width : ℕ} (low : ℕ) (b : Bool) (s : Segment) {ss : List Segment} (high : ℕ) → (T b → Placed width low s × (s .offset + s .count < high)) → low ≤ high → Ordered width high ss → Ordered width low (piece b s ++ ss)
+piece-ordered :
+    {width : ℕ} (low : ℕ) (b : Bool) (s : Segment) {ss : List Segment} (high : ℕ) →
+    (T b → Placed width low s × (s .offset + s .count < high)) → low ≤ high → Ordered width high ss →
+    Ordered width low (piece b s ++ ss)
 piece-ordered low true s high p h o = more low s (p tt .0) (lower (suc (s .offset + s .count)) (p tt .1) o)
 piece-ordered low false s high p h o = lower low h o
 
-pub kept-ordered : {width : ℕ} (low first last : ℕ) → first ≤ last → (s : Segment) {ss : List Segment} → Placed width low s → Ordered width (suc (s .offset + s .count)) ss → Ordered width low (kept first last s ++ ss)
+pub kept-ordered :
+    {width : ℕ} (low first last : ℕ) → first ≤ last → (s : Segment) {ss : List Segment} → Placed width low s →
+    Ordered width (suc (s .offset + s .count)) ss → Ordered width low (kept first last s ++ ss)
 unfolding kept keptBefore keptAfter
 kept-ordered {width} low first last h s {ss} p o =
     let end : ℕ = s .offset + s .count in
@@ -133,13 +136,17 @@ kept-ordered {width} low first last h s {ss} p o =
     (omega arith)
     o))
 
-cut-ordered : {width low : ℕ} (first last : ℕ) → first ≤ last → {ss : List Segment} → Ordered width low ss → Ordered width low (cut first last ss)
+cut-ordered :
+    {width low : ℕ} (first last : ℕ) → first ≤ last → {ss : List Segment} → Ordered width low ss →
+    Ordered width low (cut first last ss)
 unfolding cut
 cut-ordered first last h none = none
 cut-ordered first last h (more low s p o) = kept-ordered low first last h s p (cut-ordered first last h o)
 
 -- the segments of what a span leaves
-pub segments-cut : (width : ℕ) (unlit : ℕ → Bool) (first last : ℕ) → first ≤ last → segments width (afterSpan unlit first last) ≡ cut first last (segments width unlit)
+pub segments-cut :
+    (width : ℕ) (unlit : ℕ → Bool) (first last : ℕ) → first ≤ last →
+    segments width (afterSpan unlit first last) ≡ cut first last (segments width unlit)
 segments-cut width unlit first last h =
     segments-unique width (afterSpan unlit first last) (cut first last (segments width unlit))
     (cut-ordered first last h (segments-ordered width unlit))

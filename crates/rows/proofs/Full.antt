@@ -1,17 +1,17 @@
 -- The row of a set that is empty, the row of all columns, and the span that is empty.
-use mathlib.Core.Path.{_≡_, refl, sym, ap, subst, _∙_}
+use mathlib.Core.Path.{_≡_, refl, sym, _∙_}
 use mathlib.Core.Logic.{_⊎_, inl, inr}
-use mathlib.Core.Bool.{Bool, true, false, not, _&&_, _||_, and-true, and-false, or-true}
+use mathlib.Core.Bool.{Bool, true, false, not, _||_, and-true, and-false, or-true}
 use mathlib.Core.List.{List, [], _∷_, _++_}
 use Prim.Native.Nat.{ℕ, zero, suc, _+_, _*_, _-_, _≤_, _<_}
 use native.Mathlib.Omega.{arith}
 use lib.Dec.{eqb}
-use lib.ListN.{length, getD, set, replicate}
-use borrow.Author.Tests.{eq-eqb, ne-eqb}
+use lib.ListN.{length, getD, set}
+use borrow.Author.Tests.{ne-eqb}
 use Rattle.model.specs.Lists.{any, range}
 use Rattle.model.specs.Row.{Segment, segments, numbersOf, rowOf, afterSpan}
-use Rattle.rows.specs.Span.{inSpan, painted, allLit, Lays, Reports}
-use Rattle.rows.specs.Segments.{within, Placed, Ordered, none, more}
+use Rattle.rows.specs.Span.{inSpan, allLit, Lays, Reports}
+use Rattle.rows.specs.Segments.{Ordered, none, more}
 use Rattle.rows.proofs.Tests.{lt-or-ge}
 use Rattle.rows.proofs.Segments.{member, within-inside}
 use Rattle.rows.proofs.Sets.{segments-ordered, segments-member, segments-unique}
@@ -19,11 +19,11 @@ use Rattle.rows.proofs.Rows.{zeros, row-parts, row-congr}
 use Rattle.rows.proofs.Cut.{span-ahead, span-behind}
 use Rattle.rows.proofs.Painting.{painted-none}
 
-any-none : (unlit : ℕ → Bool) (n i : ℕ) → ((j : ℕ) → i ≤ j → j < i + n → unlit j ≡ false) → any unlit (range i n) ≡ false
+pub any-none : (unlit : ℕ → Bool) (n i : ℕ) → ((j : ℕ) → i ≤ j → j < i + n → unlit j ≡ false) → any unlit (range i n) ≡ false
 any-none unlit zero i clear = refl
 any-none unlit (suc n) i clear = rw (clear i (omega arith) (omega arith)) (any-none unlit n (suc i) (λ j h l. clear j (omega arith) (omega arith)))
 
-any-some : (unlit : ℕ → Bool) (n i j : ℕ) → i ≤ j → j < i + n → unlit j ≡ true → any unlit (range i n) ≡ true
+pub any-some : (unlit : ℕ → Bool) (n i j : ℕ) → i ≤ j → j < i + n → unlit j ≡ true → any unlit (range i n) ≡ true
 any-some unlit zero i j h l e = absurd (omega arith)
 any-some unlit (suc n) i j h l e = go (lt-or-ge i j) (λ k. any-some unlit n (suc i) j k (omega arith) e)
   where
@@ -40,9 +40,12 @@ second-zero (suc (suc n)) = refl
 pub first-length : (width : ℕ) → width ≤ 256 → (unlit : ℕ → Bool) → eqb (getD (rowOf width unlit) 1 0) 0 ≡ allLit width unlit
 unfolding allLit numbersOf member
 first-length width fits unlit =
-    rw (row-parts width fits unlit) (go (segments width unlit) (256 - 2 * length (segments width unlit)) (segments-ordered width unlit) (segments-member width unlit))
+    rw (row-parts width fits unlit)
+    (go (segments width unlit) (256 - 2 * length (segments width unlit)) (segments-ordered width unlit) (segments-member width unlit))
   where
-    go : (ss : List Segment) (n : ℕ) → Ordered width 0 ss → ((i : ℕ) → i < width → member ss i ≡ unlit i) → eqb (getD (numbersOf ss ++ zeros n) 1 0) 0 ≡ not (any unlit (range 0 width))
+    go :
+        (ss : List Segment) (n : ℕ) → Ordered width 0 ss → ((i : ℕ) → i < width → member ss i ≡ unlit i) →
+        eqb (getD (numbersOf ss ++ zeros n) 1 0) 0 ≡ not (any unlit (range 0 width))
     go [] n o same = rw (second-zero n, any-none unlit width 0 (λ j h l. sym (same j (omega arith))))
     go (s ∷ ss) n (more _ _ p o) same =
         rw (
@@ -50,8 +53,11 @@ first-length width fits unlit =
           any-some unlit width 0 (s .offset) (omega arith) (omega arith) (sym (same (s .offset) (omega arith)) ∙ rw (within-inside s (s .offset) (omega arith) (omega arith))),
         )
 
-pub reports : {unlit : ℕ → Bool} {first last width : ℕ} {row′ : List ℕ} → width ≤ 256 → row′ ≡ rowOf width (afterSpan unlit first last) → Reports unlit first last width (eqb (getD row′ 1 0) 0)
-reports {unlit} {first} {last} {width} fits e = record { full-is = rw e (first-length width fits (afterSpan unlit first last)) }
+pub reports :
+    {unlit : ℕ → Bool} {first last panel : ℕ} {cells row′ cells′ : List ℕ} → length cells ≤ 256 →
+    Lays unlit first last panel cells row′ cells′ → Reports unlit first last (length cells) (eqb (getD row′ 1 0) 0)
+reports {unlit} {first} {last} {panel} {cells} fits l =
+    record { full-is = rw (l .row-is) (first-length (length cells) fits (afterSpan unlit first last)) }
 
 -- the row of which every column is unlit
 all-columns : (n : ℕ) → segments (suc n) (λ (i : ℕ). true) ≡ record { offset = 0; count = suc n } ∷ []
@@ -66,11 +72,17 @@ fresh-row zero = rw (segments-unique 0 (λ (i : ℕ). true) [] none (λ i h. abs
 fresh-row (suc n) = rw (all-columns n)
 
 -- an empty span changes nothing
-pub lays-nothing : {row cells : List ℕ} (first last panel : ℕ) → last < first → (unlit : ℕ → Bool) → row ≡ rowOf (length cells) unlit → Lays unlit first last panel cells row cells
+pub lays-nothing :
+    {row cells : List ℕ} (first last panel : ℕ) → last < first → (unlit : ℕ → Bool) →
+    row ≡ rowOf (length cells) unlit → Lays unlit first last panel cells row cells
 lays-nothing {row} {cells} first last panel h unlit e =
     record {
-      row-is = e ∙ row-congr (length cells) unlit (afterSpan unlit first last) (λ i l. sym (rw (nothing i (lt-or-ge i first)) (and-true (unlit i))));
-      cells-are = sym (painted-none _ panel cells (λ i l. rw (nothing i (lt-or-ge i first)) (and-false (unlit i))));
+      row-is =
+          e
+          ∙ row-congr (length cells) unlit (afterSpan unlit first last)
+          (λ i l. sym (rw (nothing i (lt-or-ge i first)) (and-true (unlit i))));
+      cells-are =
+          sym (painted-none _ panel cells (λ i l. rw (nothing i (lt-or-ge i first)) (and-false (unlit i))));
     }
   where
     nothing : (i : ℕ) → (i < first) ⊎ (first ≤ i) → inSpan first last i ≡ false

@@ -1,18 +1,16 @@
 -- What a span leaves of a segment, case by case, and the row with it.
 use mathlib.Core.Path.{_≡_, refl, sym, ap, subst, _∙_}
 use mathlib.Core.Bool.{Bool, true, false}
-use mathlib.Core.List.{List, [], _∷_, _++_, append-assoc}
-use Prim.Native.Nat.{ℕ, suc, _+_, _*_, _-_, _≤_, _<_, min, max}
+use mathlib.Core.List.{List, [], _∷_, _++_}
+use Prim.Native.Nat.{ℕ, suc, _+_, _*_, _-_, _≤_, _<_}
 use native.Mathlib.Omega.{arith}
-use lib.Dec.{ltb}
 use lib.ListN.{length, length-append}
 use borrow.Author.Tests.{lt-ltb, le-ltb, ltb-true, ltb-false}
 use Rattle.model.specs.Row.{Segment, numbersOf}
-use Rattle.rows.specs.Segments.{Placed, rowFrom, segmentAt, written, Holds, Reads}
-use Rattle.rows.specs.Step.{piece, keptBefore, keptAfter, kept, Inserts, Removes, Overlaps, Keeps}
+use Rattle.rows.specs.Segments.{rowFrom, segmentAt, written, Holds, Reads}
+use Rattle.rows.specs.Step.{keptBefore, keptAfter, kept, Inserts, Removes, Overlaps, Keeps}
 use Rattle.rows.proofs.Segments.{segment-path, lower, tail-ordered, head-placed}
-use Rattle.rows.proofs.Rows.{zeros}
-use Rattle.rows.proofs.Numbers.{Shape, shaped, shape-row, pair-written}
+use Rattle.rows.proofs.Numbers.{shaped, shape-row, pair-written}
 use Rattle.rows.proofs.Moves.{read-here, further}
 use Rattle.rows.proofs.Turns.{read-segment}
 
@@ -37,7 +35,9 @@ one : {s t : Segment} → s .offset ≡ t .offset → s .count ≡ t .count → 
 one p q = ap (λ (x : Segment). x ∷ []) (segment-path p q)
 
 module _ (first last : ℕ) (s : Segment) where
-  before-some : s .offset < first → first < s .offset + s .count → keptBefore first s ≡ record { offset = s .offset; count = first - s .offset } ∷ []
+  before-some :
+      s .offset < first → first < s .offset + s .count →
+      keptBefore first s ≡ record { offset = s .offset; count = first - s .offset } ∷ []
   unfolding keptBefore
   before-some h l = rw (lt-ltb (s .offset) first h) (one refl (omega arith))
 
@@ -49,7 +49,9 @@ module _ (first last : ℕ) (s : Segment) where
   unfolding keptBefore
   before-all h l = rw (lt-ltb (s .offset) first (omega arith)) (one refl (omega arith))
 
-  after-some : s .offset ≤ last → suc last < s .offset + s .count → keptAfter last s ≡ record { offset = last + 1; count = s .offset + s .count - (last + 1) } ∷ []
+  after-some :
+      s .offset ≤ last → suc last < s .offset + s .count →
+      keptAfter last s ≡ record { offset = last + 1; count = s .offset + s .count - (last + 1) } ∷ []
   unfolding keptAfter
   after-some h l = rw (lt-ltb (suc last) (s .offset + s .count) l) (one (omega arith) (omega arith))
 
@@ -69,7 +71,9 @@ abbrev pub later : ℕ → ℕ → ℕ → Segment
 later last offset count = record { offset = last + 1; count = offset + count - (last + 1) }
 
 -- the segment of pair k, as it was read
-module _ {k first last offset count : ℕ} {row : List ℕ} {before after : Bool} (o : Overlaps k first last (segmentAt row k) before after) (r : Reads row k offset count) where
+module _
+    {k first last offset count : ℕ} {row : List ℕ} {before after : Bool}
+    (o : Overlaps k first last (segmentAt row k) before after) (r : Reads row k offset count) where
   abbrev s : Segment
   s = record { offset = offset; count = count }
 
@@ -81,7 +85,8 @@ module _ {k first last offset count : ℕ} {row : List ℕ} {before after : Bool
 
   -- the segments that the span leaves, given as a list
   by-list : (ts : List Segment) (row′ : List ℕ) → kept first last s ≡ ts →
-      ((width : ℕ) (done rest : List Segment) → Holds width k row done (s ∷ rest) → length done + length (ts ++ rest) ≤ 128 → row′ ≡ rowFrom (done ++ (ts ++ rest))) → Keeps k first last row row′
+      ((width : ℕ) (done rest : List Segment) → Holds width k row done (s ∷ rest) →
+      length done + length (ts ++ rest) ≤ 128 → row′ ≡ rowFrom (done ++ (ts ++ rest))) → Keeps k first last row row′
   by-list ts row′ e all =
       record {
         keeps = λ width done t rest held few.
@@ -102,7 +107,9 @@ module _ {k first last offset count : ℕ} {row : List ℕ} {before after : Bool
   pub ends-by : after ≡ false → offset + count ≤ suc last
   ends-by a = ltb-false (suc last) (offset + count) (sym (met .after-is) ∙ a)
 
-  pub keeps-both : before ≡ true → after ≡ true → {row₁ row′ : List ℕ} → row₁ ≡ written row k (prior first offset) → Inserts (k + 1) (later last offset count) row₁ row′ → Keeps k first last row row′
+  pub keeps-both :
+      before ≡ true → after ≡ true → {row₁ row′ : List ℕ} → row₁ ≡ written row k (prior first offset) →
+      Inserts (k + 1) (later last offset count) row₁ row′ → Keeps k first last row row′
   unfolding kept
   keeps-both b a {row₁} {row′} w i =
       by-list (prior first offset ∷ later last offset count ∷ []) row′
@@ -120,14 +127,18 @@ module _ {k first last offset count : ℕ} {row : List ℕ} {before after : Bool
       (omega arith)
       ∙ ap rowFrom (sym (further done (prior first offset) (later last offset count ∷ rest))))
 
-  pub keeps-before : before ≡ true → after ≡ false → {row′ : List ℕ} → row′ ≡ written row k (prior first offset) → Keeps k first last row row′
+  pub keeps-before :
+      before ≡ true → after ≡ false → {row′ : List ℕ} → row′ ≡ written row k (prior first offset) →
+      Keeps k first last row row′
   unfolding kept
   keeps-before b a {row′} w =
       by-list (prior first offset ∷ []) row′
       (rw (before-some first last s (starts-after b) (met .starts), after-none first last s (ends-by a)))
       (λ width done rest held few. w ∙ held-written held (prior first offset))
 
-  pub keeps-after : before ≡ false → after ≡ true → {row′ : List ℕ} → row′ ≡ written row k (later last offset count) → Keeps k first last row row′
+  pub keeps-after :
+      before ≡ false → after ≡ true → {row′ : List ℕ} → row′ ≡ written row k (later last offset count) →
+      Keeps k first last row row′
   unfolding kept
   keeps-after b a {row′} w =
       by-list (later last offset count ∷ []) row′

@@ -1,3 +1,5 @@
+-- The laws of rows, for callers: `Sets` (the segments of a set of columns), `Rows` (its row), `Cut` (the segments that a
+-- span leaves), `Painting` (painted cells), `Laws` (rows that are laid on). The others serve the functions' proofs.
 pub mod Tests
 pub mod Segments
 pub mod Sets
@@ -14,4 +16,5 @@ pub mod Stepping
 pub mod Sweeping
 pub mod Sweeps
 pub mod Full
+pub mod Laws
 pub mod Used

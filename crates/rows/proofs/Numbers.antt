@@ -1,12 +1,12 @@
 -- The numbers of a row: those of its segments, and then zeros. One segment after the other is moved down, or up.
-use mathlib.Core.Path.{_≡_, refl, sym, ap, subst, _∙_}
-use mathlib.Core.List.{List, [], _∷_, _++_, append-assoc, append-nil}
-use Prim.Native.Nat.{ℕ, zero, suc, _+_, _*_, _-_, _≤_, _<_}
+use mathlib.Core.Path.{_≡_, refl, sym, ap, _∙_}
+use mathlib.Core.List.{List, [], _∷_, _++_, append-assoc}
+use Prim.Native.Nat.{ℕ, suc, _+_, _*_, _-_, _≤_}
 use native.Mathlib.Omega.{arith}
-use lib.ListN.{length, getD, set, replicate, length-append}
+use lib.ListN.{length, getD, set, length-append}
 use lib.Seq.{getD-append-add, set-at}
 use Rattle.model.specs.Row.{Segment, numbersOf}
-use Rattle.rows.specs.Segments.{Placed, Ordered, none, more, rowFrom, segmentAt, written, Holds}
+use Rattle.rows.specs.Segments.{rowFrom, written}
 use Rattle.rows.proofs.Rows.{zeros, numbers-length, numbers-append, rowFrom-parts}
 
 -- the segments `passed` and `rest` and then n zeros make up the row
@@ -14,7 +14,9 @@ pub record Shape (passed rest : List Segment) (n : ℕ) (row : List ℕ) : Type 
   pub size : 2 * (length passed + length rest) + n ≡ 256
   pub row-is : row ≡ numbersOf passed ++ (numbersOf rest ++ zeros n)
 
-pub shaped : (passed rest : List Segment) → length passed + length rest ≤ 128 → Shape passed rest (256 - 2 * (length passed + length rest)) (rowFrom (passed ++ rest))
+pub shaped :
+    (passed rest : List Segment) → length passed + length rest ≤ 128 →
+    Shape passed rest (256 - 2 * (length passed + length rest)) (rowFrom (passed ++ rest))
 shaped passed rest h =
     let e : length (passed ++ rest) ≡ length passed + length rest = length-append passed rest in
     record {
@@ -28,7 +30,9 @@ shape-row {passed} {rest} {n} sh =
     sh .row-is ∙ sym (rw e at (shaped passed rest (omega arith) .row-is))
 
 -- a number of the pairs after the first ones
-pub number-at : (passed : List Segment) (ys : List ℕ) (m j : ℕ) → m ≡ 2 * length passed + j → getD (numbersOf passed ++ ys) m 0 ≡ getD ys j 0
+pub number-at :
+    (passed : List Segment) (ys : List ℕ) (m j : ℕ) → m ≡ 2 * length passed + j →
+    getD (numbersOf passed ++ ys) m 0 ≡ getD ys j 0
 number-at passed ys m j e =
     let l : m ≡ length (numbersOf passed) + j = omega (arith, numbers-length passed) in
     rw l (getD-append-add (numbersOf passed) ys j 0)
@@ -37,7 +41,9 @@ set-second : (xs : List ℕ) (a y b : ℕ) (ys : List ℕ) → set (xs ++ a ∷ 
 set-second [] a y b ys = refl
 set-second (x ∷ xs) a y b ys = ap (λ (l : List ℕ). x ∷ l) (set-second xs a y b ys)
 
-pub pair-written : (passed : List Segment) (x y : ℕ) (ys : List ℕ) (k : ℕ) (s : Segment) → length passed ≡ k → written (numbersOf passed ++ x ∷ y ∷ ys) k s ≡ numbersOf passed ++ s .offset ∷ s .count ∷ ys
+pub pair-written :
+    (passed : List Segment) (x y : ℕ) (ys : List ℕ) (k : ℕ) (s : Segment) → length passed ≡ k →
+    written (numbersOf passed ++ x ∷ y ∷ ys) k s ≡ numbersOf passed ++ s .offset ∷ s .count ∷ ys
 pair-written passed x y ys k s e =
     let l : length (numbersOf passed) ≡ 2 * k = omega (arith, numbers-length passed) in
     let m : 2 * k + 1 ≡ suc (length (numbersOf passed)) = omega arith in

@@ -19,7 +19,9 @@ unfolding paintedFrom
 from-length i columns panel [] = refl
 from-length i columns panel (cell ∷ cells) = ap suc (from-length (suc i) columns panel cells)
 
-from-at : (i : ℕ) (columns : ℕ → Bool) (panel : ℕ) (cells : List ℕ) (j : ℕ) → j < length cells → getD (paintedFrom i columns panel cells) j 0 ≡ cond (columns (i + j)) panel (getD cells j 0)
+from-at :
+    (i : ℕ) (columns : ℕ → Bool) (panel : ℕ) (cells : List ℕ) (j : ℕ) → j < length cells →
+    getD (paintedFrom i columns panel cells) j 0 ≡ cond (columns (i + j)) panel (getD cells j 0)
 unfolding paintedFrom
 from-at i columns panel [] j h = absurd (not-suc-le-zero h)
 from-at i columns panel (cell ∷ cells) zero h = rw (add-zero i)
@@ -29,16 +31,23 @@ pub painted-length : (columns : ℕ → Bool) (panel : ℕ) (cells : List ℕ) �
 painted-length = from-length 0
 
 -- a cell of the painted row
-pub painted-at : (columns : ℕ → Bool) (panel : ℕ) (cells : List ℕ) (j : ℕ) → j < length cells → getD (painted columns panel cells) j 0 ≡ cond (columns j) panel (getD cells j 0)
+pub painted-at :
+    (columns : ℕ → Bool) (panel : ℕ) (cells : List ℕ) (j : ℕ) → j < length cells →
+    getD (painted columns panel cells) j 0 ≡ cond (columns j) panel (getD cells j 0)
 painted-at columns panel cells j h = from-at 0 columns panel cells j h ∙ rw (zero-add j)
 
 -- cells that are as the columns say are the painted row
-pub painted-is : (columns : ℕ → Bool) (panel : ℕ) (cells cells′ : List ℕ) → length cells′ ≡ length cells → ((j : ℕ) → j < length cells → getD cells′ j 0 ≡ cond (columns j) panel (getD cells j 0)) → cells′ ≡ painted columns panel cells
+pub painted-is :
+    (columns : ℕ → Bool) (panel : ℕ) (cells cells′ : List ℕ) → length cells′ ≡ length cells →
+    ((j : ℕ) → j < length cells → getD cells′ j 0 ≡ cond (columns j) panel (getD cells j 0)) →
+    cells′ ≡ painted columns panel cells
 painted-is columns panel cells cells′ e at =
     ext-getD 0 cells′ (painted columns panel cells) (e ∙ sym (painted-length columns panel cells))
     (λ j h. at j (omega arith) ∙ sym (painted-at columns panel cells j (omega arith)))
 
-pub painted-congr : (u v : ℕ → Bool) (panel : ℕ) (cells : List ℕ) → ((j : ℕ) → j < length cells → u j ≡ v j) → painted u panel cells ≡ painted v panel cells
+pub painted-congr :
+    (u v : ℕ → Bool) (panel : ℕ) (cells : List ℕ) → ((j : ℕ) → j < length cells → u j ≡ v j) →
+    painted u panel cells ≡ painted v panel cells
 painted-congr u v panel cells same =
     painted-is v panel cells (painted u panel cells) (painted-length u panel cells)
     (λ j h. painted-at u panel cells j h ∙ rw (same j h))
@@ -49,7 +58,9 @@ cond-same true false panel cell = refl
 cond-same false v panel cell = refl
 
 -- painting twice
-pub painted-twice : (u v : ℕ → Bool) (panel : ℕ) (cells : List ℕ) → painted v panel (painted u panel cells) ≡ painted (λ (j : ℕ). u j || v j) panel cells
+pub painted-twice :
+    (u v : ℕ → Bool) (panel : ℕ) (cells : List ℕ) →
+    painted v panel (painted u panel cells) ≡ painted (λ (j : ℕ). u j || v j) panel cells
 painted-twice u v panel cells =
     painted-is (λ (j : ℕ). u j || v j) panel cells (painted v panel (painted u panel cells))
     (painted-length v panel (painted u panel cells) ∙ painted-length u panel cells)
@@ -89,10 +100,14 @@ module _ {from end panel : ℕ} {cells₀ cells : List ℕ} {i : ℕ} (inv : Pai
       record {
         place = omega (arith, inv .place);
         bound = omega (arith, inv .bound);
-        cells-are = painted-is (λ (j : ℕ). leb from j && ltb j (i + 1)) panel cells₀ (set cells i panel) (length-set cells i panel ∙ paint-length) (λ j l. cell j l (ℕ-discrete j i));
+        cells-are =
+            painted-is (λ (j : ℕ). leb from j && ltb j (i + 1)) panel cells₀ (set cells i panel)
+            (length-set cells i panel ∙ paint-length) (λ j l. cell j l (ℕ-discrete j i));
       }
     where
-      cell : (j : ℕ) → j < length cells₀ → Dec (j ≡ i) → getD (set cells i panel) j 0 ≡ cond (leb from j && ltb j (i + 1)) panel (getD cells₀ j 0)
+      cell :
+          (j : ℕ) → j < length cells₀ → Dec (j ≡ i) →
+          getD (set cells i panel) j 0 ≡ cond (leb from j && ltb j (i + 1)) panel (getD cells₀ j 0)
       cell j l (yes e) =
           rw (e, le-leb from i (inv .place), lt-ltb i (i + 1) (omega arith)) (getD-set-same cells i panel 0 (omega (arith, paint-length)))
       cell j l (no n) =

@@ -1,14 +1,14 @@
 -- The row of a set of unlit columns: 256 numbers, which say the set and are said by it.
-use mathlib.Core.Path.{_≡_, refl, sym, ap, subst, _∙_}
-use mathlib.Core.Bool.{Bool, true, false, _&&_, _||_, and-false}
-use mathlib.Core.List.{List, [], _∷_, _++_, map}
+use mathlib.Core.Path.{_≡_, refl, sym, ap, _∙_}
+use mathlib.Core.Bool.{Bool, _&&_}
+use mathlib.Core.List.{List, [], _∷_, _++_}
 use Prim.Native.Nat.{ℕ, zero, suc, _+_, _*_, _-_, _≤_, _<_}
 use native.Mathlib.Omega.{arith}
-use lib.Dec.{leb, ltb}
+use lib.Dec.{ltb}
 use borrow.Author.Tests.{lt-ltb}
 use lib.ListN.{length, take, replicate, length-append, length-take, length-replicate, replicate-append-replicate}
 use lib.Seq.{take-append-add, take-at}
-use Rattle.model.specs.Row.{Segment, segments, numbersOf, rowOf, rowLength, inPairs, usedPairs, Describes}
+use Rattle.model.specs.Row.{Segment, segments, numbersOf, rowOf, inPairs, usedPairs, Describes}
 use Rattle.rows.specs.Segments.{within, Ordered, none, more, rowFrom}
 use Rattle.rows.proofs.Segments.{member}
 use Rattle.rows.proofs.Sets.{segments-ordered, segments-columns, segments-congr, few}

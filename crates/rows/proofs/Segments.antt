@@ -1,6 +1,6 @@
 -- Lists of segments: in order, not empty, not touching; and the columns that they hold.
-use mathlib.Core.Path.{_≡_, refl, sym, ap, subst, _∙_}
-use mathlib.Core.Bool.{Bool, true, false, cond, _&&_, _||_, and-false}
+use mathlib.Core.Path.{_≡_, refl, sym, ap, _∙_}
+use mathlib.Core.Bool.{Bool, true, false, cond, _||_, and-false}
 use mathlib.Core.Logic.{_⊎_, inl, inr}
 use mathlib.Core.List.{List, [], _∷_, map}
 use Prim.Native.Nat.{ℕ, zero, suc, pred, _+_, _≤_, _<_}
@@ -9,15 +9,18 @@ use lib.Dec.{T, eqb, leb, ltb, leb→le, ltb→lt, le→leb, lt→ltb}
 use lib.ListN.{length}
 use borrow.Author.Tests.{eqb-true, eqb-false, eq-eqb, ne-eqb, le-leb, lt-leb, lt-ltb, le-ltb}
 use Rattle.model.specs.Lists.{range}
-use Rattle.model.specs.Row.{Segment, joined, segmentsFrom, segments}
+use Rattle.model.specs.Row.{Segment, joined, segmentsFrom}
+use Rattle.model.proofs.Tests.{both}
 use Rattle.rows.specs.Segments.{within, Placed, Ordered, none, more}
-use Rattle.rows.proofs.Tests.{lt-or-ge, and-both, both-and}
+use Rattle.rows.proofs.Tests.{lt-or-ge}
 
 pub lower : {width low : ℕ} (low′ : ℕ) {ss : List Segment} → low′ ≤ low → Ordered width low ss → Ordered width low′ ss
 lower low′ h none = none
 lower low′ h (more low s p o) = more low′ s (omega arith) o
 
-pub tail-ordered : {width low : ℕ} {s : Segment} {ss : List Segment} → Ordered width low (s ∷ ss) → Ordered width (suc (s .offset + s .count)) ss
+pub tail-ordered :
+    {width low : ℕ} {s : Segment} {ss : List Segment} → Ordered width low (s ∷ ss) →
+    Ordered width (suc (s .offset + s .count)) ss
 tail-ordered (more low s p o) = o
 
 pub head-placed : {width low : ℕ} {s : Segment} {ss : List Segment} → Ordered width low (s ∷ ss) → Placed width low s
@@ -28,7 +31,9 @@ unfolding joined
 joined-ordered i [] h o = more i (record { offset = i; count = 1 }) (omega arith) none
 joined-ordered {width} i (s ∷ ss) h (more _ _ p o) = go (eqb (s .offset) (suc i)) refl
   where
-    go : (t : Bool) → eqb (s .offset) (suc i) ≡ t → Ordered width i (cond t (record { offset = i; count = suc (s .count) } ∷ ss) (record { offset = i; count = 1 } ∷ s ∷ ss))
+    go :
+        (t : Bool) → eqb (s .offset) (suc i) ≡ t →
+        Ordered width i (cond t (record { offset = i; count = suc (s .count) } ∷ ss) (record { offset = i; count = 1 } ∷ s ∷ ss))
     go true e =
         let q : s .offset + s .count ≡ i + suc (s .count) = omega (arith, eqb-true (s .offset) (suc i) e) in
         more i (record { offset = i; count = suc (s .count) }) (omega arith) (rw q at o)
@@ -59,19 +64,21 @@ pub within-after : (s : Segment) (i : ℕ) → s .offset + s .count ≤ i → wi
 unfolding within
 within-after s i a = rw (le-ltb i (s .offset + s .count) a, and-false)
 
-pub within-tail : (s t : Segment) (i : ℕ) → s .offset ≤ i → t .offset ≤ i → s .offset + s .count ≡ t .offset + t .count → within s i ≡ within t i
+pub within-tail :
+    (s t : Segment) (i : ℕ) → s .offset ≤ i → t .offset ≤ i → s .offset + s .count ≡ t .offset + t .count →
+    within s i ≡ within t i
 unfolding within
 within-tail s t i a b e = rw (le-leb (s .offset) i a, le-leb (t .offset) i b, e)
 
 pub within-bounds : (s : Segment) (i : ℕ) → T (within s i) → (s .offset ≤ i) × (i < s .offset + s .count)
 unfolding within
 within-bounds s i t =
-    let b : T (leb (s .offset) i) × T (ltb i (s .offset + s .count)) = and-both (leb (s .offset) i) (ltb i (s .offset + s .count)) t in
+    let b : T (leb (s .offset) i) × T (ltb i (s .offset + s .count)) = both (leb (s .offset) i) (ltb i (s .offset + s .count)) .0 t in
     (leb→le (s .offset) i (b .0), ltb→lt i (s .offset + s .count) (b .1))
 
 pub bounds-within : (s : Segment) (i : ℕ) → s .offset ≤ i → i < s .offset + s .count → T (within s i)
 unfolding within
-bounds-within s i a b = both-and (leb (s .offset) i) (ltb i (s .offset + s .count)) (le→leb (s .offset) i a) (lt→ltb i (s .offset + s .count) b)
+bounds-within s i a b = both (leb (s .offset) i) (ltb i (s .offset + s .count)) .1 (le→leb (s .offset) i a, lt→ltb i (s .offset + s .count) b)
 
 -- no column below the segments is in one
 pub member-before : {width low : ℕ} {ss : List Segment} (i : ℕ) → i < low → Ordered width low ss → member ss i ≡ false
@@ -92,12 +99,16 @@ Agree unlit ss i end = (j : ℕ) → i ≤ j → j < end → unlit j ≡ member 
 pub segment-path : {s t : Segment} → s .offset ≡ t .offset → s .count ≡ t .count → s ≡ t
 segment-path p q = λ i. record { offset = p i; count = q i }
 
-joined-apart : {width : ℕ} (i : ℕ) (ss : List Segment) → Ordered width (suc (suc i)) ss → joined i ss ≡ record { offset = i; count = 1 } ∷ ss
+joined-apart :
+    {width : ℕ} (i : ℕ) (ss : List Segment) → Ordered width (suc (suc i)) ss →
+    joined i ss ≡ record { offset = i; count = 1 } ∷ ss
 unfolding joined
 joined-apart i [] o = refl
 joined-apart i (s ∷ ss) (more _ _ p o) = rw (ne-eqb (s .offset) (suc i) (λ e. omega arith))
 
-joined-touching : (i n : ℕ) (ss : List Segment) → joined i (record { offset = suc i; count = n } ∷ ss) ≡ record { offset = i; count = suc n } ∷ ss
+joined-touching :
+    (i n : ℕ) (ss : List Segment) →
+    joined i (record { offset = suc i; count = n } ∷ ss) ≡ record { offset = i; count = suc n } ∷ ss
 unfolding joined
 joined-touching i n ss = rw (eq-eqb (suc i) (suc i) refl)
 
@@ -118,7 +129,9 @@ module _ (i n end : ℕ) (unlit : ℕ → Bool) where
   unlit-here e = rw e
 
   -- the first segment begins at i
-  first-here : Rest → (s : Segment) (ss : List Segment) → i ≡ s .offset → (c : ℕ) → s .count ≡ suc c → Placed end i s → Ordered end (suc (s .offset + s .count)) ss → Agree unlit (s ∷ ss) i end → joined i rest ≡ s ∷ ss
+  first-here :
+      Rest → (s : Segment) (ss : List Segment) → i ≡ s .offset → (c : ℕ) → s .count ≡ suc c → Placed end i s →
+      Ordered end (suc (s .offset + s .count)) ss → Agree unlit (s ∷ ss) i end → joined i rest ≡ s ∷ ss
   unfolding Rest member
   first-here ih s ss at zero e p o agree =
       let after : Ordered end (suc (suc i)) ss = lower (suc (suc i)) (omega arith) o in
@@ -145,7 +158,9 @@ module _ (i n end : ℕ) (unlit : ℕ → Bool) where
           unlit-here (agree i (omega arith) h ∙ rw (within-inside s i (omega arith) (omega arith)))
           ∙ first-here ih s ss at c (omega arith) p o agree
 
-pub determined : (n i end : ℕ) (ss : List Segment) (unlit : ℕ → Bool) → i + n ≡ end → Ordered end i ss → Agree unlit ss i end → segmentsFrom i (map unlit (range i n)) ≡ ss
+pub determined :
+    (n i end : ℕ) (ss : List Segment) (unlit : ℕ → Bool) → i + n ≡ end → Ordered end i ss → Agree unlit ss i end →
+    segmentsFrom i (map unlit (range i n)) ≡ ss
 unfolding segmentsFrom Rest rest
 determined zero i end [] unlit h o agree = refl
 determined zero i end (s ∷ ss) unlit h (more _ _ p o) agree = absurd (omega arith)

@@ -1,10 +1,9 @@
 -- The segments of a set of columns hold just the set's columns below the width, and depend on nothing else of it.
-use mathlib.Core.Path.{_≡_, refl, sym, subst, _∙_}
+use mathlib.Core.Path.{_≡_, refl, sym, _∙_}
 use mathlib.Core.Logic.{_⊎_, inl, inr}
-use mathlib.Core.Bool.{Bool, true, false, cond, _&&_, _||_}
+use mathlib.Core.Bool.{Bool, true, false, cond, _&&_}
 use mathlib.Core.List.{List, [], _∷_, map}
 use Prim.Native.Nat.{ℕ, zero, suc, _+_, _*_, _-_, _≤_, _<_}
-use native.Mathlib.Nat.{zero-add}
 use native.Mathlib.Omega.{arith}
 use lib.Dec.{eqb, ltb}
 use lib.ListN.{length, length-map}
@@ -12,12 +11,9 @@ use borrow.Author.Tests.{eqb-true, lt-ltb, le-ltb}
 use Rattle.model.specs.Lists.{range}
 use Rattle.model.specs.Row.{Segment, joined, segmentsFrom, segments}
 use Rattle.rows.proofs.Tests.{lt-or-ge}
-use Rattle.rows.specs.Segments.{within, Ordered, none, more}
-use Rattle.rows.proofs.Segments.{Agree, member, within-inside, within-before, within-after, within-tail, member-before, member-beyond, segmentsFrom-ordered, determined}
-
-pub range-length : (i n : ℕ) → length (range i n) ≡ n
-range-length i zero = refl
-range-length i (suc n) = λ k. suc (range-length (suc i) n k)
+use Rattle.model.proofs.Ranges.{range-length}
+use Rattle.rows.specs.Segments.{Ordered, none, more}
+use Rattle.rows.proofs.Segments.{member, within-inside, within-after, within-tail, member-before, member-beyond, segmentsFrom-ordered, determined}
 
 ordered-from : (i n width : ℕ) (unlit : ℕ → Bool) → i + n ≤ width → Ordered width i (segmentsFrom i (map unlit (range i n)))
 ordered-from i n width unlit h = segmentsFrom-ordered i width (map unlit (range i n)) (rw (length-map, range-length) h)
@@ -29,7 +25,9 @@ module _ (i j : ℕ) (h : i < j) where
   joined-later [] = rw (within-after (record { offset = i; count = 1 }) j (omega arith))
   joined-later (s ∷ ss) = go (eqb (s .offset) (suc i)) refl
     where
-      go : (t : Bool) → eqb (s .offset) (suc i) ≡ t → member (cond t (record { offset = i; count = suc (s .count) } ∷ ss) (record { offset = i; count = 1 } ∷ s ∷ ss)) j ≡ member (s ∷ ss) j
+      go :
+          (t : Bool) → eqb (s .offset) (suc i) ≡ t →
+          member (cond t (record { offset = i; count = suc (s .count) } ∷ ss) (record { offset = i; count = 1 } ∷ s ∷ ss)) j ≡ member (s ∷ ss) j
       go true e =
           let at : s .offset ≡ suc i = eqb-true (s .offset) (suc i) e in
           rw (within-tail (record { offset = i; count = suc (s .count) }) s j (omega arith) (omega arith) (omega arith))
@@ -40,7 +38,9 @@ unfolding joined member
 joined-here i [] = rw (within-inside (record { offset = i; count = 1 }) i (omega arith) (omega arith))
 joined-here i (s ∷ ss) = go (eqb (s .offset) (suc i))
   where
-    go : (t : Bool) → member (cond t (record { offset = i; count = suc (s .count) } ∷ ss) (record { offset = i; count = 1 } ∷ s ∷ ss)) i ≡ true
+    go :
+        (t : Bool) →
+        member (cond t (record { offset = i; count = suc (s .count) } ∷ ss) (record { offset = i; count = 1 } ∷ s ∷ ss)) i ≡ true
     go true = rw (within-inside (record { offset = i; count = suc (s .count) }) i (omega arith) (omega arith))
     go false = rw (within-inside (record { offset = i; count = 1 }) i (omega arith) (omega arith))
 
@@ -53,7 +53,9 @@ member-from (suc n) i unlit j h k =
     rest : List Segment
     rest = segmentsFrom (suc i) (map unlit (range (suc i) n))
 
-    go : (t : Bool) → unlit i ≡ t → (i < j) ⊎ (j ≤ i) → (i < j → member rest j ≡ unlit j) → Ordered (suc i + n) (suc i) rest → member (segmentsFrom i (t ∷ map unlit (range (suc i) n))) j ≡ unlit j
+    go :
+        (t : Bool) → unlit i ≡ t → (i < j) ⊎ (j ≤ i) → (i < j → member rest j ≡ unlit j) →
+        Ordered (suc i + n) (suc i) rest → member (segmentsFrom i (t ∷ map unlit (range (suc i) n))) j ≡ unlit j
     go true e (inl l) ih o = joined-later i j l rest ∙ ih l
     go true e (inr l) ih o = let q : j ≡ i = omega arith in rw (q, e) (joined-here i rest)
     go false e (inl l) ih o = ih l

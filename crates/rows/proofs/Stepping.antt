@@ -1,20 +1,21 @@
 -- A span laid on one segment: the row, the cells, the next segment.
 use mathlib.Core.Path.{_≡_, refl, sym, ap, subst, subst⁻¹, _∙_}
 use mathlib.Core.Logic.{_⊎_, inl, inr, ⊎-elim}
-use mathlib.Core.Bool.{Bool, true, false, cond, _&&_, and-false}
-use mathlib.Core.List.{List, [], _∷_, _++_}
-use Prim.Native.Nat.{ℕ, suc, _+_, _*_, _-_, _≤_, _<_, min, max}
+use mathlib.Core.Bool.{Bool, true, false, cond, _&&_}
+use mathlib.Core.List.{List, [], _∷_}
+use Prim.Native.Nat.{ℕ, suc, _+_, _-_, _≤_, _<_, min, max}
 use native.Mathlib.Nat.{add-zero}
 use native.Mathlib.Omega.{arith}
 use lib.Dec.{T, leb, ltb, leb→le, le→leb}
 use lib.ListN.{length}
-use borrow.Author.Tests.{leb-true, leb-false, lt-leb}
+use borrow.Author.Tests.{leb-false}
 use Rattle.model.specs.Row.{Segment}
+use Rattle.model.proofs.Tests.{both}
 use Rattle.rows.specs.Span.{inSpan, painted}
-use Rattle.rows.specs.Segments.{within, Placed, rowFrom, segmentAt, Holds, Reads}
-use Rattle.rows.specs.Step.{piece, keptBefore, keptAfter, kept, Acts, Overlaps, Keeps, Reached, Steps}
-use Rattle.rows.proofs.Tests.{lt-or-ge, same-test, same-le, and-both, both-and, failed, and-failed}
-use Rattle.rows.proofs.Segments.{within-bounds, bounds-within, within-before, within-after}
+use Rattle.rows.specs.Segments.{within, Placed, segmentAt, Reads}
+use Rattle.rows.specs.Step.{piece, keptBefore, kept, Acts, Overlaps, Keeps, Reached, Steps}
+use Rattle.rows.proofs.Tests.{same-test, same-le, failed, and-failed}
+use Rattle.rows.proofs.Segments.{within-bounds, bounds-within}
 use Rattle.rows.proofs.Painting.{painted-congr, painted-none}
 use Rattle.rows.proofs.Turns.{read-segment}
 use Rattle.rows.proofs.Keeping.{held-segment, before-none, before-all, after-none, after-all}
@@ -24,22 +25,26 @@ advance true s k = refl
 advance false s k = sym (add-zero k)
 
 -- the columns that a span and a segment share
-shared : (first last : ℕ) (s : Segment) (i : ℕ) → 0 < s .count → inSpan (max first (s .offset)) (min last (s .offset + (s .count - 1))) i ≡ (within s i && inSpan first last i)
+shared :
+    (first last : ℕ) (s : Segment) (i : ℕ) → 0 < s .count →
+    inSpan (max first (s .offset)) (min last (s .offset + (s .count - 1))) i ≡ (within s i && inSpan first last i)
 shared first last s i h =
     same-test (inSpan a b i) (within s i && inSpan first last i)
     (λ t.
-    let p = and-both (leb a i) (leb i b) t in
+    let p = both (leb a i) (leb i b) .0 t in
     let l = leb→le a i (p .0) in
     let m = leb→le i b (p .1) in
-    both-and (within s i) (inSpan first last i) (bounds-within s i (omega arith) (omega arith))
-    (both-and (leb first i) (leb i last) (le→leb first i (omega arith)) (le→leb i last (omega arith))))
+    both (within s i) (inSpan first last i) .1 (
+      bounds-within s i (omega arith) (omega arith),
+      both (leb first i) (leb i last) .1 (le→leb first i (omega arith), le→leb i last (omega arith)),
+    ))
     (λ t.
-    let p = and-both (within s i) (inSpan first last i) t in
+    let p = both (within s i) (inSpan first last i) .0 t in
     let q = within-bounds s i (p .0) in
-    let u = and-both (leb first i) (leb i last) (p .1) in
+    let u = both (leb first i) (leb i last) .0 (p .1) in
     let l = leb→le first i (u .0) in
     let m = leb→le i last (u .1) in
-    both-and (leb a i) (leb i b) (le→leb a i (omega arith)) (le→leb i b (omega arith)))
+    both (leb a i) (leb i b) .1 (le→leb a i (omega arith), le→leb i b (omega arith)))
   where
     a : ℕ
     a = max first (s .offset)
@@ -48,23 +53,34 @@ shared first last s i h =
     b = min last (s .offset + (s .count - 1))
 
 -- a span and a segment that share none
-pub apart : (first last : ℕ) (s : Segment) → first ≤ last → 0 < s .count → (s .offset + s .count ≤ first) ⊎ (last < s .offset) → kept first last s ≡ s ∷ []
+pub apart :
+    (first last : ℕ) (s : Segment) → first ≤ last → 0 < s .count → (s .offset + s .count ≤ first) ⊎ (last < s .offset) →
+    kept first last s ≡ s ∷ []
 unfolding kept
 apart first last s h f (inl e) = rw (before-all first last s f e, after-none first last s (omega arith))
 apart first last s h f (inr e) = rw (before-none first last s (omega arith), after-all first last s f e)
 
-pub none-shared : (first last : ℕ) (s : Segment) (i : ℕ) → (s .offset + s .count ≤ first) ⊎ (last < s .offset) → (within s i && inSpan first last i) ≡ false
+pub none-shared :
+    (first last : ℕ) (s : Segment) (i : ℕ) → (s .offset + s .count ≤ first) ⊎ (last < s .offset) →
+    (within s i && inSpan first last i) ≡ false
 none-shared first last s i d =
     failed (within s i && inSpan first last i)
     (λ t.
-    let p = and-both (within s i) (inSpan first last i) t in
+    let p = both (within s i) (inSpan first last i) .0 t in
     let q = within-bounds s i (p .0) in
-    let u = and-both (leb first i) (leb i last) (p .1) in
+    let u = both (leb first i) (leb i last) .0 (p .1) in
     let l = leb→le first i (u .0) in
     let m = leb→le i last (u .1) in
     ⊎-elim (λ e. omega arith) (λ e. omega arith) d)
 
-module _ {k first last offset count : ℕ} {row cells : List ℕ} {paint before after next : Bool} (reached : Reached k first last row cells) (r : Reads row k offset count) (a : Acts first last offset (offset + (count - 1)) paint before after next) where
+-- the cells with the panel in the columns that the segment and the span share
+abbrev over : ℕ → ℕ → ℕ → List ℕ → Segment → List ℕ
+over first last panel cells s = painted (λ (i : ℕ). within s i && inSpan first last i) panel cells
+
+module _
+    {k first last offset count : ℕ} {row cells : List ℕ} {paint before after next : Bool}
+    (reached : Reached k first last row cells) (r : Reads row k offset count)
+    (a : Acts first last offset (offset + (count - 1)) paint before after next) where
   abbrev s : Segment
   s = record { offset = offset; count = count }
 
@@ -74,7 +90,7 @@ module _ {k first last offset count : ℕ} {row cells : List ℕ} {paint before 
   pub overlaps : paint ≡ true → Overlaps k first last (segmentAt row k) before after
   overlaps e =
       let t : T (leb first (offset + (count - 1)) && leb offset last) = subst T (sym e ∙ a .paint-is) tt in
-      let p = and-both (leb first (offset + (count - 1))) (leb offset last) t in
+      let p = both (leb first (offset + (count - 1))) (leb offset last) .0 t in
       let l = leb→le first (offset + (count - 1)) (p .0) in
       let m = leb→le offset last (p .1) in
       subst (λ (x : Segment). Overlaps k first last x before after) (sym (read-segment r))
@@ -84,7 +100,10 @@ module _ {k first last offset count : ℕ} {row cells : List ℕ} {paint before 
         starts = omega (arith, placed .filled);
         ends = m;
         before-is = a .before-is;
-        after-is = a .after-is ∙ same-le (suc last) (offset + (count - 1)) (suc (suc last)) (offset + count) (λ h. omega (arith, placed .filled)) (λ h. omega (arith, placed .filled));
+        after-is =
+            a .after-is
+            ∙ same-le (suc last) (offset + (count - 1)) (suc (suc last)) (offset + count)
+            (λ h. omega (arith, placed .filled)) (λ h. omega (arith, placed .filled));
       })
 
   missed : paint ≡ false → (offset + count ≤ first) ⊎ (last < offset)
@@ -97,17 +116,30 @@ module _ {k first last offset count : ℕ} {row cells : List ℕ} {paint before 
   module _ {next-k : ℕ} (n : next-k ≡ cond before (k + 1) k) where
     next-segment : next-k ≡ k + length (keptBefore first (segmentAt row k))
     unfolding keptBefore
-    next-segment = subst (λ (x : Segment). next-k ≡ k + length (keptBefore first x)) (sym (read-segment r)) (n ∙ rw (a .before-is) (advance (ltb offset first) _ k))
+    next-segment =
+        subst (λ (x : Segment). next-k ≡ k + length (keptBefore first x)) (sym (read-segment r))
+        (n ∙ rw (a .before-is) (advance (ltb offset first) _ k))
 
     goes : next ≡ leb (segmentAt row k .offset + segmentAt row k .count) last
-    goes = subst (λ (x : Segment). next ≡ leb (x .offset + x .count) last) (sym (read-segment r)) (a .next-is ∙ same-le (suc (offset + (count - 1))) last (offset + count) last (λ h. omega (arith, placed .filled)) (λ h. omega (arith, placed .filled)))
+    goes =
+        subst (λ (x : Segment). next ≡ leb (x .offset + x .count) last) (sym (read-segment r))
+        (a .next-is
+        ∙ same-le (suc (offset + (count - 1))) last (offset + count) last
+        (λ h. omega (arith, placed .filled)) (λ h. omega (arith, placed .filled)))
 
     -- the columns that the segment and the span share were painted
-    pub steps-met : {panel from to : ℕ} {row′ cells′ : List ℕ} → from ≡ max first offset → to ≡ min last (offset + (count - 1)) → cells′ ≡ painted (inSpan from to) panel cells → Keeps k first last row row′ → Steps k first last panel row cells row′ cells′ next-k next
+    pub steps-met :
+        {panel from to : ℕ} {row′ cells′ : List ℕ} → from ≡ max first offset → to ≡ min last (offset + (count - 1)) →
+        cells′ ≡ painted (inSpan from to) panel cells → Keeps k first last row row′ →
+        Steps k first last panel row cells row′ cells′ next-k next
     steps-met {panel} {from} {to} f t p kp =
         record {
           row-is = kp;
-          cells-are = p ∙ subst (λ (x : Segment). painted (inSpan from to) panel cells ≡ painted (λ (i : ℕ). within x i && inSpan first last i) panel cells) (sym (read-segment r)) (painted-congr _ _ panel cells (λ i h. rw (f, t) (shared first last s i (placed .filled))));
+          cells-are =
+              p
+              ∙ painted-congr (inSpan from to) (λ (i : ℕ). within s i && inSpan first last i) panel cells
+              (λ i h. rw (f, t) (shared first last s i (placed .filled)))
+              ∙ ap (over first last panel cells) (sym (read-segment r));
           next-is = next-segment;
           go-is = goes;
         }
@@ -119,10 +151,14 @@ module _ {k first last offset count : ℕ} {row cells : List ℕ} {paint before 
           row-is = record {
             keeps = λ width done t rest held few.
                 let q : t ≡ s = sym (held-segment held) ∙ read-segment r in
-                let f : kept first last t ≡ t ∷ [] = subst⁻¹ (λ (x : Segment). kept first last x ≡ x ∷ []) q (apart first last s (reached .span) (placed .filled) (missed e)) in
+                let f : kept first last t ≡ t ∷ [] =
+                subst⁻¹ (λ (x : Segment). kept first last x ≡ x ∷ []) q
+                (apart first last s (reached .span) (placed .filled) (missed e)) in
                 rw f (held .row-is);
           };
-          cells-are = subst (λ (x : Segment). cells ≡ painted (λ (i : ℕ). within x i && inSpan first last i) panel cells) (sym (read-segment r)) (sym (painted-none _ panel cells (λ i h. none-shared first last s i (missed e))));
+          cells-are =
+              sym (painted-none _ panel cells (λ i h. none-shared first last s i (missed e)))
+              ∙ ap (over first last panel cells) (sym (read-segment r));
           next-is = next-segment;
           go-is = goes;
         }

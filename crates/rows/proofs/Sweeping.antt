@@ -1,6 +1,6 @@
 -- The loop that lays a span on one segment after the other.
-use mathlib.Core.Path.{_≡_, refl, sym, ap, subst, subst⁻¹, _∙_}
-use mathlib.Core.Logic.{_⊎_, inl, inr, ⊎-elim}
+use mathlib.Core.Path.{_≡_, refl, sym, ap, subst, _∙_}
+use mathlib.Core.Logic.{_⊎_, inl, inr}
 use mathlib.Core.Bool.{Bool, true, false, _&&_, _||_, and-false, and-or-distrib-right}
 use mathlib.Core.List.{List, [], _∷_, _++_, append-assoc, append-nil}
 use Prim.Native.Nat.{ℕ, suc, _+_, _*_, _-_, _≤_, _<_, min}
@@ -10,8 +10,8 @@ use lib.ListN.{length, length-append}
 use borrow.Author.Tests.{leb-true, leb-false}
 use Rattle.model.specs.Row.{Segment, numbersOf, segments, rowOf, afterSpan}
 use Rattle.rows.specs.Span.{inSpan, painted, Row, Lays}
-use Rattle.rows.specs.Segments.{within, Placed, Ordered, none, more, rowFrom, segmentAt, Holds, Reads}
-use Rattle.rows.specs.Step.{piece, keptBefore, keptAfter, kept, Reached, Keeps, Steps}
+use Rattle.rows.specs.Segments.{within, Placed, Ordered, none, more, rowFrom, segmentAt, Holds}
+use Rattle.rows.specs.Step.{piece, keptBefore, kept, Steps}
 use Rattle.rows.proofs.Tests.{lt-or-ge}
 use Rattle.rows.proofs.Segments.{member, lower, tail-ordered, head-placed, member-before}
 use Rattle.rows.proofs.Sets.{segments-ordered, segments-member, few}
@@ -21,7 +21,7 @@ use Rattle.rows.proofs.Painting.{painted-length, painted-congr, painted
 use Rattle.rows.proofs.Numbers.{shaped}
 use Rattle.rows.proofs.Moves.{read-here, two-zeros}
 use Rattle.rows.proofs.Keeping.{held-segment, after-none}
-use Rattle.rows.proofs.Stepping.{apart, none-shared}
+use Rattle.rows.proofs.Stepping.{apart}
 
 -- the span has been laid on the segments before `rest`; it is still to be laid on these
 pub record Sweeping (row₀ cells₀ : List ℕ) (first last panel : ℕ) (row cells : List ℕ) (k looked : ℕ) (rest : List Segment) : Type 0 where
@@ -38,7 +38,9 @@ pub record Sweeping (row₀ cells₀ : List ℕ) (first last panel : ℕ) (row c
       painted (λ (i : ℕ). unlit i && inSpan first last i) panel cells₀
       ≡ painted (λ (i : ℕ). member rest i && inSpan first last i) panel cells
 
-pub sweep-starts : {row cells : List ℕ} (first last panel : ℕ) → (r : Row (length cells) row) → Sweeping row cells first last panel row cells 0 0 (segments (length cells) (r .unlit))
+pub sweep-starts :
+    {row cells : List ℕ} (first last panel : ℕ) → (r : Row (length cells) row) →
+    Sweeping row cells first last panel row cells 0 0 (segments (length cells) (r .unlit))
 unfolding rowOf rowFrom
 sweep-starts {row} {cells} first last panel r =
     record {
@@ -59,19 +61,26 @@ sweep-starts {row} {cells} first last panel r =
       cells-law = painted-congr _ _ panel cells (λ i h. rw (segments-member (length cells) (r .unlit) i h));
     }
 
--- what is to be shown at the end, for every set that the row at entry describes
+-- what is to be shown at the end, for every set of which the row at entry is the row
 abbrev pub Swept : List ℕ → List ℕ → ℕ → ℕ → ℕ → List ℕ → List ℕ → Type 0
 Swept row₀ cells₀ first last panel row cells =
     (unlit : ℕ → Bool) → row₀ ≡ rowOf (length cells₀) unlit → Lays unlit first last panel cells₀ row cells
 
 -- the row and the cells are as the law says for one such set, so for every one
-pub swept : {row₀ cells₀ : List ℕ} {first last panel : ℕ} {row cells : List ℕ} (unlit : ℕ → Bool) → first ≤ last → length cells₀ ≤ 256 → row₀ ≡ rowOf (length cells₀) unlit → row ≡ rowFrom (cut first last (segments (length cells₀) unlit)) → cells ≡ painted (λ (i : ℕ). unlit i && inSpan first last i) panel cells₀ → Swept row₀ cells₀ first last panel row cells
+pub swept :
+    {row₀ cells₀ : List ℕ} {first last panel : ℕ} {row cells : List ℕ} (unlit : ℕ → Bool) → first ≤ last →
+    length cells₀ ≤ 256 → row₀ ≡ rowOf (length cells₀) unlit →
+    row ≡ rowFrom (cut first last (segments (length cells₀) unlit)) →
+    cells ≡ painted (λ (i : ℕ). unlit i && inSpan first last i) panel cells₀ →
+    Swept row₀ cells₀ first last panel row cells
 unfolding rowOf rowFrom
 swept {row₀} {cells₀} {first} {last} {panel} u span fits start r c v e =
     let w : ℕ = length cells₀ in
     let same : (i : ℕ) → i < w → u i ≡ v i = row-determines w fits u v (sym start ∙ e) in
     record {
-      row-is = r ∙ ap rowFrom (sym (segments-cut w u first last span)) ∙ row-congr w (afterSpan u first last) (afterSpan v first last) (λ i h. rw (same i h));
+      row-is =
+          r ∙ ap rowFrom (sym (segments-cut w u first last span))
+          ∙ row-congr w (afterSpan u first last) (afterSpan v first last) (λ i h. rw (same i h));
       cells-are = c ∙ painted-congr _ _ panel cells₀ (λ i h. rw (same i h));
     }
 
@@ -81,7 +90,8 @@ unfolding numbersOf
 held-end {w} {k} {row} {done} held h =
     let z : Segment = record { offset = 0; count = 0 } in
     let n : ℕ = 256 - 2 * (length done + 0) in
-    let e : row ≡ numbersOf done ++ 0 ∷ 0 ∷ zeros (n - 2) = held .row-is ∙ shaped done [] (held .few) .row-is ∙ rw (two-zeros n (omega (arith, held .place))) in
+    let e : row ≡ numbersOf done ++ 0 ∷ 0 ∷ zeros (n - 2) =
+    held .row-is ∙ shaped done [] (held .few) .row-is ∙ rw (two-zeros n (omega (arith, held .place))) in
     ap (λ (r : List ℕ). segmentAt r k .count) e ∙ ap (λ (x : Segment). x .count) (read-here done z (zeros (n - 2)) k (held .place))
 
 -- the segments after one that ends beyond the span are left as they are
@@ -99,7 +109,10 @@ one-before first s = go (ltb (s .offset) first)
     go false = omega arith
 
 -- the span was laid on the first segment of those left
-module _ {row₀ cells₀ : List ℕ} {first last panel : ℕ} (span : first ≤ last) {row cells : List ℕ} {k looked : ℕ} {s : Segment} {ss : List Segment} (inv : Sweeping row₀ cells₀ first last panel row cells k looked (s ∷ ss)) {row′ cells′ : List ℕ} {next : ℕ} {go : Bool} (step : Steps k first last panel row cells row′ cells′ next go) where
+module _
+    {row₀ cells₀ : List ℕ} {first last panel : ℕ} (span : first ≤ last) {row cells : List ℕ} {k looked : ℕ}
+    {s : Segment} {ss : List Segment} (inv : Sweeping row₀ cells₀ first last panel row cells k looked (s ∷ ss))
+    {row′ cells′ : List ℕ} {next : ℕ} {go : Bool} (step : Steps k first last panel row cells row′ cells′ next go) where
   placed : Placed (length cells₀) (2 * k) s
   placed = head-placed (inv .held .ordered)
 
@@ -111,7 +124,9 @@ module _ {row₀ cells₀ : List ℕ} {first last panel : ℕ} (span : first ≤
 
   -- a split needs no pair that is not there
   room : length (inv .done) + length (kept first last s ++ ss) ≤ 128
-  room = omega (arith, few (kept-ordered (2 * k) first last span s placed after), inv .held .place, placed .filled, placed .inside, placed .from, inv .fits)
+  room =
+      let o = few (kept-ordered (2 * k) first last span s placed after) in
+      omega (arith, inv .held .place, placed .filled, placed .inside, placed .from, inv .fits)
 
   laid-row : row′ ≡ rowFrom (inv .done ++ (kept first last s ++ ss))
   laid-row = step .row-is .keeps (length cells₀) (inv .done) s ss (inv .held) room
@@ -120,11 +135,14 @@ module _ {row₀ cells₀ : List ℕ} {first last panel : ℕ} (span : first ≤
   laid-here =
       subst (λ (x : Segment). cells′ ≡ painted (λ (i : ℕ). within x i && inSpan first last i) panel cells) here (step .cells-are)
 
-  laid-cells : painted (λ (i : ℕ). inv .unlit i && inSpan first last i) panel cells₀ ≡ painted (λ (i : ℕ). member ss i && inSpan first last i) panel cells′
+  laid-cells :
+      painted (λ (i : ℕ). inv .unlit i && inSpan first last i) panel cells₀
+      ≡ painted (λ (i : ℕ). member ss i && inSpan first last i) panel cells′
   unfolding member
   laid-cells =
       inv .cells-law
-      ∙ painted-congr _ (λ (i : ℕ). (within s i && inSpan first last i) || (member ss i && inSpan first last i)) panel cells (λ i h. and-or-distrib-right (within s i) (member ss i) (inSpan first last i))
+      ∙ painted-congr _ (λ (i : ℕ). (within s i && inSpan first last i) || (member ss i && inSpan first last i)) panel cells
+      (λ i h. and-or-distrib-right (within s i) (member ss i) (inSpan first last i))
       ∙ sym (painted-twice (λ (i : ℕ). within s i && inSpan first last i) (λ (i : ℕ). member ss i && inSpan first last i) panel cells)
       ∙ ap (painted (λ (i : ℕ). member ss i && inSpan first last i) panel) (sym laid-here)
 
@@ -149,7 +167,8 @@ module _ {row₀ cells₀ : List ℕ} {first last panel : ℕ} (span : first ≤
       let h : s .offset + s .count ≤ last = leb-true (s .offset + s .count) last (sym go-here ∙ e) in
       let n : next ≡ k + length (keptBefore first s) = subst (λ (x : Segment). next ≡ k + length (keptBefore first x)) here (step .next-is) in
       let q : length (kept first last s) ≡ length (keptBefore first s) = rw (after-none first last s (omega arith), append-nil) in
-      let l : length (inv .done ++ kept first last s) ≡ length (inv .done) + length (kept first last s) = length-append (inv .done) (kept first last s) in
+      let l : length (inv .done ++ kept first last s) ≡ length (inv .done) + length (kept first last s) =
+      length-append (inv .done) (kept first last s) in
       let m : length (kept first last s ++ ss) ≡ length (kept first last s) + length ss = length-append (kept first last s) ss in
       let u : length (keptBefore first s) ≤ 1 = one-before first s in
       record {

@@ -31,7 +31,9 @@ module _ {row₀ cells₀ : List ℕ} {first last panel : ℕ} (span : first ≤
       (sym (inv .cells-law ∙ painted-none _ panel cells (λ i h. refl)))
 
   -- no segment is left
-  pub sweep-out : {rest : List Segment} → Sweeping row₀ cells₀ first last panel row cells k looked rest → 128 ≤ looked → Swept row₀ cells₀ first last panel row cells
+  pub sweep-out :
+      {rest : List Segment} → Sweeping row₀ cells₀ first last panel row cells k looked rest → 128 ≤ looked →
+      Swept row₀ cells₀ first last panel row cells
   sweep-out {rest = []} inv h = sweep-empty inv
   sweep-out {rest = s ∷ ss} inv h = absurd (omega (arith, inv .left))
 
@@ -40,26 +42,36 @@ module _ {row₀ cells₀ : List ℕ} {first last panel : ℕ} (span : first ≤
     filled-read inv =
         omega (arith, head-placed (inv .held .ordered) .filled, ap (λ (x : Segment). x .count) (held-segment (inv .held)), r .count-is)
 
-    pub sweep-ends : {rest : List Segment} → Sweeping row₀ cells₀ first last panel row cells k looked rest → count ≡ 0 → Swept row₀ cells₀ first last panel row cells
+    pub sweep-ends :
+        {rest : List Segment} → Sweeping row₀ cells₀ first last panel row cells k looked rest → count ≡ 0 →
+        Swept row₀ cells₀ first last panel row cells
     sweep-ends {rest = []} inv e = sweep-empty inv
     sweep-ends {rest = s ∷ ss} inv e = absurd (omega (arith, filled-read inv))
 
-    pub sweep-reached : {rest : List Segment} → Sweeping row₀ cells₀ first last panel row cells k looked rest → looked < 128 → (count ≡ 0 → ⊥) → Reached k first last row cells
+    pub sweep-reached :
+        {rest : List Segment} → Sweeping row₀ cells₀ first last panel row cells k looked rest → looked < 128 →
+        (count ≡ 0 → ⊥) → Reached k first last row cells
     sweep-reached {rest = []} inv h n = absurd (n (r .count-is ∙ held-end (inv .held) (omega (arith, inv .passed))))
     sweep-reached {rest = s ∷ ss} inv h n =
         let p = head-placed (inv .held .ordered) in
         record {
           place = omega (arith, inv .passed);
           span = span;
-          placed = subst⁻¹ (Placed (length cells) 0) (held-segment (inv .held)) (record { from = omega arith; filled = p .filled; inside = omega (arith, p .inside, inv .width) });
+          placed =
+              subst⁻¹ (Placed (length cells) 0) (held-segment (inv .held))
+              (record { from = omega arith; filled = p .filled; inside = omega (arith, p .inside, inv .width) });
           fits = omega (arith, inv .fits, inv .width);
         }
 
     module _ {row′ cells′ : List ℕ} {next : ℕ} {go : Bool} (step : Steps k first last panel row cells row′ cells′ next go) where
-      pub sweep-stops : {rest : List Segment} → Sweeping row₀ cells₀ first last panel row cells k looked rest → looked < 128 → (count ≡ 0 → ⊥) → go ≡ false → Swept row₀ cells₀ first last panel row′ cells′
+      pub sweep-stops :
+          {rest : List Segment} → Sweeping row₀ cells₀ first last panel row cells k looked rest → looked < 128 →
+          (count ≡ 0 → ⊥) → go ≡ false → Swept row₀ cells₀ first last panel row′ cells′
       sweep-stops {rest = []} inv h n e = absurd (n (r .count-is ∙ held-end (inv .held) (omega (arith, inv .passed))))
       sweep-stops {rest = s ∷ ss} inv h n e = step-stops span inv step e
 
-      pub sweep-goes : {rest : List Segment} → Sweeping row₀ cells₀ first last panel row cells k looked rest → looked < 128 → (count ≡ 0 → ⊥) → go ≡ true → Sweeps row₀ cells₀ first last panel row′ cells′ next (looked + 1)
+      pub sweep-goes :
+          {rest : List Segment} → Sweeping row₀ cells₀ first last panel row cells k looked rest → looked < 128 →
+          (count ≡ 0 → ⊥) → go ≡ true → Sweeps row₀ cells₀ first last panel row′ cells′ next (looked + 1)
       sweep-goes {rest = []} inv h n e = absurd (n (r .count-is ∙ held-end (inv .held) (omega (arith, inv .passed))))
       sweep-goes {rest = s ∷ ss} inv h n e = record { rest = ss; on = step-goes span inv step e }

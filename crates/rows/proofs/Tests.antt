@@ -1,7 +1,7 @@
 -- Tests as facts, beside the library's.
 use mathlib.Core.Path.{_≡_, refl}
 use mathlib.Core.Logic.{_⊎_, inl, inr}
-use mathlib.Core.Bool.{Bool, true, false, not, _&&_, _||_}
+use mathlib.Core.Bool.{Bool, true, false, _&&_}
 use Prim.Native.Nat.{ℕ, _≤_, _<_}
 use lib.Dec.{T, leb, ltb, leb→le, le→leb}
 use borrow.Author.Tests.{ltb-true, ltb-false}
@@ -19,30 +19,6 @@ same-test true true f g = refl
 same-test true false f g = absurd (f tt)
 same-test false true f g = absurd (g tt)
 same-test false false f g = refl
-
-pub and-both : (a b : Bool) → T (a && b) → T a × T b
-and-both true b t = (tt, t)
-and-both false b t = absurd t
-
-pub both-and : (a b : Bool) → T a → T b → T (a && b)
-both-and true b s t = t
-both-and false b s t = s
-
-pub or-either : (a b : Bool) → T (a || b) → T a ⊎ T b
-or-either true b t = inl tt
-or-either false b t = inr t
-
-pub left-or : (a b : Bool) → T a → T (a || b)
-left-or true b t = tt
-left-or false b t = absurd t
-
-pub right-or : (a b : Bool) → T b → T (a || b)
-right-or true b t = tt
-right-or false b t = t
-
-pub passed : (a : Bool) → T a → a ≡ true
-passed true t = refl
-passed false t = absurd t
 
 pub failed : (a : Bool) → (T a → ⊥) → a ≡ false
 failed true f = absurd (f tt)

@@ -2,16 +2,18 @@
 use mathlib.Core.Path.{_≡_, sym, ap, subst, _∙_}
 use mathlib.Core.Logic.{⊎-elim}
 use mathlib.Core.List.{List, _∷_, _++_}
-use Prim.Native.Nat.{ℕ, _+_, _*_, _≤_, _<_}
+use Prim.Native.Nat.{ℕ, _+_, _≤_, _<_}
 use native.Mathlib.Omega.{arith}
 use lib.ListN.{length}
 use Rattle.model.specs.Row.{Segment}
-use Rattle.rows.specs.Segments.{rowFrom, segmentAt, written, Holds, Reads}
+use Rattle.rows.specs.Segments.{segmentAt, written, Holds, Reads}
 use Rattle.rows.specs.Step.{Inserts, Removes}
 use Rattle.rows.proofs.Segments.{segment-path}
 use Rattle.rows.proofs.Moves.{Gap, Moved, moved, moved-last, gap-opens, Carry, Carried, carried, carry-starts}
 
-pub read-segment : {row : List ℕ} {k offset count : ℕ} → Reads row k offset count → segmentAt row k ≡ record { offset = offset; count = count }
+pub read-segment :
+    {row : List ℕ} {k offset count : ℕ} → Reads row k offset count →
+    segmentAt row k ≡ record { offset = offset; count = count }
 read-segment r = segment-path (sym (r .offset-is)) (sym (r .count-is))
 
 -- the segment p is in hand, for pair i
@@ -26,7 +28,9 @@ insert-starts row₀ k s = record { carries = λ width done rest held room. carr
 module _ {row₀ : List ℕ} {k : ℕ} {s : Segment} {row : List ℕ} {p : Segment} {i : ℕ} (inv : Inserting row₀ k s row p i) where
   module _ {offset count : ℕ} {row′ : List ℕ} (r : Reads row i offset count) (w : row′ ≡ written row i p) where
     -- what stood in pair i comes into hand
-    turned : (width : ℕ) (done rest : List Segment) → Holds width k row₀ done rest → length done + length rest < 128 → Carried (done ++ s ∷ rest) i p row (record { offset = offset; count = count })
+    turned :
+        (width : ℕ) (done rest : List Segment) → Holds width k row₀ done rest → length done + length rest < 128 →
+        Carried (done ++ s ∷ rest) i p row (record { offset = offset; count = count })
     turned width done rest held room =
         subst (Carried (done ++ s ∷ rest) i p row) (read-segment r) (carried (inv .carries width done rest held room))
 
@@ -63,8 +67,12 @@ pub remove-starts : (row₀ : List ℕ) (k : ℕ) → k < 128 → Removing row�
 remove-starts row₀ k h = record { place = omega arith; gaps = λ width done s rest held. gap-opens held }
 
 module _ {row₀ : List ℕ} {k : ℕ} {row : List ℕ} {i : ℕ} (inv : Removing row₀ k row i) where
-  module _ {offset count : ℕ} {row′ : List ℕ} (h : i < 127) (r : Reads row (i + 1) offset count) (w : row′ ≡ written row i (record { offset = offset; count = count })) where
-    shifted : (width : ℕ) (done : List Segment) (s : Segment) (rest : List Segment) → Holds width k row₀ done (s ∷ rest) → Moved (done ++ rest) i row (record { offset = offset; count = count })
+  module _
+      {offset count : ℕ} {row′ : List ℕ} (h : i < 127) (r : Reads row (i + 1) offset count)
+      (w : row′ ≡ written row i (record { offset = offset; count = count })) where
+    shifted :
+        (width : ℕ) (done : List Segment) (s : Segment) (rest : List Segment) → Holds width k row₀ done (s ∷ rest) →
+        Moved (done ++ rest) i row (record { offset = offset; count = count })
     shifted width done s rest held =
         subst (Moved (done ++ rest) i row) (read-segment r) (moved (inv .gaps width done s rest held) h)
 

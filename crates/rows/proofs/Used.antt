@@ -1,16 +1,13 @@
 -- The used pairs of a row, and the part of the unlit lists that holds them.
 use mathlib.Core.Path.{_≡_, refl, sym, ap, _∙_}
-use mathlib.Core.Bool.{Bool, true, false, cond}
 use mathlib.Core.List.{List, [], _∷_, _++_, append-assoc, append-nil}
 use Prim.Native.Nat.{ℕ, suc, _+_, _*_, _-_, _/_, _%_, _≤_, _<_}
-use native.Mathlib.Nat.{le-of-suc-le-suc}
 use native.Mathlib.Numerals.{add-one, add-two}
 use native.Mathlib.Omega.{arith}
-use lib.Dec.{leb}
-use lib.ListN.{length, getD, take, drop, length-drop, length-take, drop-of-length-le}
+use lib.ListN.{length, getD, take, drop, drop-of-length-le}
 use lib.Seq.{drop-cons, take-add, take-all}
 use borrow.Author.Tests.{le-leb, lt-leb}
-use Rattle.model.specs.Row.{usedPairs, usedPart, rowLength}
+use Rattle.model.specs.Row.{usedPairs, usedPart}
 use Rattle.rows.proofs.Rows.{used-pair}
 
 -- the first i numbers, of whole pairs, are used; the others are still to be looked at
@@ -50,7 +47,9 @@ pub part-outside : (lists : List ℕ) (j : ℕ) → length lists / 256 ≤ j →
 unfolding usedPart
 part-outside lists j h = rw (lt-leb (256 * (j + 1)) (length lists) (omega arith))
 
-pub part-inside : (lists : List ℕ) (j : ℕ) → j < length lists / 256 → usedPairs (take (256 * j + 256 - 256 * j) (drop (256 * j) lists)) ≡ usedPart lists j
+pub part-inside :
+    (lists : List ℕ) (j : ℕ) → j < length lists / 256 →
+    usedPairs (take (256 * j + 256 - 256 * j) (drop (256 * j) lists)) ≡ usedPart lists j
 unfolding usedPart
 part-inside lists j h =
     let e : 256 * j + 256 - 256 * j ≡ 256 = omega arith in

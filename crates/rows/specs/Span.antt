@@ -32,7 +32,8 @@ pub record Row (width : ℕ) (row : List ℕ) : Type 0 where
   pub unlit : ℕ → Bool
   pub row-is : row ≡ rowOf width unlit
 
--- what laying a span leaves, where the row at entry is that of the set `unlit`: the row without the span, and the panel in the cells that were unlit and lie in the span
+-- what laying a span leaves, where the row at entry is that of the set `unlit`: the row without the span's columns, and
+-- the panel in the cells that were unlit and lie in the span
 pub record Lays (unlit : ℕ → Bool) (first last panel : ℕ) (cells row′ cells′ : List ℕ) : Type 0 where
   pub row-is : row′ ≡ rowOf (length cells) (afterSpan unlit first last)
   pub cells-are : cells′ ≡ painted (λ (i : ℕ). unlit i && inSpan first last i) panel cells

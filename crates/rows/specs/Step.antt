@@ -29,26 +29,26 @@ keptAfter last s =
 unfoldable pub kept : ℕ → ℕ → Segment → List Segment
 kept first last s = keptBefore first s ++ keptAfter last s
 
--- where a span's `first` lies against a segment from `min` to `max`
-pub data Starts (first min max : ℕ) : ℕ → Type 0 where
-  by-start : first ≤ min → Starts first min max 0
-  inside : min < first → first ≤ max → Starts first min max 1
-  beyond : max < first → Starts first min max 2
+-- where a span's `first` lies against the segment of the columns `left` to `right`
+pub data Starts (first left right : ℕ) : ℕ → Type 0 where
+  by-start : first ≤ left → Starts first left right 0
+  inside : left < first → first ≤ right → Starts first left right 1
+  beyond : right < first → Starts first left right 2
 
 -- where its `last` lies
-pub data Ends (last min max : ℕ) : ℕ → Type 0 where
-  ahead : last < min → Ends last min max 0
-  within-it : min ≤ last → last < max → Ends last min max 1
-  at-end : last ≡ max → Ends last min max 2
-  past : max < last → Ends last min max 3
+pub data Ends (last left right : ℕ) : ℕ → Type 0 where
+  ahead : last < left → Ends last left right 0
+  within-it : left ≤ last → last < right → Ends last left right 1
+  at-end : last ≡ right → Ends last left right 2
+  past : right < last → Ends last left right 3
 
--- a span from `first` to `last` against a segment from `min` to `max`: whether there are columns to paint, whether the segment has columns before the span
--- and after it, and whether the next segment is to be looked at
-pub record Acts (first last min max : ℕ) (paint before after next : Bool) : Type 0 where
-  pub paint-is : paint ≡ (leb first max && leb min last)
-  pub before-is : before ≡ ltb min first
-  pub after-is : after ≡ ltb last max
-  pub next-is : next ≡ ltb max last
+-- what to do with that segment: whether there are columns to paint, whether it has columns before the span and after it,
+-- and whether the next segment is to be looked at
+pub record Acts (first last left right : ℕ) (paint before after next : Bool) : Type 0 where
+  pub paint-is : paint ≡ (leb first right && leb left last)
+  pub before-is : before ≡ ltb left first
+  pub after-is : after ≡ ltb last right
+  pub next-is : next ≡ ltb right last
 
 -- the segment `s` now stands in the row as number k
 pub record Inserts (k : ℕ) (s : Segment) (row row′ : List ℕ) : Type 0 where
@@ -62,6 +62,12 @@ pub record Removes (k : ℕ) (row row′ : List ℕ) : Type 0 where
       (width : ℕ) (done : List Segment) (s : Segment) (rest : List Segment) → Holds width k row done (s ∷ rest) →
       row′ ≡ rowFrom (done ++ rest)
 
+-- in the place of segment k stands what the span leaves of it
+pub record Keeps (k first last : ℕ) (row row′ : List ℕ) : Type 0 where
+  pub keeps :
+      (width : ℕ) (done : List Segment) (s : Segment) (rest : List Segment) → Holds width k row done (s ∷ rest) →
+      length done + length (kept first last s ++ rest) ≤ 128 → row′ ≡ rowFrom (done ++ (kept first last s ++ rest))
+
 -- the span meets the segment, which is number k of a row
 pub record Overlaps (k first last : ℕ) (s : Segment) (before after : Bool) : Type 0 where
   pub place : k < 128
@@ -71,12 +77,6 @@ pub record Overlaps (k first last : ℕ) (s : Segment) (before after : Bool) : T
   pub before-is : before ≡ ltb (s .offset) first
   pub after-is : after ≡ ltb (suc last) (s .offset + s .count)
 
--- in the place of segment k stands what the span leaves of it
-pub record Keeps (k first last : ℕ) (row row′ : List ℕ) : Type 0 where
-  pub keeps :
-      (width : ℕ) (done : List Segment) (s : Segment) (rest : List Segment) → Holds width k row done (s ∷ rest) →
-      length done + length (kept first last s ++ rest) ≤ 128 → row′ ≡ rowFrom (done ++ (kept first last s ++ rest))
-
 -- segment k is one that a span can be laid on
 pub record Reached (k first last : ℕ) (row cells : List ℕ) : Type 0 where
   pub place : k < 128
@@ -84,10 +84,9 @@ pub record Reached (k first last : ℕ) (row cells : List ℕ) : Type 0 where
   pub placed : Placed (length cells) 0 (segmentAt row k)
   pub fits : length cells ≤ 256
 
--- a span is laid on segment k: `next` is the number of the next segment, and `go` says whether the span may meet it
+-- a span is laid on segment k: `next` is the number of the segment after it, and `go` says that the segment ends before the span does
 pub record Steps (k first last panel : ℕ) (row cells row′ cells′ : List ℕ) (next : ℕ) (go : Bool) : Type 0 where
   pub row-is : Keeps k first last row row′
-  pub cells-are :
-      cells′ ≡ painted (λ (i : ℕ). within (segmentAt row k) i && inSpan first last i) panel cells
+  pub cells-are : cells′ ≡ painted (λ (i : ℕ). within (segmentAt row k) i && inSpan first last i) panel cells
   pub next-is : next ≡ k + length (keptBefore first (segmentAt row k))
   pub go-is : go ≡ leb (segmentAt row k .offset + segmentAt row k .count) last

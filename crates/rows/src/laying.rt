@@ -86,7 +86,8 @@ pub fn lay_on(
     panel: u16,
 ) -> Step
     requires { ⌜ Reached k first last (now row) (now cells) ⌝ }
-    ensures { λ r. ⌜ Steps k first last panel (now (row .entry)) (now (cells .entry)) (now (row .exit)) (now (cells .exit)) (r .next) (r .go) ⌝ }
+    ensures { λ r. ⌜ Steps k first last panel (now (row .entry)) (now (cells .entry))
+        (now (row .exit)) (now (cells .exit)) (r .next) (r .go) ⌝ }
 {
     let p = pair_at(row, k);
     let max = p.offset + (p.count - 1);
@@ -105,7 +106,8 @@ pub fn lay_on(
 // The segments are looked at in order, up to the first that ends at or after the span's end. There are at most 128.
 pub fn sweep(row: &mut [u16; 256], cells: &mut [u16], first: u16, last: u16, panel: u16)
     requires { ⌜ (first ≤ last) × Row (length (now cells)) (now row) ⌝ }
-    ensures { λ r. ⌜ ((unlit : ℕ → Bool) → now (row .entry) ≡ rowOf (length (now (cells .entry))) unlit → Lays unlit first last panel (now (cells .entry)) (now (row .exit)) (now (cells .exit))) ⌝ }
+    ensures { λ r. ⌜ ((unlit : ℕ → Bool) → now (row .entry) ≡ rowOf (length (now (cells .entry))) unlit →
+        Lays unlit first last panel (now (cells .entry)) (now (row .exit)) (now (cells .exit))) ⌝ }
 {
     let mut k: usize = 0;
     let mut looked: usize = 0;

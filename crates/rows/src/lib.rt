@@ -14,7 +14,7 @@ ghost use Rattle.rows.specs.Span.{Row, Lays, Reports};
 
 // What laying a span reports.
 pub struct Laid {
-    // no column of the row is unlit any more
+    // No column of the row is unlit any more.
     pub full: bool,
 }
 
@@ -27,12 +27,16 @@ pub fn fresh(width: u16) -> [u16; 256]
     row
 }
 
-// Lays the span of the columns `first` to `last` on a row, in place, and paints the panel into the columns that were unlit; `cells` is the row's part of the picture.
-// The row must be that of some set of unlit columns, as `fresh` and this function leave it: of other numbers nothing useful could be said.
+// Lays the span of the columns `first` to `last` on a row, in place, and paints the panel into those that were unlit.
+// `cells` is the row's part of the picture; its length is the width, and the span may end beyond it. With `last` below
+// `first` the span is empty. The row must be one that `fresh` or this function left: its callers hold no other, and a
+// test of it would cost as much as the work.
 pub fn lay(row: &mut [u16; 256], cells: &mut [u16], first: u16, last: u16, panel: u16) -> Laid
     requires { ⌜ Row (length (now cells)) (now row) ⌝ }
-    ensures laid { λ r. ⌜ ((unlit : ℕ → Bool) → now (row .entry) ≡ rowOf (length (now (cells .entry))) unlit → Lays unlit first last panel (now (cells .entry)) (now (row .exit)) (now (cells .exit))) ⌝ }
-    ensures reported { λ r. ⌜ ((unlit : ℕ → Bool) → now (row .entry) ≡ rowOf (length (now (cells .entry))) unlit → Reports unlit first last (length (now (cells .entry))) (r .full)) ⌝ }
+    ensures laid { λ r. ⌜ ((unlit : ℕ → Bool) → now (row .entry) ≡ rowOf (length (now (cells .entry))) unlit →
+        Lays unlit first last panel (now (cells .entry)) (now (row .exit)) (now (cells .exit))) ⌝ }
+    ensures reported { λ r. ⌜ ((unlit : ℕ → Bool) → now (row .entry) ≡ rowOf (length (now (cells .entry))) unlit →
+        Reports unlit first last (length (now (cells .entry))) (r .full)) ⌝ }
 {
     if first <= last {
         sweep(row, cells, first, last, panel);

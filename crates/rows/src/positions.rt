@@ -2,7 +2,8 @@
 ghost use Prim.Native.Nat.{_≤_};
 ghost use Rattle.rows.specs.Step.{Starts, Ends, Acts};
 
-// What to do with the segment: paint the columns that it shares with the span, keep those before the span, keep those after it, go on to the next segment.
+// What to do with the segment: paint the columns that it shares with the span, keep those before the span,
+// keep those after it, go on to the next segment.
 pub struct Action {
     pub paint: bool,
     pub before: bool,
@@ -19,23 +20,26 @@ const AFTER: u8 = 4;
 
 const NEXT: u8 = 8;
 
-// A row for each place of I, an entry for each place of J. The entries of 0 do not occur, since I ≤ J and Min ≤ Max.
+// What to do in each position: four entries, for J's places, for each of I's places. The entries of 0 do not occur, since I ≤ J and Min ≤ Max.
 const ACTIONS: [u8; 12] = [
+    // I ≤ Min: positions 1, 2, 4, 6
     AFTER,
     PAINT + AFTER,
     PAINT,
     PAINT + NEXT,
+    // Min < I ≤ Max: positions 3, 5, 7
     0,
     PAINT + BEFORE + AFTER,
     PAINT + BEFORE,
     PAINT + BEFORE + NEXT,
+    // Max < I: position 8
     0,
     0,
     0,
     BEFORE + NEXT,
 ];
 
-// I ≤ Min, Min < I ≤ Max, Max < I
+// I's place: I ≤ Min, Min < I ≤ Max, Max < I.
 fn start_place(first: u16, min: u16, max: u16) -> usize
     ensures { λ r. ⌜ Starts first min max r ⌝ }
 {
@@ -48,7 +52,7 @@ fn start_place(first: u16, min: u16, max: u16) -> usize
     2
 }
 
-// J < Min, Min ≤ J < Max, J = Max, Max < J
+// J's place: J < Min, Min ≤ J < Max, J = Max, Max < J.
 fn end_place(last: u16, min: u16, max: u16) -> usize
     ensures { λ r. ⌜ Ends last min max r ⌝ }
 {

@@ -1,5 +1,7 @@
 -- The results of a painted walk, the questions on the call, and demands 2 and 3 from the contract.
 pub mod PanelNumbers
 pub mod Results
+pub mod Walks
+pub mod Gates
 pub mod ViewTests
 pub mod Demands

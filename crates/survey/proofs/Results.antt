@@ -22,11 +22,8 @@ use Rattle.model.proofs.Tests.{both, every-true}
 use Rattle.model.proofs.Ranges.{of-map, getD-member}
 use Rattle.model.proofs.Answers.{AcceptedScene}
 use Rattle.rows.proofs.Rows.{segments-few}
-use Rattle.format.specs.declared.layout.Layout.{Layout}
-use Rattle.format.specs.Layout.{LaidOut}
-use Rattle.format.proofs.Decoded.{node-count}
 use Rattle.walk.proofs.Whole.{walk-numbers}
-use Rattle.walk.proofs.Seen.{Accepted, first-met-closest}
+use Rattle.walk.proofs.Seen.{accepted, first-met-closest}
 use Rattle.painting.specs.Painting.{shownAfter, RowsPainted}
 use Rattle.survey.proofs.PanelNumbers.{panel-positive}
 use Rattle.painting.proofs.FirstShown.{unlit-shows-0}
@@ -60,20 +57,7 @@ rows-always-fit c t =
 abbrev pub walked : List ℕ → Vec → List Patch
 walked bytes eye = map (patchNumbered (decode bytes)) (order eye (numberTree (decode bytes)))
 
--- what the visibility theorem asks of a scene
-accepted : (bytes : List ℕ) (l : Layout) → LaidOut bytes l → AcceptedScene bytes → Accepted (decode bytes)
-accepted bytes l laid h =
-    record {
-      few-nodes = omega (arith, node-count laid, laid .few-nodes);
-      planes = h .planes;
-      children = h .children;
-      runs = h .runs;
-      panels = h .panels;
-      patches = h .patches;
-      divided = h .divided;
-    }
-
-module _ (bytes : List ℕ) (l : Layout) (laid : LaidOut bytes l) (h : AcceptedScene bytes) (eye : Vec) where
+module _ (bytes : List ℕ) (h : AcceptedScene bytes) (eye : Vec) where
   -- every panel of the walk has a number above 0
   walked-positive : (p : Patch) → List·Memᴰ p (walked bytes eye) → 1 ≤ p .panel
   unfolding runsProper patchNumbered patchTable
@@ -84,13 +68,13 @@ module _ (bytes : List ℕ) (l : Layout) (laid : LaidOut bytes l) (h : AcceptedS
       panel-positive s (h .panels) (patchNumbered s k)
       (getD-member (patchTable s) k _
       (subst (λ (n : ℕ). k < n) (sym (length-map (s .patches) (patchOf (s .corners))))
-      (walk-numbers s (accepted bytes l laid h .few-nodes) (h .children)
+      (walk-numbers s (accepted h .few-nodes) (h .children)
       (both (patchRunsFollow s) (cornerRunsFollow s) .0 (h .runs) .0) eye k m))))
 
   -- a column shows its closest panel
   shows-closest : (ray : ℕ → Vec) (i : ℕ) → shownAfter eye ray (walked bytes eye) i ≡ closest eye (ray i) (patchTable (decode bytes))
   unfolding shownAfter
-  shows-closest ray i = first-met-closest (decode bytes) (accepted bytes l laid h) eye (ray i)
+  shows-closest ray i = first-met-closest (decode bytes) (accepted h) eye (ray i)
 
   unlit-closest :
       (ray : ℕ → Vec) (i : ℕ) →
@@ -99,7 +83,7 @@ module _ (bytes : List ℕ) (l : Layout) (laid : LaidOut bytes l) (h : AcceptedS
       sym (unlit-shows-0 eye ray (walked bytes eye) walked-positive i) ∙ ap (λ (n : ℕ). eqb n 0) (shows-closest ray i)
 
 -- The painted rows of an accepted scene are the call's picture and unlit lists.
-module _ (c : Call) (l : Layout) (laid : LaidOut (c .scene) l) (h : AcceptedScene (c .scene)) {picture′ unlit′ : List ℕ}
+module _ (c : Call) (h : AcceptedScene (c .scene)) {picture′ unlit′ : List ℕ}
     (painted :
     RowsPainted (c .eye) (callDirection c) (walked (c .scene) (c .eye)) (c .window .width) (c .window .height) picture′
     unlit′)
@@ -110,7 +94,7 @@ module _ (c : Call) (l : Layout) (laid : LaidOut (c .scene) l) (h : AcceptedScen
         painted .picture-is
         ∙ ap
         (λ (f : ℕ → ℕ → ℕ). flatten (map (λ (j : ℕ). map (f j) (range 0 (c .window .width))) (range 0 (c .window .height))))
-        (fun-ext (λ j. fun-ext (λ i. shows-closest (c .scene) l laid h (c .eye) (λ (k : ℕ). callDirection c k j) i)))
+        (fun-ext (λ j. fun-ext (λ i. shows-closest (c .scene) h (c .eye) (λ (k : ℕ). callDirection c k j) i)))
 
     pub painted-unlit : unlit′ ≡ callUnlit c
     unfolding callUnlit unlitLists
@@ -118,4 +102,4 @@ module _ (c : Call) (l : Layout) (laid : LaidOut (c .scene) l) (h : AcceptedScen
         painted .unlit-is
         ∙ ap
         (λ (f : ℕ → ℕ → Bool). flatten (map (λ (j : ℕ). rowOf (c .window .width) (f j)) (range 0 (c .window .height))))
-        (fun-ext (λ j. fun-ext (λ i. unlit-closest (c .scene) l laid h (c .eye) (λ (k : ℕ). callDirection c k j) i)))
+        (fun-ext (λ j. fun-ext (λ i. unlit-closest (c .scene) h (c .eye) (λ (k : ℕ). callDirection c k j) i)))

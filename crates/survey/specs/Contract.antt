@@ -23,18 +23,23 @@ pub record Lent : Type 0 where
 abbrev pub lentOf : List ℕ → List ℕ → List ℕ → ℕ → Lent
 lentOf p n u k = record { picture = p; counts = n; unlit = u; counter = k }
 
--- the call on a scene from an eye through a window, with these buffers lent
-abbrev pub callOn : List ℕ → Vec → Window → Lent → Call
-callOn bytes e w lent =
+-- the call on a scene from an eye through a window, with buffers of these lengths and this counter
+abbrev pub gateCall : List ℕ → Vec → Window → ℕ → ℕ → ℕ → ℕ → Call
+gateCall bytes e w p n u k =
     record {
       scene = bytes;
       eye = e;
       window = w;
-      pictureLength = length (lent .picture);
-      countsLength = length (lent .counts);
-      unlitLength = length (lent .unlit);
-      counter = lent .counter;
+      pictureLength = p;
+      countsLength = n;
+      unlitLength = u;
+      counter = k;
     }
+
+-- the same with these buffers lent
+abbrev pub callOn : List ℕ → Vec → Window → Lent → Call
+callOn bytes e w lent =
+    gateCall bytes e w (length (lent .picture)) (length (lent .counts)) (length (lent .unlit)) (lent .counter)
 
 -- what an accepted call leaves
 abbrev pub results : Call → Lent

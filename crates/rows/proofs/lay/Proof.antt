@@ -17,7 +17,7 @@ returns : tie.Need-returns
 returns c =
     let w = c .before .before .before in
     let s = w .before .before .before .before .before in
-    (w .sweep .ensures, λ unlit e. reports (s .pre .fits) (w .sweep .ensures unlit e .row-is))
+    (w .sweep .ensures, λ unlit e. reports (s .pre .fits) (w .sweep .ensures unlit e))
 
 element-copy-out-count-2 : tie.Need-element-copy-out-count-2
 element-copy-out-count-2 c = search needs
@@ -27,7 +27,7 @@ returns-2 c =
     let e = c .before in
     let s = e .before .before in
     let l = lays-nothing (s .args .first) (s .args .last) (s .args .panel) (e .if1 .left) in
-    (l, λ unlit e. reports (s .pre .fits) (l unlit e .row-is))
+    (l, λ unlit e. reports (s .pre .fits) (l unlit e))
 
 pub lay-spec : {M : Type 1} → statement M
 lay-spec =

@@ -45,7 +45,8 @@ returns c =
     let d = l .before .before .before in
     let e = d .before in
     let p = e .before .before .before in
-    steps-met (p .before .before .before .pre) (p .pair-at .ensures) (e .action-for .ensures) (d .advanced .ensures) (l .larger .ensures) (g .before .smaller .ensures) (g .paint .ensures) (c .keep .ensures)
+    steps-met (p .before .before .before .pre) (p .pair-at .ensures) (e .action-for .ensures) (d .advanced .ensures)
+    (l .larger .ensures) (g .before .smaller .ensures) (g .paint .ensures) (c .keep .ensures)
 
 returns-2 : tie.Need-returns-2
 returns-2 c =
