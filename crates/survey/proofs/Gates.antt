@@ -1,7 +1,8 @@
 -- The call's answer, question by question.
 use mathlib.Core.Path.{_≡_, refl, sym, _∙_, ap}
 use mathlib.Core.Bool.{Bool, true, false, _&&_, and-false}
-use Prim.Native.Nat.{ℕ, _*_, _≤_, _<_}
+use mathlib.Core.List.{List}
+use Prim.Native.Nat.{ℕ, _*_, _<_}
 use native.Mathlib.Omega.{arith}
 use lib.Dec.{T, eqb, leb, ltb}
 use borrow.Author.Tests.{lt-ltb, le-ltb}
@@ -10,6 +11,7 @@ use mir.Syntax.{w16}
 use mir.Val.{SFits, toZ, ofZ}
 use mir.ValLaws.{toZ-ofZ}
 use Rattle.model.specs.Vector.{Vec, vec}
+use Rattle.model.specs.Window.{Window}
 use Rattle.model.specs.Row.{rowLength}
 use Rattle.model.specs.Picture.{countEntries}
 use Rattle.model.specs.Call.{Call}
@@ -17,6 +19,7 @@ use Rattle.model.specs.Questions.{within, pointInRange, answer, sceneAnswer, vi
 use Rattle.model.proofs.Tests.{is-true}
 use Rattle.model.proofs.Answers.{scene-first, call-next}
 use Rattle.model.proofs.FirstNo.{first-no, no-no}
+use Rattle.survey.specs.Contract.{gateCall}
 use Rattle.survey.proofs.Results.{rows-always-fit}
 use Rattle.survey.proofs.Walks.{holds}
 
@@ -80,6 +83,11 @@ module _ (c : Call) {n : ℕ} (scene : n ≡ sceneAnswer (c .scene)) where
                 (v, (fit-is ∙ t, (lt-ltb (c .counter) 4294967295 (omega arith), (holds (rows-always-fit c (is-true v)), tt)))))
 
 -- an eye that was handed over in words of 16 bits
+same-eye :
+    {x y z : ℤ} → SFits w16 x → SFits w16 y → SFits w16 z →
+    vec (toZ w16 (ofZ w16 x)) (toZ w16 (ofZ w16 y)) (toZ w16 (ofZ w16 z)) ≡ vec x y z
+same-eye {x} {y} {z} f g h = λ i. vec (toZ-ofZ w16 x f i) (toZ-ofZ w16 y g i) (toZ-ofZ w16 z h i)
+
 pub eye-handed :
     {x y z : ℤ} {v : Vec} →
     SFits w16 x →
@@ -87,4 +95,13 @@ pub eye-handed :
     SFits w16 z →
     v ≡ vec (toZ w16 (ofZ w16 x)) (toZ w16 (ofZ w16 y)) (toZ w16 (ofZ w16 z)) →
     v ≡ vec x y z
-eye-handed {x} {y} {z} f g h e = e ∙ (λ i. vec (toZ-ofZ w16 x f i) (toZ-ofZ w16 y g i) (toZ-ofZ w16 z h i))
+eye-handed f g h e = e ∙ same-eye f g h
+
+pub gate-handed :
+    {x y z : ℤ} (bytes : List ℕ) (w : Window) (p q u k : ℕ) {n : ℕ} →
+    SFits w16 x →
+    SFits w16 y →
+    SFits w16 z →
+    n ≡ surveyAnswer (gateCall bytes (vec (toZ w16 (ofZ w16 x)) (toZ w16 (ofZ w16 y)) (toZ w16 (ofZ w16 z))) w p q u k) →
+    n ≡ surveyAnswer (gateCall bytes (vec x y z) w p q u k)
+gate-handed bytes w p q u k f g h e = e ∙ ap (λ (v : Vec). surveyAnswer (gateCall bytes v w p q u k)) (same-eye f g h)

@@ -3,5 +3,6 @@ pub mod PanelNumbers
 pub mod Results
 pub mod Walks
 pub mod Gates
+pub mod Calls
 pub mod ViewTests
 pub mod Demands
