@@ -128,3 +128,12 @@ chosen-panels-taken-away {firstBytes} {secondBytes} {eye} {w} {before₁} {after
     subst (λ (l : Lent). ChosenTakenAway firstBytes chosen eye w l after₂) (sym (accepted-leaves h e))
     (subst (λ (l : Lent). ChosenTakenAway firstBytes chosen eye w (results (callOn firstBytes eye w before₁)) l) (sym (accepted-leaves k f))
     (taken-away firstBytes secondBytes eye w before₁ before₂ chosen taken))
+
+-- a call from the same eye
+pub surveyed-from :
+    {bytes : List ℕ} {u v : Vec} {w : Window} {before after : Lent} {result : ℕ} →
+    u ≡ v →
+    Surveyed bytes u w before after result →
+    Surveyed bytes v w before after result
+surveyed-from {bytes} {w = w} {before = before} {after = after} {result = result} e h =
+    subst (λ (x : Vec). Surveyed bytes x w before after result) e h

@@ -83,7 +83,7 @@ module _ (c : Call) {n : ℕ} (scene : n ≡ sceneAnswer (c .scene)) where
                 (v, (fit-is ∙ t, (lt-ltb (c .counter) 4294967295 (omega arith), (holds (rows-always-fit c (is-true v)), tt)))))
 
 -- an eye that was handed over in words of 16 bits
-same-eye :
+pub same-eye :
     {x y z : ℤ} → SFits w16 x → SFits w16 y → SFits w16 z →
     vec (toZ w16 (ofZ w16 x)) (toZ w16 (ofZ w16 y)) (toZ w16 (ofZ w16 z)) ≡ vec x y z
 same-eye {x} {y} {z} f g h = λ i. vec (toZ-ofZ w16 x f i) (toZ-ofZ w16 y g i) (toZ-ofZ w16 z h i)

@@ -1,5 +1,6 @@
 // The survey call and its gate, for a console in C.
 mod paint;
+pub mod pair;
 pub mod view;
 
 use format::records::vector;
