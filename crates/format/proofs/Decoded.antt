@@ -1,8 +1,7 @@
 -- After questions 1 and 2: how many records a scene has, and each by its number.
-use mathlib.Core.Path.{_≡_, refl, sym, ap, _∙_}
+use mathlib.Core.Path.{_≡_, ap, _∙_}
 use mathlib.Core.List.{List, [], map, map-map}
-use Prim.Native.Nat.{ℕ, _+_, _*_, _≤_, _<_}
-use native.Mathlib.Omega.{arith}
+use Prim.Native.Nat.{ℕ, _+_, _≤_, _<_}
 use lib.ListN.{length, getD}
 use Rattle.model.specs.Lists.{range}
 use Rattle.model.specs.Vector.{Vec}
@@ -39,18 +38,26 @@ module _ {bytes : List ℕ} {l : Layout} (laid : LaidOut bytes l) where
       ap (λ (cs : List Vec). getD cs k d) (laid .corners) ∙ table-at (cornerNumber bytes l) (l .corners) k d h
 
   -- the patches that a node's run names, and the corners that a patch's run names
-  pub patches-in : (a b : ℕ) → a + b ≤ l .patches → inRun (record { first = a; count = b }) (decode bytes .patches) ≡ map (patchNumber bytes l) (range a b)
+  pub patches-in :
+      (a b : ℕ) →
+      a + b ≤ l .patches →
+      inRun (record { first = a; count = b }) (decode bytes .patches) ≡ map (patchNumber bytes l) (range a b)
   patches-in a b h =
       ap (inRun (record { first = a; count = b })) (laid .patches)
       ∙ run-of-table (patchNumber bytes l) (l .patches) a b h
 
-  pub corners-in : (a b : ℕ) → a + b ≤ l .corners → inRun (record { first = a; count = b }) (decode bytes .corners) ≡ map (cornerNumber bytes l) (range a b)
+  pub corners-in :
+      (a b : ℕ) →
+      a + b ≤ l .corners →
+      inRun (record { first = a; count = b }) (decode bytes .corners) ≡ map (cornerNumber bytes l) (range a b)
   corners-in a b h =
       ap (inRun (record { first = a; count = b })) (laid .corners)
       ∙ run-of-table (cornerNumber bytes l) (l .corners) a b h
 
   -- the patches with their corners
-  pub patch-table : patchTable (decode bytes) ≡ map (λ (k : ℕ). patchOf (decode bytes .corners) (patchNumber bytes l k)) (range 0 (l .patches))
+  pub patch-table :
+      patchTable (decode bytes)
+      ≡ map (λ (k : ℕ). patchOf (decode bytes .corners) (patchNumber bytes l k)) (range 0 (l .patches))
   unfolding patchTable
   patch-table =
       ap (map (patchOf (decode bytes .corners))) (laid .patches)

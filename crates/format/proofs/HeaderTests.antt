@@ -1,5 +1,5 @@
 -- Questions 1 and 2, answered by the machine's header.
-use mathlib.Core.Path.{_≡_, refl, sym}
+use mathlib.Core.Path.{_≡_}
 use mathlib.Core.Bool.{Bool, true, false, _&&_, and-false}
 use mathlib.Core.List.{List}
 use Prim.Native.Nat.{ℕ, _+_, _%_, _/_, _≤_, _<_}
@@ -23,7 +23,9 @@ module _ (bytes : List ℕ) where
   too-long h = simp (lt-leb (length bytes) 57376 h, and-false)
 
 module _ (bytes : List ℕ) {h : Header} (is : HeaderIs (headerOf bytes) h) where
-  header-test : hasHeader bytes ≡ (leb 32 (length bytes) && leb (length bytes) 57376 && eqb (h .version) 1 && eqb (h .reserved) 0 && eqb (h .whole) (length bytes))
+  header-test :
+      hasHeader bytes
+      ≡ (leb 32 (length bytes) && leb (length bytes) 57376 && eqb (h .version) 1 && eqb (h .reserved) 0 && eqb (h .whole) (length bytes))
   unfolding hasHeader
   header-test = simp (is .version, is .reserved, is .whole)
 
@@ -33,7 +35,12 @@ module _ (bytes : List ℕ) {h : Header} (is : HeaderIs (headerOf bytes) h) wher
   pub not-reserved : (h .reserved ≡ 0 → ⊥) → false ≡ hasHeader bytes
   not-reserved n = rw (header-test, ne-eqb (h .reserved) 0 n) (simp and-false)
 
-  pub header-whole : 32 ≤ length bytes → length bytes ≤ 57376 → h .version ≡ 1 → h .reserved ≡ 0 → eqb (h .whole) (length bytes) ≡ hasHeader bytes
+  pub header-whole :
+      32 ≤ length bytes →
+      length bytes ≤ 57376 →
+      h .version ≡ 1 →
+      h .reserved ≡ 0 →
+      eqb (h .whole) (length bytes) ≡ hasHeader bytes
   header-whole low high v z = rw header-test (simp (le-leb 32 (length bytes) low, le-leb (length bytes) 57376 high, v, z))
 
 -- ---- question 2

@@ -1,6 +1,5 @@
 -- The corner places of a patch in hand.
-use mathlib.Core.Path.{_≡_, refl, sym, ap, _∙_, subst}
-use mathlib.Core.Logic.{_⊎_, ⊎-elim}
+use mathlib.Core.Path.{_≡_, sym, ap, _∙_, subst}
 use mathlib.Core.List.{List, map}
 use Prim.Native.Nat.{ℕ, _+_, _*_, _≤_, _<_}
 use native.Mathlib.Omega.{arith}
@@ -33,7 +32,11 @@ pub record Filled (bytes : List ℕ) (at count : ℕ) (places : List ℤ) (k : �
 pub none-filled : (bytes : List ℕ) (at count : ℕ) {places : List ℤ} → length places ≡ 8 → Filled bytes at count places 0
 none-filled bytes at count e = record { eight = e; most = omega arith; filled = record { coordinate = below-none _ } }
 
-pub one-filled : (bytes : List ℕ) (at count : ℕ) {places : List ℤ} {k : ℕ} {z : ℤ} → Filled bytes at count places k → k < count → count ≤ 8 →
+pub one-filled :
+    (bytes : List ℕ) (at count : ℕ) {places : List ℤ} {k : ℕ} {z : ℤ} →
+    Filled bytes at count places k →
+    k < count →
+    count ≤ 8 →
     z ≡ i16At bytes (at + 6 * k) → Filled bytes at count (set places k z) (k + 1)
 one-filled bytes at count {places} {k} {z} f h few e =
     let inside : k < length places = omega (arith, f .eight) in
@@ -49,11 +52,16 @@ one-filled bytes at count {places} {k} {z} f h few e =
           };
     }
 
-pub all-filled : {bytes : List ℕ} {at count : ℕ} {places : List ℤ} {k : ℕ} → Filled bytes at count places k → count ≤ k → CoordinatesFrom bytes at count places
+pub all-filled :
+    {bytes : List ℕ} {at count : ℕ} {places : List ℤ} {k : ℕ} →
+    Filled bytes at count places k →
+    count ≤ k →
+    CoordinatesFrom bytes at count places
 all-filled f h = record { coordinate = λ j below. f .filled .coordinate j (omega arith) }
 
 -- ---- three axes make the corners
-module _ (bytes : List ℕ) (at count : ℕ) {x y z : List ℤ} (fx : CoordinatesFrom bytes at count x) (fy : CoordinatesFrom bytes (at + 2) count y)
+module _ (bytes : List ℕ) (at count : ℕ) {x y z : List ℤ} (fx : CoordinatesFrom bytes at count x)
+    (fy : CoordinatesFrom bytes (at + 2) count y)
     (fz : CoordinatesFrom bytes (at + 4) count z) where
   corner-placed :
       (k : ℕ) →

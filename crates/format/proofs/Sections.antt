@@ -1,14 +1,14 @@
 -- After questions 1 and 2 the byte string is a header and three tables.
-use mathlib.Core.Path.{_≡_, refl, sym, ap, _∙_}
-use mathlib.Core.Bool.{Bool, true, false, _&&_}
+use mathlib.Core.Path.{_≡_, sym, ap}
+use mathlib.Core.Bool.{true}
 use mathlib.Core.List.{List, map}
-use Prim.Native.Nat.{ℕ, _+_, _*_, _%_, _/_, _≤_, _<_}
+use Prim.Native.Nat.{ℕ, _+_, _*_, _%_, _/_, _≤_}
 use native.Mathlib.Omega.{arith}
 use lib.Dec.{eqb, leb}
 use lib.ListN.{length}
 use borrow.Author.Tests.{leb-true, eqb-true}
 use Rattle.model.specs.Lists.{range}
-use Rattle.model.specs.Format.{Section, NodeRecord, headerOf, recordsOf, nodeAt, patchAt, pointAt, decode}
+use Rattle.model.specs.Format.{Section, headerOf, recordsOf, nodeAt, patchAt, pointAt, decode}
 use Rattle.model.specs.Questions.{hasHeader, hasSections, isSection, within, sectionEnd}
 use Rattle.format.specs.declared.header.Header.{Header}
 use Rattle.format.specs.declared.layout.Layout.{Layout}

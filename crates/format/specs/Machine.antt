@@ -1,12 +1,6 @@
 -- Machine values as the model's.
 use mathlib.Core.Path.{_≡_}
-use mathlib.Core.List.{List, map}
-use Prim.Native.Nat.{ℕ, _+_, _*_, _<_}
-use lib.IntN.{ℤ, pos}
-use lib.ListN.{getD}
-use Rattle.model.specs.Lists.{range}
-use Rattle.model.specs.Vector.{Vec, vec}
-use Rattle.model.specs.Patch as model-patch
+use Prim.Native.Nat.{ℕ, _<_}
 use Rattle.model.specs.Format as model
 use Rattle.geometry.specs.Machine.{vecOf}
 use Rattle.format.specs.declared.header.Section.{Section}

@@ -1,6 +1,15 @@
 // The header of a scene, and questions 1 and 2.
 use crate::bytes::u16_at;
 use crate::bytes::u32_at;
+use crate::sizes::CORNER_SIZE;
+use crate::sizes::HEADER_SIZE;
+use crate::sizes::LONGEST_SCENE;
+use crate::sizes::MOST_CORNERS;
+use crate::sizes::MOST_NODES;
+use crate::sizes::MOST_PATCHES;
+use crate::sizes::NODE_SIZE;
+use crate::sizes::PATCH_SIZE;
+use crate::sizes::VERSION;
 ghost use mathlib.Core.Path.{_≡_};
 ghost use Prim.Native.Nat.{_+_, _≤_, _<_};
 ghost use lib.ListN.{length};
@@ -51,14 +60,14 @@ pub fn has_header(bytes: &[u8]) -> bool
     ensures { λ r. ⌜ r ≡ hasHeader (now (bytes .entry)) ⌝ }
 {
     let n = bytes.len();
-    if n < 32 {
+    if n < HEADER_SIZE {
         return false;
     }
-    if 57376 < n {
+    if LONGEST_SCENE < n {
         return false;
     }
     let h = read_header(bytes);
-    if h.version != 1 {
+    if h.version != VERSION {
         return false;
     }
     if h.reserved != 0 {
@@ -90,13 +99,18 @@ pub fn has_sections(bytes: &[u8]) -> bool
     let nodes = h.nodes;
     let patches = h.patches;
     let corners = h.corners;
-    if !is_section(nodes, 32, 26, 1024) {
+    if !is_section(nodes, HEADER_SIZE, NODE_SIZE, MOST_NODES) {
         return false;
     }
-    if !is_section(patches, nodes.offset + nodes.size, 6, 1024) {
+    if !is_section(patches, nodes.offset + nodes.size, PATCH_SIZE, MOST_PATCHES) {
         return false;
     }
-    if !is_section(corners, patches.offset + patches.size, 6, 4096) {
+    if !is_section(
+        corners,
+        patches.offset + patches.size,
+        CORNER_SIZE,
+        MOST_CORNERS,
+    ) {
         return false;
     }
     corners.offset + corners.size == h.whole

@@ -5,6 +5,10 @@ use crate::records::PatchRecord;
 use crate::records::node_at;
 use crate::records::patch_record_at;
 use crate::records::point_at;
+use crate::sizes::CORNER_SIZE;
+use crate::sizes::HEADER_SIZE;
+use crate::sizes::NODE_SIZE;
+use crate::sizes::PATCH_SIZE;
 use geometry::Vector;
 ghost use mathlib.Core.Path.{_≡_};
 ghost use mathlib.Core.Bool.{true};
@@ -27,9 +31,9 @@ pub fn read_layout(bytes: &[u8]) -> Layout
 {
     let h = read_header(bytes);
     Layout {
-        nodes: h.nodes.size / 26,
-        patches: h.patches.size / 6,
-        corners: h.corners.size / 6,
+        nodes: h.nodes.size / NODE_SIZE,
+        patches: h.patches.size / PATCH_SIZE,
+        corners: h.corners.size / CORNER_SIZE,
     }
 }
 
@@ -37,19 +41,22 @@ pub fn node(bytes: &[u8], l: Layout, k: usize) -> Node
     requires { ⌜ LaidOut (now bytes) l × (k < l .nodes) ⌝ }
     ensures { λ r. ⌜ nodeOf r ≡ nodeNumber (now (bytes .entry)) k ⌝ }
 {
-    node_at(bytes, 32 + 26 * k)
+    node_at(bytes, HEADER_SIZE + NODE_SIZE * k)
 }
 
 pub fn patch_record(bytes: &[u8], l: Layout, k: usize) -> PatchRecord
     requires { ⌜ LaidOut (now bytes) l × (k < l .patches) ⌝ }
     ensures { λ r. ⌜ patchRecordOf r ≡ patchNumber (now (bytes .entry)) l k ⌝ }
 {
-    patch_record_at(bytes, 32 + 26 * l.nodes + 6 * k)
+    patch_record_at(bytes, HEADER_SIZE + NODE_SIZE * l.nodes + PATCH_SIZE * k)
 }
 
 pub fn corner(bytes: &[u8], l: Layout, k: usize) -> Vector
     requires { ⌜ LaidOut (now bytes) l × (k < l .corners) ⌝ }
     ensures { λ r. ⌜ vecOf r ≡ cornerNumber (now (bytes .entry)) l k ⌝ }
 {
-    point_at(bytes, 32 + 26 * l.nodes + 6 * l.patches + 6 * k)
+    point_at(
+        bytes,
+        HEADER_SIZE + NODE_SIZE * l.nodes + PATCH_SIZE * l.patches + CORNER_SIZE * k,
+    )
 }

@@ -3,6 +3,10 @@ use crate::bytes::i16_at;
 use crate::layout::Layout;
 use crate::layout::patch_record;
 use crate::records::vector;
+use crate::sizes::CORNER_SIZE;
+use crate::sizes::HEADER_SIZE;
+use crate::sizes::NODE_SIZE;
+use crate::sizes::PATCH_SIZE;
 use geometry::Vector;
 ghost use mathlib.Core.Path.{_≡_};
 ghost use Prim.Native.Nat.{_+_, _*_, _≤_, _<_};
@@ -29,7 +33,7 @@ fn axis(bytes: &[u8], at: usize, count: usize) -> [i16; 8]
     let mut places = [0i16; 8];
     let mut k = 0;
     while k < count {
-        places[k] = i16_at(bytes, at + 6 * k);
+        places[k] = i16_at(bytes, at + CORNER_SIZE * k);
         k += 1;
     }
     places
@@ -56,7 +60,7 @@ pub fn read_patch(bytes: &[u8], l: Layout, k: usize) -> Patch
 {
     let p = patch_record(bytes, l, k);
     let run = p.corners;
-    let at = 32 + 26 * l.nodes + 6 * l.patches + 6 * run.first;
+    let at = HEADER_SIZE + NODE_SIZE * l.nodes + PATCH_SIZE * l.patches + CORNER_SIZE * run.first;
     patch_from(bytes, at, run.count, p.panel)
 }
 

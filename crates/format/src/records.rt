@@ -8,7 +8,7 @@ ghost use lib.ListN.{length};
 ghost use Rattle.model.specs.Vector.{vec};
 ghost use Rattle.geometry.specs.Machine.{vecOf};
 ghost use Rattle.model.specs.Format.{pointAt, nodeAt, patchAt};
-ghost use Rattle.format.specs.Machine.{runOf, nodeOf, patchRecordOf};
+ghost use Rattle.format.specs.Machine.{nodeOf, patchRecordOf};
 
 // a run of records: the first one's number, and how many it has
 pub struct Run {

@@ -1,5 +1,5 @@
 -- The answer of the questions on a scene, as a chain of tests.
-use mathlib.Core.Path.{_≡_, refl, sym, ap, _∙_}
+use mathlib.Core.Path.{_≡_, refl, sym, _∙_}
 use mathlib.Core.Logic.{_≢_}
 use mathlib.Core.Bool.{Bool, true, false, not, cond}
 use mathlib.Core.List.{List, [], _∷_}
@@ -11,7 +11,10 @@ use Rattle.model.specs.Questions.{Question, answer, hasHeader, hasSections, coo
 use Rattle.scene.specs.Gate.{firstNo}
 
 -- one question, and then the others
-next : {A : Type 0} (q : Question A) (qs : List (Question A)) (a : A) {n : ℕ} → answer qs a ≡ n → answer (q ∷ qs) a ≡ cond (q .test a) n (q .number)
+next :
+    {A : Type 0} (q : Question A) (qs : List (Question A)) (a : A) {n : ℕ} →
+    answer qs a ≡ n →
+    answer (q ∷ qs) a ≡ cond (q .test a) n (q .number)
 unfolding answer
 next q qs a {n} e = go (q .test a)
   where
@@ -34,12 +37,14 @@ module _ (bytes : List ℕ) where
   pub first-chain : firstNo bytes ≡ chain 0
   unfolding firstNo sceneQuestions
   first-chain =
-      next _ _ bytes (next _ _ bytes (next _ _ bytes (next _ _ bytes (next _ _ bytes (next _ _ bytes (next _ _ bytes (next _ _ bytes (done bytes))))))))
+      next _ _ bytes
+      (next _ _ bytes (next _ _ bytes (next _ _ bytes (next _ _ bytes (next _ _ bytes (next _ _ bytes (next _ _ bytes (done bytes))))))))
 
   pub scene-chain : sceneAnswer bytes ≡ chain (cond (planesDivide (decode bytes)) 0 9)
   unfolding sceneAnswer sceneQuestions
   scene-chain =
-      next _ _ bytes (next _ _ bytes (next _ _ bytes (next _ _ bytes (next _ _ bytes (next _ _ bytes (next _ _ bytes (next _ _ bytes (next _ _ bytes (done bytes)))))))))
+      next _ _ bytes
+      (next _ _ bytes (next _ _ bytes (next _ _ bytes (next _ _ bytes (next _ _ bytes (next _ _ bytes (next _ _ bytes (next _ _ bytes (done bytes)))))))))
 
 -- ---- the answer at the first no
 -- a test that was answered yes
@@ -79,10 +84,14 @@ module _ (bytes : List ℕ) {a : Bool} (ea : a ≡ hasHeader bytes) where
 
               module _ (tg : not g ≡ false) {h : Bool} (eh : h ≡ patchesProper (decode bytes)) where
                 pub no-8 : not h ≡ true → 8 ≡ firstNo bytes
-                no-8 n = sym (first-chain bytes ∙ rw (held ea ta, held eb tb, held ec tc, held ed td, held ee te, held ef tf, held eg tg, failed eh n))
+                no-8 n =
+                    sym
+                    (first-chain bytes ∙ rw (held ea ta, held eb tb, held ec tc, held ed td, held ee te, held ef tf, held eg tg, failed eh n))
 
                 pub all-eight : not h ≡ false → 0 ≡ firstNo bytes
-                all-eight th = sym (first-chain bytes ∙ rw (held ea ta, held eb tb, held ec tc, held ed td, held ee te, held ef tf, held eg tg, held eh th))
+                all-eight th =
+                    sym
+                    (first-chain bytes ∙ rw (held ea ta, held eb tb, held ec tc, held ed td, held ee te, held ef tf, held eg tg, held eh th))
 
 -- ---- what the answer 0 tells
 pub record EightYes (bytes : List ℕ) : Type 0 where
@@ -131,8 +140,18 @@ same-refusal true m f = f
 same-refusal false m f = λ n. refl
 
 pub scene-refused : (bytes : List ℕ) → firstNo bytes ≢ 0 → sceneAnswer bytes ≡ firstNo bytes
-scene-refused bytes n =
-    scene-chain bytes
-    ∙ same-refusal (hasHeader bytes) 0 (same-refusal (hasSections bytes) 1 (same-refusal (coordinatesInRange (decode bytes)) 2 (same-refusal (planesProper (decode bytes)) 3 (same-refusal (childrenProper (decode bytes)) 4 (same-refusal (runsProper (decode bytes)) 5 (same-refusal (panelsProper (decode bytes)) 6 (same-refusal (patchesProper (decode bytes)) 7 (λ f. absurd (f refl)))))))))
-    (λ e. n (first-chain bytes ∙ e))
-    ∙ sym (first-chain bytes)
+scene-refused bytes n = scene-chain bytes ∙ same (λ e. n (first-chain bytes ∙ e)) ∙ sym (first-chain bytes)
+  where
+    ninth : ℕ
+    ninth = cond (planesDivide (decode bytes)) 0 9
+
+    same : chain bytes 0 ≢ 0 → chain bytes ninth ≡ chain bytes 0
+    same =
+        same-refusal (hasHeader bytes) 0
+        (same-refusal (hasSections bytes) 1
+        (same-refusal (coordinatesInRange (decode bytes)) 2
+        (same-refusal (planesProper (decode bytes)) 3
+        (same-refusal (childrenProper (decode bytes)) 4
+        (same-refusal (runsProper (decode bytes)) 5
+        (same-refusal (panelsProper (decode bytes)) 6
+        (same-refusal (patchesProper (decode bytes)) 7 (λ f. absurd (f refl)))))))))

@@ -1,8 +1,8 @@
 -- Question 8 by the corners of a patch in hand.
-use mathlib.Core.Path.{_≡_, refl, sym, ap, ap₂, _∙_, subst}
-use mathlib.Core.Bool.{Bool, true, false, _&&_}
-use mathlib.Core.List.{List, map}
-use Prim.Native.Nat.{ℕ, _+_, _-_, _≤_, _<_}
+use mathlib.Core.Path.{_≡_, refl, sym, ap, _∙_, subst}
+use mathlib.Core.Bool.{Bool, true, false}
+use mathlib.Core.List.{map}
+use Prim.Native.Nat.{ℕ, _+_, _-_, _<_}
 use native.Mathlib.Omega.{arith}
 use lib.IntN.{ℤ, pos}
 use lib.ListN.{length}
@@ -11,7 +11,7 @@ use mir.Syntax.{w64}
 use mir.Val.{ofZ}
 use Rattle.integer.proofs.Order.{lt-ltZ, le-ltZ}
 use Rattle.model.specs.Lists.{range, every}
-use Rattle.model.specs.Vector.{Vec, Plane, origin, minus, dot, cross, isZero, planeNormal, side}
+use Rattle.model.specs.Vector.{Vec, origin, minus, dot, cross, isZero, planeNormal, side}
 use Rattle.model.specs.Patch as model
 use Rattle.model.specs.Patch.{Edge, corner, patchPlane, normal, round, firstEdge, edges, flat, turnsTowards, strictlyConvex}
 use Rattle.geometry.specs.declared.Vector.{Vector}
@@ -20,7 +20,7 @@ use Rattle.geometry.proofs.Results.{number-by, vector-by}
 use Rattle.format.specs.declared.patch.Patch.{Patch}
 use Rattle.format.specs.Patch.{cornerOf, patchOf}
 use Rattle.format.proofs.Tables.{length-table, table-at}
-use Rattle.scene.specs.Bounds.{VecWithin, CornersWithin, PatchBounded}
+use Rattle.scene.specs.Bounds.{VecWithin, PatchBounded}
 use Rattle.scene.specs.Tests.{wrap, turnsAtEdge, patchProper}
 use Rattle.scene.proofs.Loops.{IsBoth, IsEvery, every-entry}
 use Rattle.scene.proofs.InRange.{bounded}
@@ -45,7 +45,12 @@ module _ {p : Patch} (b : PatchBounded p) where
       bounded e (subst (VecWithin 10000) (corner-in p k h) (b .within .corner-within k (omega (arith, count-in p))))
 
   -- ---- the normal
-  plane-in : {u v w : Vector} → vecOf u ≡ cornerOf p 0 → vecOf v ≡ cornerOf p 1 → vecOf w ≡ cornerOf p 2 → planeOf u v w ≡ patchPlane (patchOf p)
+  plane-in :
+      {u v w : Vector} →
+      vecOf u ≡ cornerOf p 0 →
+      vecOf v ≡ cornerOf p 1 →
+      vecOf w ≡ cornerOf p 2 →
+      planeOf u v w ≡ patchPlane (patchOf p)
   plane-in eu ev ew = λ i.
       record {
         a = (eu ∙ sym (corner-in p 0 (omega (arith, b .three)))) i;
@@ -62,7 +67,8 @@ module _ {p : Patch} (b : PatchBounded p) where
   unfolding flat
   flat-asked = every-entry (λ (q : Vec). isZero (side (patchPlane (patchOf p)) q)) (cornerOf p) (p .count) refl
 
-  module _ (k : ℕ) {n a q : Vector} {r : ℤ} (en : VectorIs 800000000 (normal (patchOf p)) n) (ea : vecOf a ≡ cornerOf p 0) (eq : vecOf q ≡ cornerOf p k)
+  module _ (k : ℕ) {n a q : Vector} {r : ℤ} (en : VectorIs 800000000 (normal (patchOf p)) n) (ea : vecOf a ≡ cornerOf p 0)
+      (eq : vecOf q ≡ cornerOf p k)
       (is : NumberIs 48000000000000 (dot (minus (vecOf q) (vecOf a)) (vecOf n)) r) where
     side-found : NumberIs 48000000000000 (side (patchPlane (patchOf p)) (cornerOf p k)) r
     side-found = number-by is (λ i. dot (minus (eq i) ((ea ∙ sym (corner-in p 0 (omega (arith, b .three)))) i)) (en .value i))
@@ -76,21 +82,29 @@ module _ {p : Patch} (b : PatchBounded p) where
   -- ---- strictly convex
   pub convex-asked : IsEvery (p .count) (turnsAtEdge (patchOf p)) (strictlyConvex (patchOf p))
   unfolding strictlyConvex edges
-  convex-asked =
-      every-entry (λ (e : Edge). every (turnsTowards (normal (patchOf p)) e) (e .others)) (λ (k : ℕ). firstEdge (round (patchOf p .corners) k)) (p .count)
-      (ap (λ (m : ℕ). every (λ (e : Edge). every (turnsTowards (normal (patchOf p)) e) (e .others)) (map (λ (k : ℕ). firstEdge (round (patchOf p .corners) k)) (range 0 m))) (count-in p))
+  convex-asked = every-entry all-turn edge-from (p .count) (ap (λ (m : ℕ). every all-turn (map edge-from (range 0 m))) (count-in p))
+    where
+      all-turn : Edge → Bool
+      all-turn e = every (turnsTowards (normal (patchOf p)) e) (e .others)
+
+      edge-from : ℕ → Edge
+      edge-from k = firstEdge (round (patchOf p .corners) k)
 
   module _ {k : ℕ} (h : k < p .count) where
     pub turns-asked : IsEvery (p .count - 2) (turnAt p k) (turnsAtEdge (patchOf p) k)
     turns-asked =
-        every-entry (turnsTowards (normal (patchOf p)) (edge (cornerOf p) (p .count) k)) (λ (j : ℕ). cornerOf p (wrap (p .count) (k + 2 + j))) (p .count - 2)
+        every-entry (turnsTowards (normal (patchOf p)) (edge (cornerOf p) (p .count) k))
+        (λ (j : ℕ). cornerOf p (wrap (p .count) (k + 2 + j))) (p .count - 2)
         (ap (λ (e : Edge). every (turnsTowards (normal (patchOf p)) e) (e .others)) (edge-at (cornerOf p) (p .count) k h (b .three)))
 
     -- the end of the edge and the other corner were read at places i and o
     module _ (j : ℕ) {n v w q : Vector} {i o : ℕ} {r : ℤ} (en : VectorIs 800000000 (normal (patchOf p)) n) (ev : vecOf v ≡ cornerOf p k)
-        (ei : i ≡ wrap (p .count) (k + 1)) (ew : vecOf w ≡ cornerOf p i) (eo : o ≡ wrap (p .count) (k + 2 + j)) (eq : vecOf q ≡ cornerOf p o)
+        (ei : i ≡ wrap (p .count) (k + 1)) (ew : vecOf w ≡ cornerOf p i) (eo : o ≡ wrap (p .count) (k + 2 + j))
+        (eq : vecOf q ≡ cornerOf p o)
         (is : NumberIs 1920000000000000000 (dot (vecOf n) (cross (minus (vecOf w) (vecOf v)) (minus (vecOf q) (vecOf v)))) r) where
-      turn-found : r ≡ dot (normal (patchOf p)) (cross (minus (cornerOf p (wrap (p .count) (k + 1))) (cornerOf p k)) (minus (cornerOf p (wrap (p .count) (k + 2 + j))) (cornerOf p k)))
+      turn-found :
+          r
+          ≡ dot (normal (patchOf p)) (cross (minus (cornerOf p (wrap (p .count) (k + 1))) (cornerOf p k)) (minus (cornerOf p (wrap (p .count) (k + 2 + j))) (cornerOf p k)))
       turn-found =
           let fw : vecOf w ≡ cornerOf p (wrap (p .count) (k + 1)) = ew ∙ ap (cornerOf p) ei in
           let fq : vecOf q ≡ cornerOf p (wrap (p .count) (k + 2 + j)) = eq ∙ ap (cornerOf p) eo in

@@ -1,14 +1,13 @@
 -- The edges of a table of corners: the corners read round from a place are a table too.
-use mathlib.Core.Path.{_≡_, refl, sym, ap, ap₂, _∙_, subst}
-use mathlib.Core.Bool.{Bool, true, false}
-use mathlib.Core.List.{List, [], _∷_, _++_, map}
+use mathlib.Core.Path.{_≡_, sym, ap, ap₂, _∙_}
+use mathlib.Core.List.{List, _∷_, _++_, map}
 use Prim.Native.Nat.{ℕ, zero, suc, _+_, _-_, _≤_, _<_}
 use native.Mathlib.Nat.{zero-add, add-zero}
 use native.Mathlib.Omega.{arith}
-use lib.ListN.{length, take, drop, length-drop}
+use lib.ListN.{take, drop, length-drop}
 use lib.Seq.{take-all}
 use borrow.Author.Tests.{lt-ltb, le-ltb}
-use Rattle.model.specs.Lists.{range, every}
+use Rattle.model.specs.Lists.{range}
 use Rattle.model.specs.Vector.{Vec}
 use Rattle.model.specs.Patch.{Edge, round, firstEdge}
 use Rattle.format.proofs.Tables.{length-table, run-of-table, same-table}

@@ -1,19 +1,16 @@
 -- Question 6: runs that follow each other.
-use mathlib.Core.Path.{_≡_, refl, sym, ap, ap₂, _∙_, subst}
-use mathlib.Core.Bool.{Bool, true, false, _&&_}
-use mathlib.Core.List.{List, [], _∷_, map, map-map}
-use Prim.Native.Nat.{ℕ, zero, suc, _+_, _*_, _-_, _≤_, _<_}
-use native.Mathlib.Nat.{sub-zero, add-zero}
+use mathlib.Core.Path.{_≡_, sym, _∙_}
+use mathlib.Core.Bool.{false, _&&_}
+use mathlib.Core.List.{map}
+use Prim.Native.Nat.{ℕ, suc, _+_, _*_, _-_, _≤_, _<_}
+use native.Mathlib.Nat.{sub-zero}
 use native.Mathlib.Numerals.{add-one}
-use native.Mathlib.Decide.{ℕ-discrete}
 use native.Mathlib.Omega.{arith}
-use lib.Dec.{eqb, leb}
-use lib.ListN.{length}
-use borrow.Author.Tests.{eqb-true, leb-true, le-leb, lt-leb, eq-eqb, ne-eqb}
-use Rattle.model.specs.Lists.{range, every}
+use lib.Dec.{eqb}
+use borrow.Author.Tests.{eq-eqb, ne-eqb}
+use Rattle.model.specs.Lists.{range}
 use Rattle.model.specs.Format.{Run}
 use Rattle.model.specs.Questions.{runsFollow}
-use Rattle.format.proofs.Booleans.{both}
 
 -- ---- the loop
 module _ (run : ℕ → Run) (n end : ℕ) where
@@ -27,7 +24,10 @@ module _ (run : ℕ → Run) (n end : ℕ) where
   none-follow = record { most = omega arith; low = omega arith; rest = rw (sub-zero n) }
 
   module _ {start k : ℕ} (f : FollowTo start k) where
-    next-run : k < n → runsFollow 0 end (map run (range 0 n)) ≡ (eqb (run k .first) start && runsFollow (start + run k .count) end (map run (range (k + 1) (n - (k + 1)))))
+    next-run :
+        k < n →
+        runsFollow 0 end (map run (range 0 n))
+        ≡ (eqb (run k .first) start && runsFollow (start + run k .count) end (map run (range (k + 1) (n - (k + 1)))))
     unfolding runsFollow
     next-run h =
         let e : n - k ≡ suc (n - (k + 1)) = omega arith in
@@ -36,7 +36,14 @@ module _ (run : ℕ → Run) (n end : ℕ) where
     pub breaks : {first : ℕ} → k < n → first ≡ run k .first → (first ≡ start → ⊥) → false ≡ runsFollow 0 end (map run (range 0 n))
     breaks h e m = sym (next-run h ∙ rw (← e, ne-eqb _ start m))
 
-    pub one-follows : {first count : ℕ} → k < n → first ≡ run k .first → first ≡ start → count ≡ run k .count → count < 65536 → FollowTo (start + count) (k + 1)
+    pub one-follows :
+        {first count : ℕ} →
+        k < n →
+        first ≡ run k .first →
+        first ≡ start →
+        count ≡ run k .count →
+        count < 65536 →
+        FollowTo (start + count) (k + 1)
     one-follows {first} {count} h e m c b =
         record {
           most = omega arith;

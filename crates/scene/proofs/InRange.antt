@@ -1,10 +1,10 @@
 -- Question 3, entry by entry, and what it tells: every coordinate is at most 10,000 in size.
 use mathlib.Core.Path.{_≡_, refl, sym, ap, _∙_, subst}
-use mathlib.Core.Bool.{Bool, true, false, _&&_, and-false}
+use mathlib.Core.Bool.{Bool, true, false}
 use mathlib.Core.List.{List}
-use Prim.Native.Nat.{ℕ, suc, _+_, _^_, _≤_, _<_}
+use Prim.Native.Nat.{ℕ, suc, _^_, _<_}
 use native.Mathlib.Omega.{arith}
-use lib.Dec.{leb, leb→le, ltb→lt}
+use lib.Dec.{leb→le, ltb→lt}
 use lib.IntN.{ℤ, pos, negsuc, natAbs}
 use lib.Signed.{mag, leZ, _<ℤ_, _≤ℤ_}
 use mir.Syntax.{w64}
@@ -20,7 +20,7 @@ use Rattle.geometry.specs.declared.Vector.{Vector}
 use Rattle.geometry.specs.Machine.{vecOf, Bounded}
 use Rattle.format.specs.declared.layout.Layout.{Layout}
 use Rattle.format.specs.Layout.{LaidOut, nodeNumber, cornerNumber}
-use Rattle.format.proofs.Booleans.{both, three, no-first-of-three, no-second-of-three, then-third}
+use Rattle.format.proofs.Booleans.{three, no-first-of-three, no-second-of-three, then-third}
 use Rattle.scene.specs.Bounds.{VecWithin, PlaneWithin}
 use Rattle.scene.specs.Tests.{nodesInRange, cornersInRange}
 use Rattle.scene.proofs.Loops.{IsBoth, both-yes, IsEvery, every-entry, each}
@@ -57,7 +57,8 @@ module _ (s : Plane) where
   b-outside = no-second-of-three (pointInRange (s .a)) (pointInRange (s .b)) (pointInRange (s .c))
 
   pub c-decides :
-      {a b c : Bool} → a ≡ pointInRange (s .a) → a ≡ true → b ≡ pointInRange (s .b) → b ≡ true → c ≡ pointInRange (s .c) → c ≡ planeInRange s
+      {a b c : Bool} → a ≡ pointInRange (s .a) → a ≡ true → b ≡ pointInRange (s .b) → b ≡ true → c ≡ pointInRange (s .c) → c
+      ≡ planeInRange s
   c-decides = then-third (pointInRange (s .a)) (pointInRange (s .b)) (pointInRange (s .c))
 
 -- ---- the tables

@@ -28,7 +28,10 @@ pub record IsEvery (n : ℕ) (test : ℕ → Bool) (whole : Bool) : Type 0 where
   pub one-no : (k : ℕ) → k < n → test k ≡ false → whole ≡ false
   pub all-yes : ((k : ℕ) → k < n → test k ≡ true) → whole ≡ true
 
-pub every-entry : {A : Type 0} (test : A → Bool) (f : ℕ → A) (n : ℕ) {whole : Bool} → whole ≡ every test (map f (range 0 n)) → IsEvery n (λ (k : ℕ). test (f k)) whole
+pub every-entry :
+    {A : Type 0} (test : A → Bool) (f : ℕ → A) (n : ℕ) {whole : Bool} →
+    whole ≡ every test (map f (range 0 n)) →
+    IsEvery n (λ (k : ℕ). test (f k)) whole
 every-entry test f n e =
     record { one-no = λ k h t. e ∙ one-fails test f n k h t; all-yes = λ g. e ∙ all-pass test f n g }
 

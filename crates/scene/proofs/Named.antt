@@ -1,7 +1,7 @@
 -- Question 5, node by node.
 use mathlib.Core.Path.{_≡_, refl, sym, ap, _∙_, subst}
-use mathlib.Core.Bool.{Bool, true, false, _&&_, _||_}
-use mathlib.Core.List.{List, [], _∷_, map}
+use mathlib.Core.Bool.{Bool, true, false, _&&_}
+use mathlib.Core.List.{List, map}
 use Prim.Native.Nat.{ℕ, zero, suc, _+_, _*_, _-_, _≤_, _<_}
 use native.Mathlib.Nat.{zero-add, add-zero, sub-zero}
 use native.Mathlib.Numerals.{add-one}
@@ -33,7 +33,9 @@ module _ (nodes parent child : ℕ) where
   pub after-parent : (child ≡ 65535 → ⊥) → parent < child → ltb child nodes ≡ properChild nodes parent child
   after-parent n h = rw (ne-eqb child 65535 n, lt-ltb parent child h)
 
-pub children-both : (nodes parent : ℕ) (n : NodeRecord) → IsBoth (properChild nodes parent (n .positive)) (properChild nodes parent (n .negative)) (properChildren nodes parent n)
+pub children-both :
+    (nodes parent : ℕ) (n : NodeRecord) →
+    IsBoth (properChild nodes parent (n .positive)) (properChild nodes parent (n .negative)) (properChildren nodes parent n)
 children-both nodes parent n = record { both-tests = refl }
 
 -- ---- a test that is told the node's number, over a table
@@ -124,7 +126,10 @@ module _ {f : ℕ → NodeRecord} {n k : ℕ} {times : List ℕ} (c : Counted f 
 
 -- the first node of those left, by its children
 module _ (f : ℕ → NodeRecord) {n k : ℕ} (h : k < n) where
-  left-over : (j : ℕ) → occurrences j (children (map f (range k (n - k)))) ≡ addIf (eqb (f k .positive) j) (addIf (eqb (f k .negative) j) (occurrences j (children (map f (range (k + 1) (n - (k + 1)))))))
+  left-over :
+      (j : ℕ) →
+      occurrences j (children (map f (range k (n - k))))
+      ≡ addIf (eqb (f k .positive) j) (addIf (eqb (f k .negative) j) (occurrences j (children (map f (range (k + 1) (n - (k + 1)))))))
   unfolding children
   left-over j =
       let e : n - k ≡ suc (n - (k + 1)) = omega arith in
@@ -183,12 +188,19 @@ module _ {times : List ℕ} {k : ℕ} (o : OnceTo times k) where
 
   pub not-once : (nodes : ℕ) → k < nodes → (getD times k 0 ≡ 1 → ⊥) → false ≡ eachOnce times nodes
   not-once nodes h n =
-      sym (range-fails (λ (j : ℕ). eqb (getD times j 0) 1) 1 (nodes - 1) k (o .from-one) (omega (arith, o .from-one)) (ne-eqb (getD times k 0) 1 n))
+      sym
+      (range-fails (λ (j : ℕ). eqb (getD times j 0) 1) 1 (nodes - 1) k (o .from-one) (omega (arith, o .from-one)) (ne-eqb (getD times k 0) 1 n))
 
   pub all-once : (nodes : ℕ) → nodes ≤ k → true ≡ eachOnce times nodes
-  all-once nodes h = sym (range-passes (λ (j : ℕ). eqb (getD times j 0) 1) 1 (nodes - 1) (λ j a b. o .once j a (omega (arith, o .from-one))))
+  all-once nodes h =
+      sym
+      (range-passes (λ (j : ℕ). eqb (getD times j 0) 1) 1 (nodes - 1) (λ j a b. o .once j a (omega (arith, o .from-one))))
 
-pub once-named : {bytes : List ℕ} {l : Layout} {times : List ℕ} → LaidOut bytes l → TimesNamed (decode bytes) times → eachOnce times (l .nodes) ≡ namedOnce (decode bytes)
+pub once-named :
+    {bytes : List ℕ} {l : Layout} {times : List ℕ} →
+    LaidOut bytes l →
+    TimesNamed (decode bytes) times →
+    eachOnce times (l .nodes) ≡ namedOnce (decode bytes)
 once-named {bytes} {l} {times} laid t =
     range-same (λ (j : ℕ). eqb (getD times j 0) 1) (λ (j : ℕ). eqb (occurrences j (children (decode bytes .nodes))) 1) 1 (l .nodes - 1)
     (λ j a b. ap (λ (m : ℕ). eqb m 1) (t .times-named j (omega (arith, laid .few-nodes))))

@@ -1,6 +1,6 @@
 -- Question 7, patch by patch and node by node.
 use mathlib.Core.Path.{_≡_, refl, sym, ap, _∙_, subst}
-use mathlib.Core.Bool.{Bool, true, false, _&&_}
+use mathlib.Core.Bool.{true, false, _&&_}
 use mathlib.Core.List.{List, [], _∷_, map, map-map}
 use Prim.Native.Nat.{ℕ, suc, _+_, _-_, _≤_, _<_}
 use native.Mathlib.Numerals.{add-one}
@@ -8,12 +8,11 @@ use native.Mathlib.Omega.{arith}
 use lib.Dec.{leb}
 use borrow.Author.Tests.{le-leb, lt-leb}
 use Rattle.model.specs.Lists.{range, every}
-use Rattle.model.specs.Format.{Run, NodeRecord, PatchRecord, Scene, decode}
+use Rattle.model.specs.Format.{NodeRecord, PatchRecord, Scene, decode}
 use Rattle.model.specs.Questions.{within, neverFalling, panelsInRange, panelsNeverFall, panelsProper}
 use Rattle.format.specs.declared.layout.Layout.{Layout}
 use Rattle.format.specs.declared.records.Node.{Node}
-use Rattle.format.specs.declared.records.Run.{Run as MachineRun}
-use Rattle.format.specs.Machine.{nodeOf, runOf}
+use Rattle.format.specs.Machine.{nodeOf}
 use Rattle.format.specs.Layout.{LaidOut, RunsInside, Inside, nodeNumber, patchNumber}
 use Rattle.format.proofs.Decoded.{patches-in}
 use Rattle.scene.specs.Tests.{panelInRange, runNeverFalls}
@@ -69,7 +68,9 @@ module _ {bytes : List ℕ} {l : Layout} (laid : LaidOut bytes l) where
   unfolding panelsInRange
   panels-asked = every-entry panelInRange (patchNumber bytes l) (l .patches) (ap (every panelInRange) (laid .patches))
 
-  pub falls-asked : IsEvery (l .nodes) (λ (k : ℕ). runNeverFalls (decode bytes .patches) (nodeNumber bytes k .patchRun)) (panelsNeverFall (decode bytes))
+  pub falls-asked :
+      IsEvery (l .nodes) (λ (k : ℕ). runNeverFalls (decode bytes .patches) (nodeNumber bytes k .patchRun))
+      (panelsNeverFall (decode bytes))
   unfolding panelsNeverFall
   falls-asked =
       every-entry (λ (n : NodeRecord). runNeverFalls (decode bytes .patches) (n .patchRun)) (nodeNumber bytes) (l .nodes)
@@ -82,9 +83,15 @@ module _ {bytes : List ℕ} {l : Layout} (laid : LaidOut bytes l) where
       let e : a + b - a ≡ b = omega arith in
       ap neverFalling
       (ap (λ (m : ℕ). map (λ (k : ℕ). patchNumber bytes l k .panel) (range a m)) e
-      ∙ sym (ap (map (λ (p : PatchRecord). p .panel)) (patches-in laid a b h) ∙ map-map (λ (p : PatchRecord). p .panel) (patchNumber bytes l) (range a b)))
+      ∙ sym
+      (ap (map (λ (p : PatchRecord). p .panel)) (patches-in laid a b h) ∙ map-map (λ (p : PatchRecord). p .panel) (patchNumber bytes l) (range a b)))
 
-  pub run-inside : {k : ℕ} {n : Node} → RunsInside bytes l → k < l .nodes → nodeOf n ≡ nodeNumber bytes k → n .patches .first + n .patches .count ≤ l .patches
+  pub run-inside :
+      {k : ℕ} {n : Node} →
+      RunsInside bytes l →
+      k < l .nodes →
+      nodeOf n ≡ nodeNumber bytes k →
+      n .patches .first + n .patches .count ≤ l .patches
   run-inside {k} runs h e = subst (λ (r : NodeRecord). Inside (l .patches) (r .patchRun)) (sym e) (runs .patches k h) .inside
 
 pub panels-both : (s : Scene) → IsBoth (panelsInRange s) (panelsNeverFall s) (panelsProper s)

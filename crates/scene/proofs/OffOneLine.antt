@@ -1,6 +1,6 @@
 -- Question 4, node by node.
-use mathlib.Core.Path.{_≡_, refl, sym, ap, _∙_, subst}
-use mathlib.Core.Bool.{Bool, true, false, not, _&&_, and-false}
+use mathlib.Core.Path.{_≡_, refl, sym, ap, subst}
+use mathlib.Core.Bool.{true, false, not, _&&_, and-false}
 use mathlib.Core.List.{List}
 use Prim.Native.Nat.{ℕ, zero, suc, _^_, _<_}
 use lib.IntN.{ℤ, pos, negsuc}
@@ -15,7 +15,7 @@ use Rattle.model.specs.Vector.{Vec, Plane, planeNormal, isZero}
 use Rattle.model.specs.Format.{NodeRecord, decode}
 use Rattle.model.specs.Questions.{offOneLine, planesProper, coordinatesInRange}
 use Rattle.geometry.specs.declared.Vector.{Vector}
-use Rattle.geometry.specs.Machine.{vecOf, VectorIs}
+use Rattle.geometry.specs.Machine.{VectorIs}
 use Rattle.format.specs.declared.layout.Layout.{Layout}
 use Rattle.format.specs.declared.records.Node.{Node}
 use Rattle.format.specs.Machine.{nodeOf}
@@ -52,7 +52,8 @@ module _ (s : Plane) {r : Vector} (is : VectorIs 800000000 (planeNormal s) r) wh
 
   pub all-zero : ofZ w64 (r .x) ≡ 0 → ofZ w64 (r .y) ≡ 0 → ofZ w64 (r .z) ≡ 0 → false ≡ offOneLine s
   all-zero ex ey ez =
-      rw (normal-test, zero-word tt (is .bounded .x-within) ex, zero-word tt (is .bounded .y-within) ey, zero-word tt (is .bounded .z-within) ez)
+      rw
+      (normal-test, zero-word tt (is .bounded .x-within) ex, zero-word tt (is .bounded .y-within) ey, zero-word tt (is .bounded .z-within) ez)
 
 -- ---- the table
 module _ {bytes : List ℕ} {l : Layout} (laid : LaidOut bytes l) where
@@ -62,5 +63,10 @@ module _ {bytes : List ℕ} {l : Layout} (laid : LaidOut bytes l) where
       every-entry (λ (n : NodeRecord). offOneLine (n .plane)) (nodeNumber bytes) (l .nodes)
       (ap (every (λ (n : NodeRecord). offOneLine (n .plane))) (laid .nodes))
 
-  pub node-bounded : {k : ℕ} {n : Node} → coordinatesInRange (decode bytes) ≡ true → k < l .nodes → nodeOf n ≡ nodeNumber bytes k → PlaneWithin 10000 (nodeOf n .plane)
+  pub node-bounded :
+      {k : ℕ} {n : Node} →
+      coordinatesInRange (decode bytes) ≡ true →
+      k < l .nodes →
+      nodeOf n ≡ nodeNumber bytes k →
+      PlaneWithin 10000 (nodeOf n .plane)
   node-bounded {k} t h e = subst (λ (r : NodeRecord). PlaneWithin 10000 (r .plane)) (sym e) (node-within laid t k h)

@@ -1,12 +1,11 @@
 -- Question 8 over the table of patches, and what questions 3 and 6 tell of each patch.
-use mathlib.Core.Path.{_≡_, refl, sym, ap, _∙_, subst}
+use mathlib.Core.Path.{_≡_, sym, ap, _∙_, subst}
 use mathlib.Core.Bool.{true}
-use mathlib.Core.List.{List, map}
+use mathlib.Core.List.{List}
 use Prim.Native.Nat.{ℕ, _+_, _<_}
 use native.Mathlib.Omega.{arith}
 use Rattle.model.specs.Lists.{range, every}
 use Rattle.model.specs.Vector.{origin}
-use Rattle.model.specs.Patch as model
 use Rattle.model.specs.Format.{decode, patchOf, patchNumbered}
 use Rattle.model.specs.Questions.{coordinatesInRange, patchesProper}
 use Rattle.model.proofs.Ranges.{range-at}

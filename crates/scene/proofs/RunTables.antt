@@ -1,8 +1,8 @@
 -- What question 6 tells: the runs of the tables are inside, and name each record once.
-use mathlib.Core.Path.{_≡_, refl, sym, ap, ap₂, _∙_, subst}
-use mathlib.Core.Bool.{Bool, true, false, _&&_}
+use mathlib.Core.Path.{_≡_, refl, sym, ap, ap₂, _∙_}
+use mathlib.Core.Bool.{true, false}
 use mathlib.Core.List.{List, map, map-map}
-use Prim.Native.Nat.{ℕ, zero, suc, _+_, _*_, _-_, _≤_, _<_}
+use Prim.Native.Nat.{ℕ, zero, suc, _+_, _*_, _≤_, _<_}
 use native.Mathlib.Decide.{ℕ-discrete}
 use native.Mathlib.Omega.{arith}
 use lib.Dec.{eqb, leb}
@@ -71,51 +71,66 @@ module _ {bytes : List ℕ} {l : Layout} (laid : LaidOut bytes l) where
       sum-count : 32 + 26 * k + 24 ≡ 54 + 26 * k + 2
       sum-count = omega arith
 
-  patch-run : (k : ℕ) → patchNumber bytes l k .cornerRun ≡ runAt bytes (34 + 26 * l .nodes + 6 * k)
+  patch-run : (k : ℕ) → patchNumber bytes l k .cornerRun ≡ runAt bytes (32 + 26 * l .nodes + 2 + 6 * k)
   unfolding patchAt
   patch-run k = λ i.
       record { first = u16At bytes (sum-first i); count = u16At bytes (sum-count i) }
     where
-      sum-first : 32 + 26 * l .nodes + 6 * k + 2 ≡ 34 + 26 * l .nodes + 6 * k
+      sum-first : 32 + 26 * l .nodes + 6 * k + 2 ≡ 32 + 26 * l .nodes + 2 + 6 * k
       sum-first = omega arith
 
-      sum-count : 32 + 26 * l .nodes + 6 * k + 4 ≡ 34 + 26 * l .nodes + 6 * k + 2
+      sum-count : 32 + 26 * l .nodes + 6 * k + 4 ≡ 32 + 26 * l .nodes + 2 + 6 * k + 2
       sum-count = omega arith
 
-  node-runs : patchRunsFollow (decode bytes) ≡ runsFollow 0 (l .patches) (map (λ (k : ℕ). nodeNumber bytes k .patchRun) (range 0 (l .nodes)))
+  node-runs :
+      patchRunsFollow (decode bytes)
+      ≡ runsFollow 0 (l .patches) (map (λ (k : ℕ). nodeNumber bytes k .patchRun) (range 0 (l .nodes)))
   unfolding patchRunsFollow
   node-runs =
       ap₂ (runsFollow 0) (patch-count laid)
       (ap (map (λ (n : NodeRecord). n .patchRun)) (laid .nodes)
       ∙ map-map (λ (n : NodeRecord). n .patchRun) (nodeNumber bytes) (range 0 (l .nodes)))
 
-  patch-runs : cornersFollow (decode bytes) ≡ runsFollow 0 (l .corners) (map (λ (k : ℕ). patchNumber bytes l k .cornerRun) (range 0 (l .patches)))
+  patch-runs :
+      cornersFollow (decode bytes)
+      ≡ runsFollow 0 (l .corners) (map (λ (k : ℕ). patchNumber bytes l k .cornerRun) (range 0 (l .patches)))
   patch-runs =
       ap₂ (runsFollow 0) (corner-count laid)
       (ap (map (λ (p : PatchRecord). p .cornerRun)) (laid .patches)
       ∙ map-map (λ (p : PatchRecord). p .cornerRun) (patchNumber bytes l) (range 0 (l .patches)))
 
   -- as one loop reads them
-  pub node-runs-read : runsFollow 0 (l .patches) (map (λ (k : ℕ). runAt bytes (54 + 26 * k)) (range 0 (l .nodes))) ≡ patchRunsFollow (decode bytes)
+  pub node-runs-read :
+      runsFollow 0 (l .patches) (map (λ (k : ℕ). runAt bytes (54 + 26 * k)) (range 0 (l .nodes)))
+      ≡ patchRunsFollow (decode bytes)
   node-runs-read =
       sym (node-runs
-      ∙ ap (runsFollow 0 (l .patches)) (same-table (λ (k : ℕ). nodeNumber bytes k .patchRun) (λ (k : ℕ). runAt bytes (54 + 26 * k)) 0 0 (l .nodes) (λ k h. node-run (0 + k))))
+      ∙ ap (runsFollow 0 (l .patches))
+      (same-table (λ (k : ℕ). nodeNumber bytes k .patchRun) (λ (k : ℕ). runAt bytes (54 + 26 * k)) 0 0 (l .nodes) (λ k h. node-run (0 + k))))
 
-  pub patch-runs-read : runsFollow 0 (l .corners) (map (λ (k : ℕ). runAt bytes (34 + 26 * l .nodes + 6 * k)) (range 0 (l .patches))) ≡ cornersFollow (decode bytes)
+  pub patch-runs-read :
+      runsFollow 0 (l .corners) (map (λ (k : ℕ). runAt bytes (32 + 26 * l .nodes + 2 + 6 * k)) (range 0 (l .patches)))
+      ≡ cornersFollow (decode bytes)
   patch-runs-read =
       sym (patch-runs
-      ∙ ap (runsFollow 0 (l .corners)) (same-table (λ (k : ℕ). patchNumber bytes l k .cornerRun) (λ (k : ℕ). runAt bytes (34 + 26 * l .nodes + 6 * k)) 0 0 (l .patches) (λ k h. patch-run (0 + k))))
+      ∙ ap (runsFollow 0 (l .corners))
+      (same-table (λ (k : ℕ). patchNumber bytes l k .cornerRun) (λ (k : ℕ). runAt bytes (32 + 26 * l .nodes + 2 + 6 * k)) 0 0 (l .patches) (λ k h. patch-run (0 + k))))
 
   corners-inside : cornersFollow (decode bytes) ≡ true → (k : ℕ) → k < l .patches → Inside (l .corners) (patchNumber bytes l k .cornerRun)
   corners-inside t = runs-end (λ (k : ℕ). patchNumber bytes l k .cornerRun) (l .corners) (l .patches) (sym patch-runs ∙ t)
 
   -- ---- the corner counts
-  patch-length : (k : ℕ) → Inside (l .corners) (patchNumber bytes l k .cornerRun) → length (patchOf (decode bytes .corners) (patchNumber bytes l k) .corners) ≡ patchNumber bytes l k .cornerRun .count
+  patch-length :
+      (k : ℕ) →
+      Inside (l .corners) (patchNumber bytes l k .cornerRun) →
+      length (patchOf (decode bytes .corners) (patchNumber bytes l k) .corners) ≡ patchNumber bytes l k .cornerRun .count
   patch-length k h =
       ap (λ (p : Patch). length (p .corners)) (patch-corners laid k h)
       ∙ length-table (cornerNumber bytes l) (patchNumber bytes l k .cornerRun .first) (patchNumber bytes l k .cornerRun .count)
 
-  pub counts-asked : cornersFollow (decode bytes) ≡ true → IsEvery (l .patches) (λ (k : ℕ). within 3 8 (patchNumber bytes l k .cornerRun .count)) (allCounted (decode bytes))
+  pub counts-asked :
+      cornersFollow (decode bytes) ≡ true →
+      IsEvery (l .patches) (λ (k : ℕ). within 3 8 (patchNumber bytes l k .cornerRun .count)) (allCounted (decode bytes))
   counts-asked t =
       let whole = every-entry cornersCounted (λ (k : ℕ). patchOf (decode bytes .corners) (patchNumber bytes l k)) (l .patches) (ap (every cornersCounted) (patch-table laid)) in
       record {

@@ -2,6 +2,8 @@
 use format::layout::Layout;
 use format::layout::node;
 use format::records::Node;
+use format::sizes::MOST_NODES;
+use format::sizes::NO_CHILD;
 ghost use mathlib.Core.Path.{_≡_};
 ghost use Prim.Native.Nat.{_≤_, _<_};
 ghost use lib.ListN.{length, getD};
@@ -15,7 +17,7 @@ ghost use Rattle.scene.specs.Children.{OneMore, TimesNamed};
 fn proper_child(nodes: usize, parent: usize, child: usize) -> bool
     ensures { λ r. ⌜ r ≡ properChild nodes parent child ⌝ }
 {
-    if child == 65535 {
+    if child == NO_CHILD {
         return true;
     }
     if child <= parent {
@@ -49,22 +51,22 @@ fn children_in_order(bytes: &[u8], l: Layout) -> bool
 }
 
 // one more naming of a child; 65,535 and other numbers that no node can have are not counted
-fn count_child(times: &mut [u16; 1024], child: usize)
+fn count_child(times: &mut [u16; MOST_NODES], child: usize)
     requires { ⌜ (length (now times) ≡ 1024) × (getD (now times) child 0 < 65535) ⌝ }
     ensures { λ r. ⌜ OneMore child (now (times .entry)) (now (times .exit)) ⌝ }
 {
-    if child < 1024 {
+    if child < MOST_NODES {
         times[child] = times[child] + 1;
     }
 }
 
 // how often each node is named
-fn times_named(bytes: &[u8], l: Layout) -> [u16; 1024]
+fn times_named(bytes: &[u8], l: Layout) -> [u16; MOST_NODES]
     requires { ⌜ LaidOut (now bytes) l ⌝ }
     ensures { λ r. ⌜ TimesNamed (decode (now (bytes .entry))) r ⌝ }
 {
     let n = l.nodes;
-    let mut times = [0u16; 1024];
+    let mut times = [0u16; MOST_NODES];
     let mut k = 0;
     while k < n {
         let m = node(bytes, l, k);
@@ -75,7 +77,7 @@ fn times_named(bytes: &[u8], l: Layout) -> [u16; 1024]
     times
 }
 
-fn each_once(times: [u16; 1024], nodes: usize) -> bool
+fn each_once(times: [u16; MOST_NODES], nodes: usize) -> bool
     requires { ⌜ nodes ≤ 1024 ⌝ }
     ensures { λ r. ⌜ r ≡ eachOnce times nodes ⌝ }
 {

@@ -9,7 +9,7 @@ use geometry::side;
 use geometry::turn;
 ghost use mathlib.Core.Path.{_≡_};
 ghost use mathlib.Core.Bool.{true};
-ghost use Prim.Native.Nat.{_+_, _≤_, _<_};
+ghost use Prim.Native.Nat.{_+_, _<_};
 ghost use Rattle.geometry.specs.Machine.{VectorIs};
 ghost use Rattle.format.specs.Layout.{LaidOut, RunsInside};
 ghost use Rattle.format.specs.Patch.{patchOf};

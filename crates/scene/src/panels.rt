@@ -4,9 +4,10 @@ use format::layout::node;
 use format::layout::patch_record;
 use format::records::PatchRecord;
 use format::records::Run;
+use format::sizes::HIGHEST_PANEL;
 ghost use mathlib.Core.Path.{_≡_};
 ghost use mathlib.Core.Bool.{true};
-ghost use Prim.Native.Nat.{ℕ, _+_, _≤_, _<_};
+ghost use Prim.Native.Nat.{_+_, _≤_, _<_};
 ghost use Rattle.format.specs.Machine.{patchRecordOf, runOf};
 ghost use Rattle.format.specs.Layout.{LaidOut, RunsInside};
 ghost use Rattle.model.specs.Format.{decode};
@@ -19,7 +20,7 @@ fn panel_in_range(p: PatchRecord) -> bool
     if p.panel < 1 {
         return false;
     }
-    p.panel <= 1024
+    p.panel <= HIGHEST_PANEL
 }
 
 fn panels_in_range(bytes: &[u8], l: Layout) -> bool

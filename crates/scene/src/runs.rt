@@ -2,6 +2,11 @@
 use format::bytes::u16_at;
 use format::layout::Layout;
 use format::layout::patch_record;
+use format::sizes::HEADER_SIZE;
+use format::sizes::NODE_RUN;
+use format::sizes::NODE_SIZE;
+use format::sizes::PATCH_RUN;
+use format::sizes::PATCH_SIZE;
 ghost use mathlib.Core.Path.{_≡_};
 ghost use mathlib.Core.Bool.{true};
 ghost use mathlib.Core.List.{map};
@@ -35,14 +40,20 @@ fn patch_runs_follow(bytes: &[u8], l: Layout) -> bool
     requires { ⌜ LaidOut (now bytes) l ⌝ }
     ensures { λ r. ⌜ r ≡ patchRunsFollow (decode (now (bytes .entry))) ⌝ }
 {
-    runs_follow(bytes, 54, 26, l.nodes, l.patches)
+    runs_follow(bytes, HEADER_SIZE + NODE_RUN, NODE_SIZE, l.nodes, l.patches)
 }
 
 fn corners_follow(bytes: &[u8], l: Layout) -> bool
     requires { ⌜ LaidOut (now bytes) l ⌝ }
     ensures { λ r. ⌜ r ≡ cornersFollow (decode (now (bytes .entry))) ⌝ }
 {
-    runs_follow(bytes, 34 + 26 * l.nodes, 6, l.patches, l.corners)
+    runs_follow(
+        bytes,
+        HEADER_SIZE + NODE_SIZE * l.nodes + PATCH_RUN,
+        PATCH_SIZE,
+        l.patches,
+        l.corners,
+    )
 }
 
 fn three_to_eight(count: usize) -> bool

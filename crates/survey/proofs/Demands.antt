@@ -28,7 +28,7 @@ use Rattle.model.proofs.Removal.{pictures-counts, cell-differs, cell-shows}
 use Rattle.rows.proofs.Rows.{row-length, row-congr}
 use Rattle.survey.proofs.PanelNumbers.{panel-bounded}
 use Rattle.survey.specs.Contract.{Lent, callOn, results, leftBy, Surveyed}
-use Rattle.survey.specs.Demands.{patchesIn, cell, ClosestPanels, ChosenTakenAway, DemandThree}
+use Rattle.survey.specs.Demands.{patchesIn, cell, ClosestPanels, ChosenTakenAway, DemandThree, PairSurveyed}
 
 -- an accepted call leaves the results
 pub accepted-leaves :
@@ -137,3 +137,11 @@ pub surveyed-from :
     Surveyed bytes v w before after result
 surveyed-from {bytes} {w = w} {before = before} {after = after} {result = result} e h =
     subst (λ (x : Vec). Surveyed bytes x w before after result) e h
+
+-- both calls, and demand 3
+pub pair-surveyed :
+    {firstBytes secondBytes : List ℕ} {eye : Vec} {w : Window} {before₁ after₁ before₂ after₂ : Lent} {result₁ result₂ : ℕ} →
+    Surveyed firstBytes eye w before₁ after₁ result₁ →
+    Surveyed secondBytes eye w before₂ after₂ result₂ →
+    PairSurveyed firstBytes secondBytes eye w before₁ after₁ before₂ after₂ result₁ result₂
+pair-surveyed h k = record { first-call = h; second-call = k; demand-three = chosen-panels-taken-away h k }

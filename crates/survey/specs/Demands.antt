@@ -65,3 +65,10 @@ DemandThree firstBytes secondBytes eye w first second firstResult secondResult =
     (chosen : ℕ → Bool) → firstResult ≡ 0 → secondResult ≡ 0 →
     TakenAway chosen (patchesIn firstBytes) (patchesIn secondBytes) →
     ChosenTakenAway firstBytes chosen eye w first second
+
+-- Both calls, each by the survey's contract, and demand 3 of them.
+pub record PairSurveyed
+    (firstBytes secondBytes : List ℕ) (eye : Vec) (w : Window) (before₁ after₁ before₂ after₂ : Lent) (result₁ result₂ : ℕ) : Type 0 where
+  pub first-call : Surveyed firstBytes eye w before₁ after₁ result₁
+  pub second-call : Surveyed secondBytes eye w before₂ after₂ result₂
+  pub demand-three : DemandThree firstBytes secondBytes eye w after₁ after₂ result₁ result₂

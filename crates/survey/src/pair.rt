@@ -2,7 +2,7 @@
 use crate::ring_survey;
 ghost use Rattle.model.specs.Vector.{vec};
 ghost use Rattle.survey.specs.Contract.{windowOf, lentOf};
-ghost use Rattle.survey.specs.Demands.{DemandThree};
+ghost use Rattle.survey.specs.Demands.{PairSurveyed};
 
 // the results of the two calls
 pub struct Results {
@@ -28,8 +28,10 @@ pub fn survey_pair(
     unlit2: &mut [u16],
     counter2: &mut u32,
 ) -> Results
-    ensures { λ r. ⌜ DemandThree (now (first .entry)) (now (second .entry)) (vec «eye_x» «eye_y» «eye_z») (windowOf width height lens)
+    ensures { λ r. ⌜ PairSurveyed (now (first .entry)) (now (second .entry)) (vec «eye_x» «eye_y» «eye_z») (windowOf width height lens)
+        (lentOf (now (picture1 .entry)) (now (counts1 .entry)) (now (unlit1 .entry)) (now (counter1 .entry)))
         (lentOf (now (picture1 .exit)) (now (counts1 .exit)) (now (unlit1 .exit)) (now (counter1 .exit)))
+        (lentOf (now (picture2 .entry)) (now (counts2 .entry)) (now (unlit2 .entry)) (now (counter2 .entry)))
         (lentOf (now (picture2 .exit)) (now (counts2 .exit)) (now (unlit2 .exit)) (now (counter2 .exit)))
         (r .first) (r .second) ⌝ }
 {

@@ -1,3 +1,4 @@
+use native.Mathlib.Omega.{arith}
 use Rattle.format.proofs.HeaderTests.{too-short, too-long, other-version, not-reserved, header-whole}
 use borrow.Author.Needs.{needs}
 use Rattle.format.proofs.header.has_header.Statement.{statement}
@@ -7,7 +8,7 @@ returns : tie.Need-returns
 returns c = search too-short
 
 returns-2 : tie.Need-returns-2
-returns-2 c = search too-long
+returns-2 c = too-long _ (omega arith)
 
 returns-3 : tie.Need-returns-3
 returns-3 c = search other-version
@@ -16,7 +17,7 @@ returns-4 : tie.Need-returns-4
 returns-4 c = search not-reserved
 
 returns-5 : tie.Need-returns-5
-returns-5 c = search header-whole
+returns-5 c = header-whole _ (c .before .before .before .before .before .read-header .ensures) (omega arith) (omega arith) (search) (search)
 
 pub has-header-spec : {M : Type 1} → statement M
 has-header-spec =

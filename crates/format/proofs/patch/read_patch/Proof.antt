@@ -4,10 +4,14 @@ use borrow.Author.Needs.{needs}
 use Rattle.format.proofs.patch.read_patch.Statement.{statement}
 use Rattle.format.proofs.patch.read_patch.Tie as tie
 
-known : (c : tie.After-struct-known3) → RunKnown (c .before .before .before .before .before .before .args .bytes .now) (c .before .before .before .before .before .before .args .l) (c .before .before .before .before .patch-record .result .corners)
-known c =
-    let p = c .before .before .before .before .before .before .pre in
-    run-known (p .0) (p .1) (p .2) (c .before .before .before .before .patch-record .ensures)
+-- the record's run, where the offset of its first corner is computed
+module _ (c : tie.After-struct-known3) where
+  abbrev start : tie.Start
+  start = c .before .before .before .before .before .before
+
+  known : RunKnown (start .args .bytes .now) (start .args .l) (c .before .before .before .before .patch-record .result .corners)
+  known =
+      run-known (start .pre .0) (start .pre .1) (start .pre .2) (c .before .before .before .before .patch-record .ensures)
 
 mul-at-3 : tie.Need-mul-at-3
 mul-at-3 c = omega (arith, known c)

@@ -7,7 +7,8 @@ returns : tie.Need-returns
 returns c =
     let d = c .before .before .before in
     node-made _ _ (d .before .before .before .point-at .ensures) (d .before .before .point-at2 .ensures) (d .before .point-at3 .ensures)
-    (d .u16-at .ensures .value) (c .before .before .u16-at2 .ensures .value) (c .before .u16-at3 .ensures .value) (c .u16-at4 .ensures .value)
+    (d .u16-at .ensures .value) (c .before .before .u16-at2 .ensures .value) (c .before .u16-at3 .ensures .value)
+    (c .u16-at4 .ensures .value)
 
 pub node-at-spec : {M : Type 1} → statement M
 node-at-spec =

@@ -10,7 +10,8 @@ returns c = first-no (proper-both _) (c .before .children-in-order .ensures) (no
 
 returns-2 : tie.Need-returns-2
 returns-2 c =
-    second-decides (proper-both _) (c .before .before .children-in-order .ensures) (not-false _ (c .before .if1 .left)) (c .named-once .ensures)
+    second-decides (proper-both _) (c .before .before .children-in-order .ensures) (not-false _ (c .before .if1 .left))
+    (c .named-once .ensures)
 
 pub children-proper-spec : {M : Type 1} → statement M
 children-proper-spec =

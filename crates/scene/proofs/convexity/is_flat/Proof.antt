@@ -36,14 +36,16 @@ returns c =
     let d = c .before .before in
     let s = d .before .before .before .before in
     refused (flat-asked (s .pre .0)) (d .before .loop-test .taken)
-    (sym (off-plane (s .pre .0) _ (s .pre .1) (d .before .before .before .corner-of .ensures) (d .corner-of2 .ensures) (c .before .side .ensures) (c .if1 .taken))) refl
+    (sym (off-plane (s .pre .0) _ (s .pre .1) (d .before .before .before .corner-of .ensures) (d .corner-of2 .ensures) (c .before .side .ensures) (c .if1 .taken)))
+    refl
 
 loop-again : tie.Need-loop-again Inv-loop μ-loop
 loop-again c =
     let d = c .before .before in
     let s = d .before .before .before .before in
     one-passed (d .before .before .loop .inv) (d .before .loop-test .taken)
-    (sym (on-plane (s .pre .0) _ (s .pre .1) (d .before .before .before .corner-of .ensures) (d .corner-of2 .ensures) (c .before .side .ensures) (c .if1 .left))) refl
+    (sym (on-plane (s .pre .0) _ (s .pre .1) (d .before .before .before .corner-of .ensures) (d .corner-of2 .ensures) (c .before .side .ensures) (c .if1 .left)))
+    refl
 
 returns-2 : tie.Need-returns-2 Inv-loop μ-loop
 returns-2 c = accepted (flat-asked (c .before .before .before .pre .0)) (c .before .loop .inv) (c .loop-test .left)

@@ -14,7 +14,8 @@ plane-normal-requires c κs =
 
 returns : tie.Need-returns
 returns c =
-    normal-found (c .before .before .before .before .pre) (c .before .before .before .corner-of .ensures) (c .before .before .corner-of2 .ensures)
+    normal-found (c .before .before .before .before .pre) (c .before .before .before .corner-of .ensures)
+    (c .before .before .corner-of2 .ensures)
     (c .before .corner-of3 .ensures) (c .plane-normal .ensures)
 
 pub patch-normal-spec : {M : Type 1} → statement M

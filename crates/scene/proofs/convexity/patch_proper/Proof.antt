@@ -7,11 +7,14 @@ use Rattle.scene.proofs.convexity.patch_proper.Statement.{statement}
 use Rattle.scene.proofs.convexity.patch_proper.Tie as tie
 
 returns : tie.Need-returns
-returns c = first-no (proper-patch-both (patchOf (c .before .before .before .args .p))) (c .before .is-flat .ensures) (not-true _ (c .if1 .taken))
+returns c =
+    first-no (proper-patch-both (patchOf (c .before .before .before .args .p))) (c .before .is-flat .ensures)
+    (not-true _ (c .if1 .taken))
 
 returns-2 : tie.Need-returns-2
 returns-2 c =
-    second-decides (proper-patch-both (patchOf (c .before .before .before .before .args .p))) (c .before .before .is-flat .ensures) (not-false _ (c .before .if1 .left)) (c .strictly-convex .ensures)
+    second-decides (proper-patch-both (patchOf (c .before .before .before .before .args .p)))
+    (c .before .before .is-flat .ensures) (not-false _ (c .before .if1 .left)) (c .strictly-convex .ensures)
 
 pub patch-proper-spec : {M : Type 1} → statement M
 patch-proper-spec =

@@ -20,7 +20,8 @@ loop-holds c = none-passed _ _
 returns : tie.Need-returns Inv-loop μ-loop
 returns c =
     let d = c .before .before in
-    refused (convex-asked (d .before .before .pre .0)) (d .loop-test .taken) (c .before .turns-at-edge .ensures) (not-true _ (c .if1 .taken))
+    refused (convex-asked (d .before .before .pre .0)) (d .loop-test .taken) (c .before .turns-at-edge .ensures)
+    (not-true _ (c .if1 .taken))
 
 loop-again : tie.Need-loop-again Inv-loop μ-loop
 loop-again c =

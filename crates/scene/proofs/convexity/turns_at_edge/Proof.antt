@@ -2,6 +2,7 @@ use mathlib.Core.Path.{refl, sym}
 use Prim.Native.Nat.{_-_}
 use native.Mathlib.Omega.{arith}
 use borrow.Author.Needs.{needs}
+use Rattle.integer.proofs.Order.{<→≤}
 use Rattle.integer.proofs.Comparison.{comparisons}
 use Rattle.scene.proofs.Loops.{Passed, none-passed, one-passed, refused, accepted}
 use Rattle.scene.proofs.Corners.{turnAt, corner-bounded, turns-asked, turns-away, turns-in}
@@ -63,7 +64,7 @@ returns c =
     refused (turns-asked (s .pre .0) (s .pre .2)) (d .before .before .loop-test .taken)
     (sym (turns-away (s .pre .0) (s .pre .2) _ (s .pre .1) (a .before .before .corner-of .ensures)
     (a .before .wrapped .ensures .0) (a .corner-of2 .ensures) (d .before .wrapped2 .ensures .0) (d .corner-of3 .ensures)
-    (c .before .turn .ensures) (search comparisons))) refl
+    (c .before .turn .ensures) (search (comparisons, <→≤)))) refl
 
 loop-again : tie.Need-loop-again Inv-loop μ-loop
 loop-again c =

@@ -10,7 +10,8 @@ returns c = first-no (coordinates-both _) (c .before .nodes-in-range .ensures) (
 
 returns-2 : tie.Need-returns-2
 returns-2 c =
-    second-decides (coordinates-both _) (c .before .before .nodes-in-range .ensures) (not-false _ (c .before .if1 .left)) (c .corners-in-range .ensures)
+    second-decides (coordinates-both _) (c .before .before .nodes-in-range .ensures) (not-false _ (c .before .if1 .left))
+    (c .corners-in-range .ensures)
 
 pub coordinates-in-range-spec : {M : Type 1} → statement M
 coordinates-in-range-spec =

@@ -12,7 +12,9 @@ returns : tie.Need-returns
 returns c = below-range {z = c .before .args .z} (search comparisons)
 
 returns-2 : tie.Need-returns-2
-returns-2 c = ap (λ (z : ℤ). leZ z (pos 10000)) (toZ-ofZ w64 _ (c .before .fits .z)) ∙ above-range {z = c .before .args .z} (search comparisons)
+returns-2 c =
+    ap (λ (z : ℤ). leZ z (pos 10000)) (toZ-ofZ w64 _ (c .before .fits .z)) ∙ above-range {z = c .before .args .z}
+    (search comparisons)
 
 pub in-range-spec : {M : Type 1} → statement M
 in-range-spec = tie.close (tie.spec returns returns-2)

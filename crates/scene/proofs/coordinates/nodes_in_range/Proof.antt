@@ -22,13 +22,15 @@ loop-holds c = none-passed _ _
 returns : tie.Need-returns Inv-loop μ-loop
 returns c =
     let d = c .before .before in
-    refused (nodes-asked (d .before .before .before .before .pre)) (d .before .loop-test .taken) (c .before .plane-in-range .ensures ∙ ap (λ (n : NodeRecord). planeInRange (n .plane)) (d .node .ensures))
+    refused (nodes-asked (d .before .before .before .before .pre)) (d .before .loop-test .taken)
+    (c .before .plane-in-range .ensures ∙ ap (λ (n : NodeRecord). planeInRange (n .plane)) (d .node .ensures))
     (not-true _ (c .if1 .taken))
 
 loop-again : tie.Need-loop-again Inv-loop μ-loop
 loop-again c =
     let d = c .before .before in
-    one-passed (d .before .before .loop .inv) (d .before .loop-test .taken) (c .before .plane-in-range .ensures ∙ ap (λ (n : NodeRecord). planeInRange (n .plane)) (d .node .ensures))
+    one-passed (d .before .before .loop .inv) (d .before .loop-test .taken)
+    (c .before .plane-in-range .ensures ∙ ap (λ (n : NodeRecord). planeInRange (n .plane)) (d .node .ensures))
     (not-false _ (c .if1 .left))
 
 returns-2 : tie.Need-returns-2 Inv-loop μ-loop

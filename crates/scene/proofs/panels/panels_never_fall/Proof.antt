@@ -29,14 +29,16 @@ returns c =
     let d = c .before .before in
     let s = decode (d .before .before .before .before .args .bytes .now) in
     refused (falls-asked (d .before .before .before .before .pre .0)) (d .before .loop-test .taken)
-    (c .before .run-never-falls .ensures ∙ ap (λ (n : NodeRecord). runNeverFalls (s .patches) (n .patchRun)) (d .node .ensures)) (not-true _ (c .if1 .taken))
+    (c .before .run-never-falls .ensures ∙ ap (λ (n : NodeRecord). runNeverFalls (s .patches) (n .patchRun)) (d .node .ensures))
+    (not-true _ (c .if1 .taken))
 
 loop-again : tie.Need-loop-again Inv-loop μ-loop
 loop-again c =
     let d = c .before .before in
     let s = decode (d .before .before .before .before .args .bytes .now) in
     one-passed (d .before .before .loop .inv) (d .before .loop-test .taken)
-    (c .before .run-never-falls .ensures ∙ ap (λ (n : NodeRecord). runNeverFalls (s .patches) (n .patchRun)) (d .node .ensures)) (not-false _ (c .if1 .left))
+    (c .before .run-never-falls .ensures ∙ ap (λ (n : NodeRecord). runNeverFalls (s .patches) (n .patchRun)) (d .node .ensures))
+    (not-false _ (c .if1 .left))
 
 returns-2 : tie.Need-returns-2 Inv-loop μ-loop
 returns-2 c = accepted (falls-asked (c .before .before .before .pre .0)) (c .before .loop .inv) (c .loop-test .left)

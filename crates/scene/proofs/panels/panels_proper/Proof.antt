@@ -10,7 +10,8 @@ returns c = first-no (panels-both _) (c .before .panels-in-range .ensures) (not-
 
 returns-2 : tie.Need-returns-2
 returns-2 c =
-    second-decides (panels-both _) (c .before .before .panels-in-range .ensures) (not-false _ (c .before .if1 .left)) (c .panels-never-fall .ensures)
+    second-decides (panels-both _) (c .before .before .panels-in-range .ensures) (not-false _ (c .before .if1 .left))
+    (c .panels-never-fall .ensures)
 
 pub panels-proper-spec : {M : Type 1} → statement M
 panels-proper-spec =

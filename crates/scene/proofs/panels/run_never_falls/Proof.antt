@@ -20,13 +20,15 @@ returns : tie.Need-returns Inv-loop μ-loop
 returns c =
     let d = c .before .before in
     let s = d .before .before .before .before .before in
-    falls _ _ _ (d .before .before .loop .inv) (d .before .loop-test .taken) (ap (λ (p : PatchRecord). p .panel) (d .patch-record .ensures)) (c .if1 .taken)
+    falls _ _ _ (d .before .before .loop .inv) (d .before .loop-test .taken)
+    (ap (λ (p : PatchRecord). p .panel) (d .patch-record .ensures)) (c .if1 .taken)
     ∙ run-panels (s .pre .0) _ _ (s .pre .1)
 
 loop-again : tie.Need-loop-again Inv-loop μ-loop
 loop-again c =
     let d = c .before .before in
-    one-rises _ _ _ (d .before .before .loop .inv) (d .before .loop-test .taken) (ap (λ (p : PatchRecord). p .panel) (d .patch-record .ensures)) (c .if1 .left)
+    one-rises _ _ _ (d .before .before .loop .inv) (d .before .loop-test .taken)
+    (ap (λ (p : PatchRecord). p .panel) (d .patch-record .ensures)) (c .if1 .left)
 
 returns-2 : tie.Need-returns-2 Inv-loop μ-loop
 returns-2 c =

@@ -22,17 +22,22 @@ loop-holds c = none-passed _ _
 returns : tie.Need-returns Inv-loop μ-loop
 returns c =
     let d = c .before .before in
-    refused (counts-asked (d .before .before .before .before .pre .0) (d .before .before .before .before .pre .1)) (d .before .loop-test .taken)
-    (c .before .three-to-eight .ensures ∙ ap (λ (p : PatchRecord). within 3 8 (p .cornerRun .count)) (d .patch-record .ensures)) (not-true _ (c .if1 .taken))
+    refused (counts-asked (d .before .before .before .before .pre .0) (d .before .before .before .before .pre .1))
+    (d .before .loop-test .taken)
+    (c .before .three-to-eight .ensures ∙ ap (λ (p : PatchRecord). within 3 8 (p .cornerRun .count)) (d .patch-record .ensures))
+    (not-true _ (c .if1 .taken))
 
 loop-again : tie.Need-loop-again Inv-loop μ-loop
 loop-again c =
     let d = c .before .before in
     one-passed (d .before .before .loop .inv) (d .before .loop-test .taken)
-    (c .before .three-to-eight .ensures ∙ ap (λ (p : PatchRecord). within 3 8 (p .cornerRun .count)) (d .patch-record .ensures)) (not-false _ (c .if1 .left))
+    (c .before .three-to-eight .ensures ∙ ap (λ (p : PatchRecord). within 3 8 (p .cornerRun .count)) (d .patch-record .ensures))
+    (not-false _ (c .if1 .left))
 
 returns-2 : tie.Need-returns-2 Inv-loop μ-loop
-returns-2 c = accepted (counts-asked (c .before .before .before .pre .0) (c .before .before .before .pre .1)) (c .before .loop .inv) (c .loop-test .left)
+returns-2 c =
+    accepted (counts-asked (c .before .before .before .pre .0) (c .before .before .before .pre .1)) (c .before .loop .inv)
+    (c .loop-test .left)
 
 pub all-counted-spec : {M : Type 1} → statement M
 all-counted-spec =

@@ -14,7 +14,8 @@ all-counted-requires c κs = (c .before .before .before .pre, sym (c .before .co
 
 returns-2 : tie.Need-returns-2
 returns-2 c =
-    second-decides (corner-runs-both _) (c .before .before .corners-follow .ensures) (not-false _ (c .before .if1 .left)) (c .all-counted .ensures)
+    second-decides (corner-runs-both _) (c .before .before .corners-follow .ensures) (not-false _ (c .before .if1 .left))
+    (c .all-counted .ensures)
 
 pub corner-runs-follow-spec : {M : Type 1} → statement M
 corner-runs-follow-spec =

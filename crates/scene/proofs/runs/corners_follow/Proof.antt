@@ -9,4 +9,4 @@ returns c = c .runs-follow .ensures ∙ patch-runs-read (c .before .before .befo
 
 pub corners-follow-spec : {M : Type 1} → statement M
 corners-follow-spec =
-    tie.close (tie.spec (λ c. search needs) (λ c. search needs) (λ c κs. search needs) returns)
+    tie.close (tie.spec (λ c. search needs) (λ c. search needs) (λ c. search needs) (λ c κs. search needs) returns)

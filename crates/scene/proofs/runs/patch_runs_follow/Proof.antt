@@ -8,4 +8,4 @@ returns : tie.Need-returns
 returns c = c .runs-follow .ensures ∙ node-runs-read (c .before .before .pre)
 
 pub patch-runs-follow-spec : {M : Type 1} → statement M
-patch-runs-follow-spec = tie.close (tie.spec (λ c κs. search needs) returns)
+patch-runs-follow-spec = tie.close (tie.spec (λ c. search needs) (λ c κs. search needs) returns)

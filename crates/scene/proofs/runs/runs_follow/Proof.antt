@@ -14,7 +14,9 @@ abbrev μ-loop : tie.MeasureT-loop
 μ-loop bytes at step n end start₀ k₀ start k = n - k
 
 -- the record at hand is inside
-room : (c : tie.In-loop Inv-loop μ-loop) → c .before .before .before .args .at + c .before .before .before .args .step * c .before .loop .k + 4 ≤ length (c .before .before .before .args .bytes .now)
+room :
+    (c : tie.In-loop Inv-loop μ-loop) →
+    c .before .before .before .args .at + c .before .before .before .args .step * c .before .loop .k + 4 ≤ length (c .before .before .before .args .bytes .now)
 room c = c .before .before .before .pre .0 (c .before .loop .k) (c .loop-test .taken)
 
 loop-holds : tie.Need-loop-holds Inv-loop μ-loop

@@ -10,7 +10,8 @@ returns c = first-no (runs-both _) (c .before .patch-runs-follow .ensures) (not-
 
 returns-2 : tie.Need-returns-2
 returns-2 c =
-    second-decides (runs-both _) (c .before .before .patch-runs-follow .ensures) (not-false _ (c .before .if1 .left)) (c .corner-runs-follow .ensures)
+    second-decides (runs-both _) (c .before .before .patch-runs-follow .ensures) (not-false _ (c .before .if1 .left))
+    (c .corner-runs-follow .ensures)
 
 pub runs-proper-spec : {M : Type 1} → statement M
 runs-proper-spec =

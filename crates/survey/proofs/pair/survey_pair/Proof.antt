@@ -1,7 +1,7 @@
 -- `survey::pair::survey_pair` meets its contract: demand 3 follows from the contracts of its two calls.
 use borrow.Author.Needs.{needs}
 use Rattle.survey.proofs.Gates.{same-eye}
-use Rattle.survey.proofs.Demands.{surveyed-from, chosen-panels-taken-away}
+use Rattle.survey.proofs.Demands.{surveyed-from, pair-surveyed}
 use Rattle.survey.proofs.pair.survey_pair.Statement.{statement}
 use Rattle.survey.proofs.pair.survey_pair.Tie as tie
 
@@ -11,7 +11,7 @@ returns c =
     let first = c .before .before .before .before .before .before .before .before .before .before .before .before .before .before .before .before .before in
     let e = c .before .before .before .before .before .before .before .before .before .before .before .before .before .before .before .before .before .before .before .before .before .before .before .before .before .before .before .before .before .before .fits in
     let eye = same-eye (e .eye-x) (e .eye-y) (e .eye-z) in
-    chosen-panels-taken-away (surveyed-from eye (first .ring-survey .ensures)) (surveyed-from eye (second .ring-survey2 .ensures))
+    pair-surveyed (surveyed-from eye (first .ring-survey .ensures)) (surveyed-from eye (second .ring-survey2 .ensures))
 
 pub survey-pair-spec : {M : Type 1} → statement M
 survey-pair-spec =

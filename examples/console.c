@@ -1,0 +1,217 @@
+/*
+ * console: surveys a scene from several stations and prints a bill for each.
+ *
+ *   console [-u] [-o PICTURE] SCENE WIDTH HEIGHT LENS X Y Z [X Y Z ...]
+ *
+ * A bill is the view line, each panel that shows with its number of cells, the cells that show
+ * none, and all cells; a refusal is one line, `refused N`. Bills follow in the stations' order.
+ *   -u          after each bill, a line for each row with unlit cells: the row's number, then
+ *               first column and length of each stretch
+ *   -o PICTURE  write the last picture as raw little-endian u16, for tools/draw.py --raw
+ *
+ * Build:  cc -std=c11 -Wall -Wextra -Iinclude examples/console.c -L LIBDIR -lsurvey -o console
+ */
+#include "ring.h"
+
+#include <errno.h>
+#include <stdio.h>
+#include <stdlib.h>
+#include <string.h>
+
+/* One byte more than any scene: a longer file is refused like this one. */
+static uint8_t scene[RING_SCENE_MAX + 1];
+static size_t scene_len;
+
+/* Room for the largest window. */
+static uint16_t picture[RING_WIDTH_MAX * RING_HEIGHT_MAX];
+static uint32_t counts[RING_PANEL_MAX + 1];
+static uint16_t unlit[RING_HEIGHT_MAX * RING_UNLIT_ROW];
+static uint32_t counter;
+
+struct window {
+    uint16_t width, height, lens;
+};
+
+struct station {
+    int16_t x, y, z;
+};
+
+static int fail(const char *what, const char *name)
+{
+    fprintf(stderr, "console: %s: %s\n", what, name);
+    return 1;
+}
+
+static int usage(void)
+{
+    fputs("usage: console [-u] [-o PICTURE] SCENE WIDTH HEIGHT LENS X Y Z [X Y Z ...]\n", stderr);
+    return 2;
+}
+
+static int read_scene(const char *name)
+{
+    FILE *file = fopen(name, "rb");
+    if (!file)
+        return fail("cannot open", name);
+    scene_len = fread(scene, 1, sizeof scene, file);
+    int bad = ferror(file);
+    fclose(file);
+    return bad ? fail("cannot read", name) : 0;
+}
+
+/* A whole number from low to high; *ok becomes 0 for anything else. */
+static long number(const char *word, long low, long high, int *ok)
+{
+    char *end;
+    errno = 0;
+    long value = strtol(word, &end, 10);
+    if (errno || end == word || *end || value < low || value > high) {
+        fail("not a number that fits", word);
+        *ok = 0;
+        return 0;
+    }
+    return value;
+}
+
+static uint16_t window_number(const char *word, int *ok)
+{
+    return (uint16_t)number(word, 0, UINT16_MAX, ok);
+}
+
+static int16_t eye_number(const char *word, int *ok)
+{
+    return (int16_t)number(word, INT16_MIN, INT16_MAX, ok);
+}
+
+/* The part of a buffer to lend. A window that is too large for it is refused before its length
+ * is looked at, so then the whole buffer will do. */
+static size_t at_most(size_t wanted, size_t room)
+{
+    return wanted < room ? wanted : room;
+}
+
+/* Asks the gate first, which needs no buffer; then surveys. */
+static uint32_t survey(struct window w, struct station s)
+{
+    size_t cells = at_most(RING_PICTURE_LEN(w.width, w.height), sizeof picture / sizeof *picture);
+    size_t pairs = at_most(RING_UNLIT_LEN(w.height), sizeof unlit / sizeof *unlit);
+    uint32_t gate = ring_gate(scene, scene_len, s.x, s.y, s.z, w.width, w.height, w.lens,
+                              cells, RING_COUNTS_LEN, pairs, counter);
+    uint32_t result = ring_survey(scene, scene_len, s.x, s.y, s.z, w.width, w.height, w.lens,
+                                  picture, cells, counts, RING_COUNTS_LEN, unlit, pairs, &counter);
+    if (gate != result) {
+        fprintf(stderr, "console: the gate said %u, the survey %u\n",
+                (unsigned)gate, (unsigned)result);
+        exit(3);
+    }
+    return result;
+}
+
+static void print_bill(struct window w)
+{
+    printf("view %u %u %u\n", (unsigned)w.width, (unsigned)w.height, (unsigned)w.lens);
+    for (unsigned panel = 1; panel <= RING_PANEL_MAX; panel++)
+        if (counts[panel])
+            printf("%u %lu\n", panel, (unsigned long)counts[panel]);
+    printf("nothing %lu\n", (unsigned long)counts[0]);
+    printf("total %lu\n", (unsigned long)w.width * w.height);
+}
+
+/* The used pairs of a row end before the first pair of length 0, or with the row. */
+static size_t used_pairs(const uint16_t *row)
+{
+    size_t used = 0;
+    while (used < RING_UNLIT_ROW / 2 && row[2 * used + 1] != 0)
+        used++;
+    return used;
+}
+
+static void print_unlit(struct window w)
+{
+    for (unsigned j = 0; j < w.height; j++) {
+        const uint16_t *row = unlit + RING_UNLIT_ROW * j;
+        size_t used = used_pairs(row);
+        if (!used)
+            continue;
+        printf("unlit %u:", j);
+        for (size_t k = 0; k < used; k++)
+            printf(" (%u,%u)", (unsigned)row[2 * k], (unsigned)row[2 * k + 1]);
+        printf("\n");
+    }
+}
+
+static int write_picture(const char *name, struct window w)
+{
+    if (!counter)
+        return fail("no survey was accepted, no picture for", name);
+    FILE *file = fopen(name, "wb");
+    if (!file)
+        return fail("cannot open", name);
+    for (size_t cell = 0; cell < RING_PICTURE_LEN(w.width, w.height); cell++) {
+        putc(picture[cell] & 255, file);
+        putc(picture[cell] >> 8, file);
+    }
+    int bad = ferror(file);
+    bad |= fclose(file);
+    return bad ? fail("cannot write", name) : 0;
+}
+
+/* Reads the options; the place of the first word after them, or 0. */
+static int read_options(int argc, char **argv, const char **picture_name, int *with_unlit)
+{
+    int at = 1;
+    for (; at < argc && argv[at][0] == '-'; at++) {
+        if (!strcmp(argv[at], "-u"))
+            *with_unlit = 1;
+        else if (!strcmp(argv[at], "-o") && at + 1 < argc)
+            *picture_name = argv[++at];
+        else
+            return 0;
+    }
+    return at;
+}
+
+static struct window read_window(char **words, int *ok)
+{
+    return (struct window){window_number(words[0], ok), window_number(words[1], ok),
+                           window_number(words[2], ok)};
+}
+
+static struct station read_station(char **words, int *ok)
+{
+    return (struct station){eye_number(words[0], ok), eye_number(words[1], ok),
+                            eye_number(words[2], ok)};
+}
+
+static void print_survey(struct window w, struct station s, int with_unlit)
+{
+    uint32_t result = survey(w, s);
+    if (result != RING_DONE) {
+        printf("refused %u\n", (unsigned)result);
+        return;
+    }
+    print_bill(w);
+    if (with_unlit)
+        print_unlit(w);
+}
+
+int main(int argc, char **argv)
+{
+    const char *picture_name = NULL;
+    int with_unlit = 0, ok = 1;
+    int at = read_options(argc, argv, &picture_name, &with_unlit);
+    if (!at || argc - at < 7 || (argc - at - 4) % 3)
+        return usage();
+    struct window w = read_window(argv + at + 1, &ok);
+    for (int k = at + 4; k < argc; k += 3)
+        read_station(argv + k, &ok);
+    if (!ok)
+        return usage();
+    if (read_scene(argv[at]))
+        return 1;
+    for (int k = at + 4; k < argc; k += 3)
+        print_survey(w, read_station(argv + k, &ok), with_unlit);
+    if (fflush(stdout) || ferror(stdout))
+        return fail("cannot write", "standard output");
+    return picture_name ? write_picture(picture_name, w) : 0;
+}

@@ -1,0 +1,125 @@
+/*
+ * ring.h: survey of a tunnel lining, for the guidance console.
+ *
+ * A survey reads a scene (flat patches of numbered panels, kept in a tree of planes), checks it,
+ * and says for each cell of a window which panel is the closest along that cell's sight line from
+ * the eye. Everything is exact in whole numbers. One length unit is 5 mm; the axes are right,
+ * forward along the bore, and up.
+ *
+ * Link with libsurvey.a:   cc -Iinclude console.c -Llib -lsurvey
+ *
+ * What is lent. The calls only use the memory for as long as they run and keep no pointer. Every
+ * pointer must be good for the length given with it, which counts ELEMENTS and not bytes, and must
+ * not be null; picture, counts, unlit and counter must not overlap one another or the scene.
+ * Whatever the numbers, the scene's bytes and the lengths are, a call ends: with RING_DONE and a
+ * full survey, or with one refusal and nothing changed.
+ */
+#ifndef RING_H
+#define RING_H
+
+#include <stddef.h>
+#include <stdint.h>
+
+#ifdef __cplusplus
+extern "C" {
+#endif
+
+/* Limits of a window. */
+#define RING_WIDTH_MAX   256
+#define RING_HEIGHT_MAX  128
+#define RING_LENS_MAX    4096
+
+/* The longest scene in bytes, and the highest panel number. */
+#define RING_SCENE_MAX   57376
+#define RING_PANEL_MAX   1024
+
+/* Lengths of the lent buffers, in elements. They must be exactly these. */
+#define RING_PICTURE_LEN(width, height)  ((size_t)(width) * (size_t)(height))
+#define RING_COUNTS_LEN                  ((size_t)1025)
+#define RING_UNLIT_ROW                   ((size_t)256)
+#define RING_UNLIT_LEN(height)           ((size_t)(height) * RING_UNLIT_ROW)
+
+/*
+ * What both calls return: 0, or the number of the first question answered with no. The questions
+ * are put in this order, each to the whole scene before the next, so a scene with several faults
+ * is refused for the first of them.
+ */
+enum ring_result {
+    RING_DONE = 0,
+
+    /* The scene's bytes. */
+    RING_BAD_HEADER = 1,   /* not 32 to 57,376 bytes long, version not 1, zero field not 0, or the
+                              length written in the scene is not the length given */
+    RING_BAD_SECTIONS = 2, /* nodes, patches and corners do not fill the bytes after the header in
+                              this order, in whole records of 26, 6 and 6 bytes, or are more than
+                              1,024, 1,024 and 4,096 */
+    RING_BAD_RANGE = 3,    /* a coordinate of a node or corner is outside -10,000 to 10,000 */
+    RING_BAD_PLANE = 4,    /* a node's three points are on one line and give no plane */
+    RING_BAD_TREE = 5,     /* a child is neither none (65,535) nor a later node, or some node but
+                              the root is not the child of exactly one node, named once */
+    RING_BAD_RUNS = 6,     /* the nodes' patch runs or the patches' corner runs leave a gap, overlap
+                              or do not use all records, or a patch has not 3 to 8 corners */
+    RING_BAD_PANEL = 7,    /* a panel number is not 1 to 1,024, or panel numbers fall within a
+                              node's run */
+    RING_BAD_PATCH = 8,    /* a patch is not flat or not strictly convex */
+    RING_BAD_SIDE = 9,     /* a patch is not on its own node's plane, or not on its side of a plane
+                              further up the tree (touching it is allowed, lying in it or
+                              crossing it is not) */
+
+    /* The call. */
+    RING_BAD_VIEW = 10,    /* the eye is outside -10,000 to 10,000, or width, height or lens is
+                              not 1 to 256, 1 to 128, 1 to 4,096 */
+    RING_BAD_BUFFERS = 11, /* picture_len is not width x height, counts_len is not 1,025, or
+                              unlit_len is not height x 256 */
+    RING_BAD_COUNTER = 12, /* the station counter stands at 4,294,967,295 and cannot rise */
+    RING_BAD_STRETCHES = 13 /* a row would need more than 128 unlit stretches while it is painted.
+                              Stretches never touch and a row has at most 256 cells, so no
+                              accepted window comes to this */
+};
+
+/*
+ * Surveys a scene from one station.
+ *
+ *   scene, scene_len          the scene's bytes; they are only read
+ *   eye_x, eye_y, eye_z       the station, in units
+ *   width, height, lens       the window: the sight line of column i (0 at the left) and row j
+ *                             (0 at the top) has the direction
+ *                             (2i + 1 - width, lens, height - 1 - 2j)
+ *   picture, picture_len      width x height cells. Row after row from the top: cell (i, j) is
+ *                             picture[j * width + i]; a panel number, or 0 where none is met
+ *   counts, counts_len        1,025 numbers. counts[p] is the number of cells that show panel p,
+ *                             counts[0] of those that show none; together width x height
+ *   unlit, unlit_len          height x 256 numbers. Row j has the 256 from unlit + 256 * j: 128
+ *                             pairs of offset and length, one for each stretch of cells that
+ *                             show no panel, from left to right, with a lit cell between any
+ *                             two. The pairs not used are 0 and 0, so the used ones end before
+ *                             the first pair of length 0, or with the row when all 128 are used
+ *   counter                   the station counter: raised by one when the result is RING_DONE
+ *
+ * Returns RING_DONE: picture, counts and unlit are written in full, whatever they held before,
+ * and the counter is raised. Any other result is a refusal: picture, counts, unlit and counter
+ * are just as they were.
+ */
+uint32_t ring_survey(const uint8_t *scene, size_t scene_len,
+                     int16_t eye_x, int16_t eye_y, int16_t eye_z,
+                     uint16_t width, uint16_t height, uint16_t lens,
+                     uint16_t *picture, size_t picture_len,
+                     uint32_t *counts, size_t counts_len,
+                     uint16_t *unlit, size_t unlit_len,
+                     uint32_t *counter);
+
+/*
+ * Says what ring_survey would return with these lengths and with this number in the counter.
+ * Nothing is lent but the scene, and nothing is written; so a scene can be tried before it is used.
+ */
+uint32_t ring_gate(const uint8_t *scene, size_t scene_len,
+                   int16_t eye_x, int16_t eye_y, int16_t eye_z,
+                   uint16_t width, uint16_t height, uint16_t lens,
+                   size_t picture_len, size_t counts_len, size_t unlit_len,
+                   uint32_t counter);
+
+#ifdef __cplusplus
+}
+#endif
+
+#endif

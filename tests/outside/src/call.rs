@@ -1,0 +1,96 @@
+//! One call of the survey, what is lent to it, and who answers it.
+
+use crate::random::Random;
+use crate::vector::Point;
+
+pub const COUNTS: usize = 1_025;
+/// "In the lent lists row j has the 256 numbers from 256 × j."
+pub const ROW: usize = 256;
+
+/// The station and "A window is width, height and lens."
+#[derive(Clone, Copy, Debug, PartialEq, Eq)]
+pub struct View {
+    pub eye: Point,
+    pub width: u16,
+    pub height: u16,
+    pub lens: u16,
+}
+
+impl View {
+    pub fn cells(&self) -> usize {
+        usize::from(self.width) * usize::from(self.height)
+    }
+}
+
+#[derive(Clone, Debug)]
+pub struct Call {
+    pub scene: Box<[u8]>,
+    pub view: View,
+    pub picture_len: usize,
+    pub counts_len: usize,
+    pub unlit_len: usize,
+    pub counter: u32,
+}
+
+impl Call {
+    /// A call with the lengths of question 11.
+    pub fn new(scene: Vec<u8>, view: View) -> Call {
+        Call {
+            scene: scene.into_boxed_slice(),
+            view,
+            picture_len: view.cells(),
+            counts_len: COUNTS,
+            unlit_len: usize::from(view.height) * ROW,
+            counter: 0,
+        }
+    }
+
+    /// What `ringbill` reads: eye, width, height, lens, then the scene.
+    pub fn standard_input(&self) -> Vec<u8> {
+        let view = &self.view;
+        let mut bytes = Vec::new();
+        for number in view.eye {
+            bytes.extend(number.to_le_bytes());
+        }
+        for number in [view.width, view.height, view.lens] {
+            bytes.extend(number.to_le_bytes());
+        }
+        bytes.extend_from_slice(&self.scene);
+        bytes
+    }
+}
+
+/// The lent buffers, each on the heap in exactly its lent length.
+#[derive(Clone, Debug, PartialEq, Eq)]
+pub struct Lent {
+    pub picture: Box<[u16]>,
+    pub counts: Box<[u32]>,
+    pub unlit: Box<[u16]>,
+    pub counter: u32,
+}
+
+impl Lent {
+    /// Buffers for a call, full of noise: any numbers, or small ones that
+    /// could pass for panels and stretches.
+    pub fn noise(call: &Call, rng: &mut Random) -> Lent {
+        let mask = rng.pick(&[u64::MAX, u64::MAX, 1_023, 7]);
+        Lent {
+            picture: (0..call.picture_len)
+                .map(|_| (rng.next() & mask) as u16)
+                .collect(),
+            counts: (0..call.counts_len)
+                .map(|_| (rng.next() & mask) as u32)
+                .collect(),
+            unlit: (0..call.unlit_len)
+                .map(|_| (rng.next() & mask) as u16)
+                .collect(),
+            counter: call.counter,
+        }
+    }
+}
+
+/// The survey and the gate as the console calls them.
+pub trait Library {
+    fn survey(&self, call: &Call, lent: &mut Lent) -> u32;
+    fn gate(&self, call: &Call) -> u32;
+}

@@ -1,0 +1,108 @@
+//! One call put to the library and to the model.
+
+use crate::call::{Call, Lent, Library};
+use crate::gate::Gate;
+use crate::pairs::{parts, Pair};
+use crate::random::Random;
+use crate::survey::survey;
+
+#[derive(Clone, Copy, Debug, PartialEq, Eq, PartialOrd, Ord)]
+pub enum Difference {
+    /// The survey's number is another.
+    Answer,
+    /// The gate's number is another.
+    Gate,
+    Picture,
+    Counts,
+    Unlit,
+    Counter,
+    /// A refusal, or a scene, was not left as it was.
+    TouchedPicture,
+    TouchedCounts,
+    TouchedUnlit,
+    TouchedCounter,
+    TouchedScene,
+    /// Demand 3, in the order of its sentence.
+    EqualWhenNoneCounted,
+    FirstShowsClosest,
+    DifferWhereChosen,
+    SecondShowsKept,
+    /// `ringbill` printed something else.
+    Bill,
+}
+
+use Difference::*;
+
+pub struct Outcome {
+    /// The model's answer.
+    pub number: u32,
+    pub lent: Lent,
+    pub differences: Vec<Difference>,
+}
+
+fn note(differences: &mut Vec<Difference>, differs: bool, which: Difference) {
+    if differs {
+        differences.push(which);
+    }
+}
+
+/// Survey and gate on one call, the buffers full of noise before.
+pub fn check(library: &dyn Library, call: &Call, rng: &mut Random) -> Outcome {
+    let before = Lent::noise(call, rng);
+    let mut lent = before.clone();
+    let asked = call.clone();
+    let answer = library.survey(&asked, &mut lent);
+    let gate = library.gate(&asked);
+    let wanted = survey(call);
+    let number = wanted.as_ref().err().copied().unwrap_or(0);
+
+    let mut found = Vec::new();
+    note(&mut found, answer != number, Answer);
+    note(&mut found, gate != number, Gate);
+    note(&mut found, asked.scene != call.scene, TouchedScene);
+    match wanted {
+        Ok(done) => {
+            note(&mut found, *lent.picture != *done.picture, Picture);
+            note(&mut found, *lent.counts != *done.counts, Counts);
+            note(&mut found, *lent.unlit != *done.unlit, Unlit);
+            // "It rises by one with each accepted picture."
+            note(&mut found, lent.counter != before.counter + 1, Counter);
+        }
+        Err(_) => {
+            note(&mut found, lent.picture != before.picture, TouchedPicture);
+            note(&mut found, lent.counts != before.counts, TouchedCounts);
+            note(&mut found, lent.unlit != before.unlit, TouchedUnlit);
+            note(&mut found, lent.counter != before.counter, TouchedCounter);
+        }
+    }
+    Outcome {
+        number,
+        lent,
+        differences: found,
+    }
+}
+
+/// The gate alone, for lengths that nobody can lend.
+pub fn check_gate(library: &dyn Library, call: &Call) -> (u32, Vec<Difference>) {
+    let number = Gate::of_the_paper().judge(call);
+    let mut found = Vec::new();
+    note(&mut found, library.gate(call) != number, Gate);
+    (number, found)
+}
+
+/// Both calls of a pair, and demand 3 on what they left.
+pub fn check_pair(library: &dyn Library, pair: &Pair, rng: &mut Random) -> [Outcome; 2] {
+    let first = check(library, &pair.first, rng);
+    let mut second = check(library, &pair.second, rng);
+    let held = parts(pair, &first.lent, &second.lent);
+    let names = [
+        EqualWhenNoneCounted,
+        FirstShowsClosest,
+        DifferWhereChosen,
+        SecondShowsKept,
+    ];
+    for (held, name) in held.into_iter().zip(names) {
+        note(&mut second.differences, !held, name);
+    }
+    [first, second]
+}

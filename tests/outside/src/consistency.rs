@@ -1,0 +1,139 @@
+//! The model against itself: other ways to the same answers.
+
+use crate::call::{Call, Lent};
+use crate::compare::check_pair;
+use crate::fault::Faulty;
+use crate::gate::patch_normal;
+use crate::pairs::{parts, Pair};
+use crate::random::Random;
+use crate::ray::{closest, direction, eye_to_corner, met};
+use crate::scene::{Patch, Scene, NONE};
+use crate::stations::{t, VIEW};
+use crate::survey::survey;
+use crate::vector::{cross, dot, minus, side, wide, Vector};
+
+/// Meeting told from the point where the line pierces the plane: ahead of the
+/// eye, and inside every edge.
+fn pierces(patch: &Patch, eye: Vector, along: Vector) -> bool {
+    let n = patch_normal(patch);
+    let (over, under) = (eye_to_corner(patch, eye), dot(along, n));
+    if over * under <= 0 {
+        return false;
+    }
+    // The point is eye + along · over / under; all below is times |under|.
+    let (over, under) = (over.abs(), under.abs());
+    let count = patch.corners.len();
+    (0..count).all(|k| {
+        let v = wide(patch.corners[k]);
+        let w = wide(patch.corners[(k + 1) % count]);
+        let from_v = [0, 1, 2].map(|a| under * (eye[a] - v[a]) + over * along[a]);
+        dot(n, cross(minus(w, v), from_v)) > 0
+    })
+}
+
+/// "The side holding the eye is walked first, then the node's own patches as
+/// listed, then the other side. With the eye on the plane the positive side is
+/// walked first."
+fn walk(scene: &Scene, eye: [i16; 3]) -> Vec<Patch> {
+    let mut order = Vec::new();
+    let mut waiting = Vec::new();
+    if !scene.nodes.is_empty() {
+        waiting.push((0, false));
+    }
+    while let Some((k, own)) = waiting.pop() {
+        if own {
+            order.extend(scene.patches_of(k));
+            continue;
+        }
+        let node = &scene.nodes[k];
+        let (near, far) = match side(&node.points, eye) >= 0 {
+            true => (node.positive, node.negative),
+            false => (node.negative, node.positive),
+        };
+        let child = |c: u16| (c != NONE).then_some((usize::from(c), false));
+        waiting.extend(child(far));
+        waiting.push((k, true));
+        waiting.extend(child(near));
+    }
+    order
+}
+
+/// On every ray: both ways of meeting agree, and the first patch met on the
+/// walk is the closest.
+pub fn rays_agree(call: &Call) -> bool {
+    let scene = Scene::read(&call.scene);
+    let (view, patches) = (&call.view, scene.patches());
+    let order = walk(&scene, view.eye);
+    let (width, eye) = (usize::from(view.width), wide(view.eye));
+    order.len() == patches.len()
+        && (0..view.cells()).all(|at| {
+            let along = direction(view, at % width, at / width);
+            let mut walked = order.iter().filter(|p| met(p, eye, along));
+            let first = walked.next().map_or(0, |p| p.panel);
+            let agree = |p: &Patch| met(p, eye, along) == pierces(p, eye, along);
+            first == closest(&patches, eye, along) && patches.iter().all(agree)
+        })
+}
+
+/// The second scene has "just the first's patches less all those of the chosen
+/// panels", and the model keeps demand 3.
+pub fn pair_holds(pair: &Pair, rng: &mut Random) -> bool {
+    let sorted = |call: &Call| {
+        let mut patches = Scene::read(&call.scene).patches();
+        patches.sort();
+        patches
+    };
+    let mut kept = sorted(&pair.first);
+    kept.retain(|p| !pair.chosen.contains(&p.panel));
+    let outcomes = check_pair(&Faulty::none(), pair, rng);
+    let clean = outcomes.iter().all(|o| o.differences.is_empty());
+    kept == sorted(&pair.second) && clean
+}
+
+/// Counts and stretches both add up to what the picture holds.
+pub fn sums_hold(call: &Call) -> bool {
+    let done = survey(call).expect("an accepted scene");
+    let unlit: u32 = done.unlit.chunks(2).map(|pair| u32::from(pair[1])).sum();
+    let cells = call.view.cells() as u32;
+    done.counts.iter().sum::<u32>() == cells && done.counts[0] == unlit
+}
+
+/// Each part of demand 3 is told apart: a pair of results, spoiled in one way,
+/// breaks just the parts it should.
+pub fn parts_are_told_apart() -> Vec<(&'static str, bool)> {
+    let pair = Pair {
+        first: Call::new(t(0).write(), VIEW),
+        second: Call::new(t(7).write(), VIEW),
+        chosen: vec![7],
+    };
+    let mut rng = Random::new(1, 1);
+    let [one, two] = check_pair(&Faulty::none(), &pair, &mut rng);
+    let (one, two) = (one.lent, two.lent);
+    let broken = |first: &dyn Fn(&mut Lent), second: &dyn Fn(&mut Lent)| {
+        let (mut a, mut b) = (one.clone(), two.clone());
+        first(&mut a);
+        second(&mut b);
+        parts(&pair, &a, &b).map(|held| !held)
+    };
+    let nothing: &dyn Fn(&mut Lent) = &|_| ();
+    // Cell 5 shows panel 7 first and panel 5 then; cell 0 shows nothing.
+    vec![
+        ("nothing broken", broken(nothing, nothing) == [false; 4]),
+        (
+            "part 1",
+            broken(&|a| a.counts[7] = 0, nothing) == [true, false, false, false],
+        ),
+        (
+            "part 2",
+            broken(&|a| a.picture[0] = 1, &|b| b.picture[0] = 1) == [false, true, false, false],
+        ),
+        (
+            "part 3",
+            broken(nothing, &|b| b.picture[0] = 1) == [false, false, true, false],
+        ),
+        (
+            "part 4",
+            broken(nothing, &|b| b.picture[5] = 1) == [false, false, false, true],
+        ),
+    ]
+}

@@ -1,0 +1,214 @@
+//! The run: cases by number, each from the seed alone, and what came of them.
+
+use std::collections::BTreeMap;
+
+use crate::call::{Call, Library};
+use crate::compare::{check, check_gate, check_pair, Difference};
+use crate::damage::LOOSE;
+use crate::generate::{make, Kind, Size, KINDS};
+use crate::header::BYTES;
+use crate::outer::{any_window, beyond_memory, ends, CALL};
+use crate::pairs::{make_pair, Pair};
+use crate::random::Random;
+use crate::stored::STORED;
+
+pub enum Case {
+    /// A scene of the generator, which must be accepted.
+    Scene(Kind, Call),
+    /// A damaged scene, and the questions aimed at.
+    Damaged(Vec<u32>, Call),
+    /// A call at the ends of its ranges, or just beyond.
+    Ends(Call),
+    /// The gate alone.
+    Lengths(Call),
+    /// Two scenes for demand 3.
+    Two(Kind, Box<Pair>),
+}
+
+impl Case {
+    pub fn name(&self) -> String {
+        match self {
+            Case::Scene(kind, _) => format!("scene {kind:?}"),
+            Case::Damaged(aims, _) if aims.len() > 1 => "damage, several".to_string(),
+            Case::Damaged(aims, _) => match aims[0] {
+                0 => "damage, any bytes".to_string(),
+                aim => format!("damage, question {aim:2}"),
+            },
+            Case::Ends(_) => "calls at the ends".to_string(),
+            Case::Lengths(_) => "lengths beyond memory".to_string(),
+            Case::Two(kind, _) => format!("pair {kind:?}"),
+        }
+    }
+
+    pub fn calls(&self) -> Vec<&Call> {
+        match self {
+            Case::Scene(_, call) | Case::Damaged(_, call) => vec![call],
+            Case::Ends(call) | Case::Lengths(call) => vec![call],
+            Case::Two(_, pair) => vec![&pair.first, &pair.second],
+        }
+    }
+}
+
+/// Case `number` of the run of `seed`.
+pub fn case(seed: u64, number: u64, size: Size) -> Case {
+    let mut rng = Random::new(seed, number);
+    let rng = &mut rng;
+    let kind = match rng.below(12) {
+        10 => Kind::Tiny,
+        11 => Kind::Thin,
+        k => KINDS[k],
+    };
+    match number % 10 {
+        0 | 1 => Case::Scene(kind, scene_call(rng, kind, size)),
+        9 => Case::Two(kind, Box::new(make_pair(rng, kind, size))),
+        8 if rng.once_in(4) => {
+            let mut call = scene_call(rng, Kind::Tiny, size);
+            beyond_memory(&mut call, rng);
+            Case::Lengths(call)
+        }
+        8 => {
+            let kind = rng.pick(&[Kind::Tiny, Kind::Level, Kind::Empty]);
+            let mut all = ends(&scene_call(rng, kind, size));
+            let which = (number / 10) as usize % all.len();
+            Case::Ends(all.swap_remove(which))
+        }
+        _ => damaged(rng, size),
+    }
+}
+
+fn scene_call(rng: &mut Random, kind: Kind, size: Size) -> Call {
+    let made = make(rng, kind, size);
+    let mut call = Call::new(made.loose.pack().write(), made.view);
+    let any = rng.next() as u32 / 2;
+    call.counter = rng.pick(&[0, 1, u32::MAX - 1, any]);
+    call
+}
+
+/// The questions aimed at, those with many rules more often; 0 is any byte.
+const AIMS: &[u32] = &[
+    0, 1, 1, 2, 2, 2, 3, 4, 5, 5, 6, 6, 6, 6, 7, 7, 8, 8, 8, 9, 9, 9, 9, 10, 11, 12,
+];
+
+/// An accepted scene, harmed once or several times.
+fn damaged(rng: &mut Random, size: Size) -> Case {
+    let kinds = [Kind::Tiny, Kind::Grid, Kind::Level, Kind::Medium, Kind::Far];
+    let rare = [
+        Kind::Empty,
+        Kind::Lining,
+        Kind::Thin,
+        Kind::Comb,
+        Kind::Stack,
+    ];
+    let kind = match rng.once_in(8) {
+        true => rng.pick(&rare),
+        false => rng.pick(&kinds),
+    };
+    let made = make(rng, kind, size);
+    let mut aims = vec![rng.pick(AIMS)];
+    while rng.once_in(3) {
+        // Often the next question, which must not be the one that answers.
+        let (next, any) = (aims[0] % 12 + 1, rng.pick(AIMS));
+        aims.push(rng.pick(&[next, any]));
+    }
+    rng.shuffle(&mut aims);
+    let mut loose = made.loose;
+    for &aim in &aims {
+        one(LOOSE, aim, rng, |harm, rng| harm(&mut loose, rng));
+    }
+    let mut scene = loose.pack();
+    for &aim in &aims {
+        one(STORED, aim, rng, |harm, rng| harm(&mut scene, rng));
+    }
+    let mut bytes = scene.write();
+    for &aim in &aims {
+        one(BYTES, aim, rng, |harm, rng| harm(&mut bytes, rng));
+    }
+    let mut call = Call::new(bytes, made.view);
+    if rng.once_in(20) {
+        call = Call::new(call.scene.into_vec(), any_window(rng));
+    }
+    for &aim in &aims {
+        one(CALL, aim, rng, |harm, rng| harm(&mut call, rng));
+    }
+    Case::Damaged(aims, call)
+}
+
+/// One of the harms aimed at a question, if there are any. Where a question
+/// has harms of two sorts, either sort may strike, or both.
+fn one<H: Copy>(
+    harms: &[(u32, H)],
+    aim: u32,
+    rng: &mut Random,
+    strike: impl FnOnce(H, &mut Random),
+) {
+    let aimed: Vec<H> = harms.iter().filter(|h| h.0 == aim).map(|h| h.1).collect();
+    if !aimed.is_empty() && (aim != 6 || rng.once_in(2)) {
+        let harm = rng.pick(&aimed);
+        strike(harm, rng);
+    }
+}
+
+#[derive(Default)]
+pub struct Tally {
+    pub cases: u64,
+    pub kinds: BTreeMap<String, u64>,
+    /// How often the model gave each answer.
+    pub answers: BTreeMap<u32, u64>,
+    pub cells: u64,
+    pub lit: u64,
+    pub differences: BTreeMap<Difference, u64>,
+    pub failed: u64,
+}
+
+impl Tally {
+    fn answer(&mut self, number: u32, call: &Call, picture: &[u16]) {
+        *self.answers.entry(number).or_default() += 1;
+        if number == 0 {
+            self.cells += call.view.cells() as u64;
+            self.lit += picture.iter().filter(|&&panel| panel != 0).count() as u64;
+        }
+    }
+}
+
+/// Puts one case to the library; gives what differs.
+pub fn put(
+    library: &dyn Library,
+    case: &Case,
+    noise: &mut Random,
+    tally: &mut Tally,
+) -> Vec<Difference> {
+    *tally.kinds.entry(case.name()).or_default() += 1;
+    tally.cases += 1;
+    let differences = match case {
+        Case::Scene(_, call) | Case::Damaged(_, call) | Case::Ends(call) => {
+            let outcome = check(library, call, noise);
+            tally.answer(outcome.number, call, &outcome.lent.picture);
+            if let Case::Scene(kind, _) = case {
+                assert_eq!(outcome.number, 0, "a made scene is legal: {kind:?}");
+            }
+            outcome.differences
+        }
+        Case::Lengths(call) => {
+            let (number, differences) = check_gate(library, call);
+            *tally.answers.entry(number).or_default() += 1;
+            differences
+        }
+        Case::Two(kind, pair) => {
+            let outcomes = check_pair(library, pair, noise);
+            let mut all = Vec::new();
+            for (outcome, call) in outcomes.into_iter().zip(case.calls()) {
+                assert_eq!(outcome.number, 0, "a made pair is legal: {kind:?}");
+                tally.answer(0, call, &outcome.lent.picture);
+                all.extend(outcome.differences);
+            }
+            all.sort();
+            all.dedup();
+            all
+        }
+    };
+    for &difference in &differences {
+        *tally.differences.entry(difference).or_default() += 1;
+    }
+    tally.failed += u64::from(!differences.is_empty());
+    differences
+}

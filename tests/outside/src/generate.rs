@@ -1,0 +1,161 @@
+//! Random scenes with their trees, each from its seed alone.
+
+use crate::call::View;
+use crate::loose::{Loose, Site};
+use crate::random::Random;
+use crate::scene::{Patch, NONE};
+use crate::soup;
+use crate::tree::{any_plane, Branch, Planter};
+use crate::view;
+use crate::works;
+
+#[derive(Clone, Copy, Debug, PartialEq, Eq)]
+pub enum Kind {
+    Tiny,
+    Grid,
+    Level,
+    Medium,
+    Far,
+    Thin,
+    Stack,
+    Comb,
+    Lining,
+    Empty,
+}
+
+pub const KINDS: [Kind; 10] = [
+    Kind::Tiny,
+    Kind::Grid,
+    Kind::Level,
+    Kind::Medium,
+    Kind::Far,
+    Kind::Thin,
+    Kind::Stack,
+    Kind::Comb,
+    Kind::Lining,
+    Kind::Empty,
+];
+
+/// How much a case may cost: rays times patches, and patches.
+#[derive(Clone, Copy)]
+pub struct Size {
+    pub work: usize,
+    pub patches: usize,
+}
+
+pub const FULL: Size = Size {
+    work: 100_000,
+    patches: 1_024,
+};
+
+pub const SMALL: Size = Size {
+    work: 2_000,
+    patches: 40,
+};
+
+pub struct Made {
+    pub loose: Loose,
+    pub view: View,
+}
+
+/// A scene that the gate accepts, and a view of it.
+pub fn make(rng: &mut Random, kind: Kind, size: Size) -> Made {
+    let (polygons, mut seen) = match kind {
+        Kind::Tiny => (soup::tiny(rng), None),
+        Kind::Grid => (soup::grid(rng), None),
+        Kind::Level => (soup::level(rng), None),
+        Kind::Medium => (soup::medium(rng), None),
+        Kind::Far => (soup::far(rng), None),
+        Kind::Thin => (soup::thin(rng), None),
+        Kind::Stack => (works::stack(rng, size.patches), None),
+        Kind::Comb => {
+            let (teeth, view) = works::comb(rng, size.work);
+            (teeth, Some(view))
+        }
+        Kind::Lining | Kind::Empty => (Vec::new(), None),
+    };
+    let mut patches = soup::numbered(rng, polygons);
+    if kind == Kind::Lining {
+        let (panels, view) = works::lining(rng, size.patches);
+        (patches, seen) = (panels, Some(view));
+    }
+    if patches.len() < 900 {
+        patches = soup::repeated(rng, patches);
+    }
+    let chain = rng.once_in(if kind == Kind::Stack { 2 } else { 9 });
+    let loose = match kind {
+        Kind::Empty => bare(rng),
+        _ => {
+            let root = planted(rng, patches, chain);
+            Loose::of(rng, root)
+        }
+    };
+    let patch_count = loose.patches().len();
+    let view = match seen {
+        Some(view) if kind == Kind::Comb || view.cells() * patch_count <= 4 * size.work => view,
+        _ => view::choose(rng, &loose.patches(), size.work),
+    };
+    Made { loose, view }
+}
+
+fn planted(rng: &mut Random, patches: Vec<Patch>, chain: bool) -> Branch {
+    let spare = (1_024 - patches.len()).min(rng.pick(&[0, 3, 40]));
+    let mut planter = Planter {
+        rng,
+        planes: Vec::new(),
+        discard: true,
+        chain,
+        spare,
+    };
+    planter.plant(patches).expect("a patch has a plane")
+}
+
+/// Nodes without any patch, up to 1,024, as a chain or at random; or none.
+fn bare(rng: &mut Random) -> Loose {
+    let wanted = rng.pick(&[0, 1, 2, 3, 12, 100, 1_024]);
+    let reach = rng.pick(&[3, 300, 10_000]);
+    let chain = rng.once_in(2);
+    let mut loose = Loose::default();
+    for own in 0..wanted {
+        loose.sites.push(Site {
+            points: any_plane(rng, reach),
+            positive: NONE,
+            negative: NONE,
+            patches: Vec::new(),
+        });
+        let mut hung = own == 0;
+        while !hung {
+            let above = if chain { own - 1 } else { rng.below(own) };
+            let slot = loose.child(above, rng.once_in(2));
+            hung = *slot == NONE;
+            if hung {
+                *slot = own as u16;
+            }
+        }
+    }
+    loose
+}
+
+/// The same patches less those of the chosen panels: under another tree, or
+/// under the same with the patches taken out.
+pub fn second(rng: &mut Random, first: &Loose, chosen: &[u16]) -> Loose {
+    let mut thinned = first.clone();
+    for site in &mut thinned.sites {
+        site.patches.retain(|p| !chosen.contains(&p.panel));
+    }
+    if rng.once_in(5) {
+        return thinned;
+    }
+    let kept = thinned.patches();
+    let mut planter = Planter {
+        planes: first.sites.iter().map(|site| site.points).collect(),
+        discard: false,
+        chain: false,
+        spare: 1_024 - kept.len(),
+        rng: &mut *rng,
+    };
+    match planter.plant(kept) {
+        Some(root) => Loose::of(rng, root),
+        None => thinned,
+    }
+}

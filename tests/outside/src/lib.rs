@@ -1,0 +1,37 @@
+//! An outside check of the lining survey, in exact whole numbers.
+//!
+//! The model: `vector`, `scene`, `gate`, `ray`, `survey`, `bill`, `stations`.
+//! The cases: `random`, `polygon`, `soup`, `works`, `tree`, `loose`, `view`,
+//! `generate`, `damage`, `stored`, `header`, `outer`, `pairs`.
+//! The comparison: `compare`, `differential`; and what shows that it can
+//! fail: `fault`, `wrong_gate`, `wrong_questions`, `wrong_paint`; and the
+//! model against itself: `consistency`.
+
+pub mod bill;
+pub mod call;
+pub mod compare;
+pub mod consistency;
+pub mod damage;
+pub mod differential;
+pub mod fault;
+pub mod gate;
+pub mod generate;
+pub mod header;
+pub mod loose;
+pub mod outer;
+pub mod pairs;
+pub mod polygon;
+pub mod random;
+pub mod ray;
+pub mod scene;
+pub mod soup;
+pub mod stations;
+pub mod stored;
+pub mod survey;
+pub mod tree;
+pub mod vector;
+pub mod view;
+pub mod works;
+pub mod wrong_gate;
+pub mod wrong_paint;
+pub mod wrong_questions;

@@ -1,0 +1,168 @@
+//! The library set against the model, case by case.
+//!
+//!     differential [--cases N] [--seed S] [--only K] [--small] [--trace]
+//!                  [--out DIR] [--ringbill PROGRAM]
+//!
+//! A case that differs is written to DIR as an input of `ringbill`. `--only`
+//! runs case K alone, `--trace` names each case before it runs, `--small`
+//! keeps cases cheap, `--ringbill` sets the program against the model too.
+
+mod library;
+
+use std::env;
+use std::fs;
+use std::io::Write;
+use std::process::{exit, Command, Stdio};
+
+use library::Linked;
+use outside::bill::{bill, LONGEST, SHORTEST};
+use outside::compare::Difference;
+use outside::differential::{case, put, Case, Tally};
+use outside::generate::{FULL, SMALL};
+use outside::random::Random;
+
+struct Options {
+    cases: u64,
+    seed: u64,
+    only: Option<u64>,
+    small: bool,
+    trace: bool,
+    out: String,
+    ringbill: Option<String>,
+}
+
+fn options() -> Options {
+    let mut options = Options {
+        cases: 5_000,
+        seed: 1,
+        only: None,
+        small: false,
+        trace: false,
+        out: ".".to_string(),
+        ringbill: None,
+    };
+    let mut words = env::args().skip(1);
+    while let Some(word) = words.next() {
+        let mut value = || words.next().unwrap_or_else(|| usage(&word));
+        match word.as_str() {
+            "--cases" => options.cases = number(&value()),
+            "--seed" => options.seed = number(&value()),
+            "--only" => options.only = Some(number(&value())),
+            "--small" => options.small = true,
+            "--trace" => options.trace = true,
+            "--out" => options.out = value(),
+            "--ringbill" => options.ringbill = Some(value()),
+            _ => usage(&word),
+        }
+    }
+    options
+}
+
+fn usage(word: &str) -> ! {
+    eprintln!("differential: not understood: {word}");
+    exit(2)
+}
+
+fn number(word: &str) -> u64 {
+    word.parse().unwrap_or_else(|_| usage(word))
+}
+
+fn main() {
+    let options = options();
+    let size = if options.small { SMALL } else { FULL };
+    let mut tally = Tally::default();
+    let numbers = match options.only {
+        Some(k) => k..k + 1,
+        None => 0..options.cases,
+    };
+    for k in numbers {
+        let made = case(options.seed, k, size);
+        if options.trace {
+            println!("case {k}: {}", made.name());
+        }
+        let mut noise = Random::new(!options.seed, k);
+        let mut differences = put(&Linked, &made, &mut noise, &mut tally);
+        if let Some(program) = &options.ringbill {
+            if !bills_agree(program, &made, k) {
+                tally.failed += u64::from(differences.is_empty());
+                *tally.differences.entry(Difference::Bill).or_default() += 1;
+                differences.push(Difference::Bill);
+            }
+        }
+        if !differences.is_empty() && tally.failed <= 20 {
+            keep(&options, k, &made, &differences);
+        }
+    }
+    exit(report(&options, &tally));
+}
+
+/// Writes a case that differs, one file a scene.
+fn keep(options: &Options, k: u64, made: &Case, differences: &[Difference]) {
+    println!("DIFFERS case {k} ({}): {differences:?}", made.name());
+    for (place, call) in made.calls().into_iter().enumerate() {
+        let file = format!("{}/outside-{}-{k}-{place}.case", options.out, options.seed);
+        println!(
+            "  {file}: {:?}, lengths {} {} {}, counter {}",
+            call.view, call.picture_len, call.counts_len, call.unlit_len, call.counter
+        );
+        if let Err(error) = fs::write(&file, call.standard_input()) {
+            println!("  not written: {error}");
+        }
+    }
+    if let Case::Two(_, pair) = made {
+        println!("  chosen panels: {:?}", pair.chosen);
+    }
+}
+
+fn report(options: &Options, tally: &Tally) -> i32 {
+    println!("seed {}", options.seed);
+    for (kind, times) in &tally.kinds {
+        println!("{times:8} {kind}");
+    }
+    for (answer, times) in &tally.answers {
+        println!("{times:8} answered {answer}");
+    }
+    println!("{:8} cells, {} of them lit", tally.cells, tally.lit);
+    for (difference, times) in &tally.differences {
+        println!("{times:8} differences: {difference:?}");
+    }
+    let silent: Vec<u32> = (0..=12)
+        .filter(|answer| !tally.answers.contains_key(answer))
+        .collect();
+    let thin = tally.cases >= 500 && !silent.is_empty();
+    if thin {
+        println!("never answered: {silent:?}");
+    }
+    println!(
+        "outside: {} cases, {} differences",
+        tally.cases, tally.failed
+    );
+    i32::from(tally.failed > 0 || thin)
+}
+
+/// `ringbill` on the case's inputs, now and then cut or overlong.
+fn bills_agree(program: &str, made: &Case, k: u64) -> bool {
+    made.calls().into_iter().all(|call| {
+        let mut input = call.standard_input();
+        match k % 50 {
+            17 => input.truncate((k / 50 % (SHORTEST as u64 + 2)) as usize),
+            18 => input.resize(LONGEST + (k / 50 % 3) as usize, 0),
+            _ => (),
+        }
+        printed(program, &input).trim_end() == bill(&input).trim_end()
+    })
+}
+
+fn printed(program: &str, input: &[u8]) -> String {
+    let mut child = Command::new(program)
+        .stdin(Stdio::piped())
+        .stdout(Stdio::piped())
+        .spawn()
+        .expect("ringbill starts");
+    let mut stdin = child.stdin.take().expect("a pipe");
+    // A program may stop reading once it knows its answer.
+    let _ = stdin.write_all(input);
+    drop(stdin);
+    let output = child.wait_with_output().expect("ringbill ends");
+    String::from_utf8_lossy(&output.stdout).into_owned()
+}

@@ -1,0 +1,134 @@
+//! Damage to the call around the scene, aimed at questions 10 to 12.
+
+use crate::call::{Call, View, COUNTS, ROW};
+use crate::random::Random;
+
+pub type CallHarm = fn(&mut Call, &mut Random);
+
+pub const CALL: &[(u32, CallHarm)] = &[
+    (10, eye_out),
+    (10, window_out),
+    (11, picture_length),
+    (11, counts_length),
+    (11, unlit_length),
+    (12, counter_full),
+];
+
+fn eye_out(call: &mut Call, rng: &mut Random) {
+    let ends = [
+        -10_001, 10_001, -10_001, 10_001, -32_768, 32_767, -10_000, 10_000,
+    ];
+    call.view.eye[rng.below(3)] = rng.pick(&ends);
+}
+
+/// One measure at or over its ends; the lengths follow where they can.
+fn window_out(call: &mut Call, rng: &mut Random) {
+    let view = &mut call.view;
+    match rng.below(3) {
+        0 => view.width = rng.pick(&[0, 0, 1, 256, 257, 257, 512, 65_535]),
+        1 => view.height = rng.pick(&[0, 0, 1, 128, 129, 129, 256, 65_535]),
+        _ => view.lens = rng.pick(&[0, 0, 1, 4_096, 4_097, 4_097, 65_535]),
+    }
+    let fitting = Call::new(Vec::new(), *view);
+    if fitting.picture_len < 100_000 && fitting.unlit_len < 100_000 && !rng.once_in(4) {
+        call.picture_len = fitting.picture_len;
+        call.unlit_len = fitting.unlit_len;
+    }
+}
+
+fn length(rng: &mut Random, right: usize) -> usize {
+    let choices = [
+        right + 1,
+        right.saturating_sub(1),
+        0,
+        right * 2,
+        right + 65_536,
+    ];
+    rng.pick(&choices)
+}
+
+fn picture_length(call: &mut Call, rng: &mut Random) {
+    let (width, height) = (call.view.width, call.view.height);
+    call.picture_len = match rng.below(3) {
+        0 => usize::from(width.max(height)),
+        _ => length(rng, call.picture_len.min(40_000)),
+    };
+}
+
+fn counts_length(call: &mut Call, rng: &mut Random) {
+    call.counts_len = length(rng, COUNTS);
+}
+
+fn unlit_length(call: &mut Call, rng: &mut Random) {
+    call.unlit_len = match rng.below(3) {
+        0 => usize::from(call.view.height.min(128)),
+        1 => ROW,
+        _ => length(rng, call.unlit_len.min(40_000)),
+    };
+}
+
+fn counter_full(call: &mut Call, rng: &mut Random) {
+    call.counter = rng.pick(&[u32::MAX, u32::MAX, u32::MAX - 1, 0]);
+}
+
+/// Every end of questions 10 to 12, just inside and just outside, and two
+/// questions at once.
+pub fn ends(call: &Call) -> Vec<Call> {
+    let changed = |change: &dyn Fn(&mut Call)| {
+        let mut other = call.clone();
+        change(&mut other);
+        other
+    };
+    let seen = |view: View| Call::new(call.scene.to_vec(), view);
+    let mut all = Vec::new();
+    for axis in 0..3 {
+        for n in [-10_001, -10_000, 10_000, 10_001] {
+            all.push(changed(&|c| c.view.eye[axis] = n));
+        }
+    }
+    let view = call.view;
+    all.extend([0, 1, 256, 257].map(|width| seen(View { width, ..view })));
+    all.extend([0, 1, 128, 129].map(|height| seen(View { height, ..view })));
+    all.extend([0, 1, 4_096, 4_097].map(|lens| seen(View { lens, ..view })));
+    for step in [-1, 1] {
+        all.push(changed(&|c| c.picture_len = stepped(c.picture_len, step)));
+        all.push(changed(&|c| c.counts_len = stepped(c.counts_len, step)));
+        all.push(changed(&|c| c.unlit_len = stepped(c.unlit_len, step)));
+        all.push(changed(&|c| c.unlit_len = stepped(c.unlit_len, 256 * step)));
+    }
+    for counter in [0, u32::MAX - 1, u32::MAX] {
+        all.push(changed(&|c| c.counter = counter));
+        all.push(changed(&|c| (c.counts_len, c.counter) = (0, counter)));
+        all.push(changed(&|c| (c.view.lens, c.counter) = (0, counter)));
+    }
+    all.push(changed(&|c| (c.view.lens, c.counts_len) = (4_097, 0)));
+    all
+}
+
+fn stepped(length: usize, step: isize) -> usize {
+    length.saturating_add_signed(step)
+}
+
+/// Lengths that only the gate can be asked about: nobody lends so much.
+pub fn beyond_memory(call: &mut Call, rng: &mut Random) {
+    let add = rng.pick(&[1 << 16, 1 << 32, 1 << 48, 1 << 63]);
+    let place = match rng.below(3) {
+        0 => &mut call.picture_len,
+        1 => &mut call.counts_len,
+        _ => &mut call.unlit_len,
+    };
+    *place = match rng.once_in(4) {
+        true => usize::MAX,
+        false => place.wrapping_add(add),
+    };
+}
+
+/// A window whose measures are all in range, anywhere.
+pub fn any_window(rng: &mut Random) -> View {
+    View {
+        eye: [0; 3].map(|_| rng.between(-10_000, 10_000) as i16),
+        width: rng.between(1, 256) as u16,
+        height: rng.between(1, 128) as u16,
+        lens: rng.between(1, 4_096) as u16,
+    }
+}

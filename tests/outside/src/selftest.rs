@@ -1,0 +1,92 @@
+//! The outside check checked, without the library.
+//!
+//! `selftest` runs the paper's stations, the model against itself and the
+//! comparison against faulty libraries. `selftest --bill` reads an input of
+//! `ringbill` and prints what the model makes of it.
+
+use std::io::Read;
+use std::process::exit;
+
+use outside::bill::bill;
+use outside::consistency::{pair_holds, parts_are_told_apart, rays_agree, sums_hold};
+use outside::differential::{case, put, Case, Tally};
+use outside::fault::Faulty;
+use outside::generate::{FULL, SMALL};
+use outside::random::Random;
+use outside::stations::stations;
+
+const SEED: u64 = 20;
+
+fn main() {
+    if std::env::args().any(|word| word == "--bill") {
+        let mut input = Vec::new();
+        let read = std::io::stdin().read_to_end(&mut input);
+        read.expect("an input");
+        print!("{}", bill(&input));
+        return;
+    }
+    let mut failed = 0;
+    for (name, held) in stations().into_iter().chain(parts_are_told_apart()) {
+        println!("{} {name}", if held { "holds" } else { "FAILS" });
+        failed += usize::from(!held);
+    }
+    failed += consistent(400);
+    failed += sound(1_000);
+    failed += faults(6_000);
+    println!("selftest: {failed} failed");
+    exit(i32::from(failed > 0));
+}
+
+/// Rays, sums and pairs of made scenes.
+fn consistent(cases: u64) -> usize {
+    let (mut scenes, mut pairs, mut failed) = (0, 0, 0);
+    for number in 0..cases {
+        let made = case(SEED, number, SMALL);
+        let mut rng = Random::new(SEED, !number);
+        let held = match &made {
+            Case::Scene(_, call) => {
+                scenes += 1;
+                rays_agree(call) && sums_hold(call)
+            }
+            Case::Two(_, pair) => {
+                pairs += 1;
+                pair_holds(pair, &mut rng) && rays_agree(&pair.second)
+            }
+            _ => true,
+        };
+        if !held {
+            println!("FAILS case {number}: {}", made.name());
+            failed += 1;
+        }
+    }
+    println!("consistent: {scenes} scenes, {pairs} pairs, {failed} failed");
+    failed
+}
+
+/// No fault, no difference.
+fn sound(cases: u64) -> usize {
+    let mut tally = Tally::default();
+    for number in 0..cases {
+        let mut noise = Random::new(!SEED, number);
+        let made = case(SEED, number, FULL);
+        put(&Faulty::none(), &made, &mut noise, &mut tally);
+    }
+    println!("no fault: {cases} cases, {} differences", tally.failed);
+    println!("answers: {:?}", tally.answers);
+    tally.failed as usize
+}
+
+/// Every fault is found, and by the difference it must show.
+fn faults(cases: u64) -> usize {
+    let mut missed = 0;
+    for fault in Faulty::all() {
+        match fault.found(SEED, cases, SMALL) {
+            Some(number) => println!("found {:?} in case {number}: {}", fault.shows, fault.name),
+            None => {
+                println!("MISSED {:?}: {}", fault.shows, fault.name);
+                missed += 1;
+            }
+        }
+    }
+    missed
+}

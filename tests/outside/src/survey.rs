@@ -1,0 +1,82 @@
+//! The whole answer to a call: picture, counts and unlit lists.
+
+use crate::call::{Call, View, COUNTS, ROW};
+use crate::gate::Gate;
+use crate::ray::{closest, direction};
+use crate::scene::{Patch, Scene};
+use crate::vector::wide;
+
+#[derive(Clone, Debug, PartialEq, Eq)]
+pub struct Done {
+    pub picture: Vec<u16>,
+    pub counts: Vec<u32>,
+    pub unlit: Vec<u16>,
+}
+
+/// "The result is "done" or this number, no third form."
+pub fn survey(call: &Call) -> Result<Done, u32> {
+    match Gate::of_the_paper().judge(call) {
+        0 => {
+            let patches = Scene::read(&call.scene).patches();
+            Ok(Done::of(picture(&patches, &call.view), &call.view))
+        }
+        number => Err(number),
+    }
+}
+
+/// The cells row after row from the top, cell (i, j) at j × width + i.
+pub fn picture(patches: &[Patch], view: &View) -> Vec<u16> {
+    let (width, eye) = (usize::from(view.width), wide(view.eye));
+    (0..view.cells())
+        .map(|at| closest(patches, eye, direction(view, at % width, at / width)))
+        .collect()
+}
+
+impl Done {
+    /// Counts and unlit lists as the cells of a picture give them.
+    pub fn of(picture: Vec<u16>, view: &View) -> Done {
+        let rows = picture.chunks(usize::from(view.width));
+        Done {
+            unlit: rows.flat_map(unlit_row).collect(),
+            counts: counts(&picture),
+            picture,
+        }
+    }
+}
+
+/// "each count is the number of such cells"; "entry 0 for "nothing"".
+pub fn counts(picture: &[u16]) -> Vec<u32> {
+    let mut counts = vec![0; COUNTS];
+    for &panel in picture {
+        counts[usize::from(panel)] += 1;
+    }
+    counts
+}
+
+/// "A row's unlit cells are pairs of offset and length, sorted by offset,
+/// never touching. A row under work holds 128 pairs, unused ones 0 and 0."
+pub fn unlit_row(row: &[u16]) -> Vec<u16> {
+    let mut numbers = Vec::new();
+    let mut i = 0;
+    while i < row.len() {
+        let length = row[i..].iter().take_while(|&&panel| panel == 0).count();
+        if length > 0 {
+            numbers.extend([i as u16, length as u16]);
+        }
+        i += length.max(1);
+    }
+    numbers.resize(ROW, 0);
+    numbers
+}
+
+/// "They end before the row's first pair of length 0, or with the row; a row
+/// not wholly inside the list gives the empty part."
+pub fn used_pairs(unlit: &[u16], j: usize) -> &[u16] {
+    match unlit.get(ROW * j..ROW * (j + 1)) {
+        None => &[],
+        Some(row) => {
+            let used = row.chunks(2).take_while(|pair| pair[1] != 0).count();
+            &row[..2 * used]
+        }
+    }
+}

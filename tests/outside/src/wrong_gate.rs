@@ -1,0 +1,193 @@
+//! Gates that are right but for one thing; the cases must find each.
+
+use crate::call::{COUNTS, ROW};
+use crate::gate::*;
+use crate::scene::u16_at;
+use crate::wrong_questions::*;
+
+pub type WrongGate = (&'static str, fn() -> Gate);
+
+pub const WRONG: &[WrongGate] = &[
+    ("1: any version", || sized(|b| fits(b) && u16_at(b, 2) == 0)),
+    ("1: zero field ignored", || {
+        sized(|b| fits(b) && u16_at(b, 0) == 1)
+    }),
+    ("1: up to 65,535 bytes", || {
+        sized(|b| b.len() < 65_536 && b.len() > 31 && heads(b))
+    }),
+    ("1 after 2", || {
+        sized(|b| size_and_version(b) || (fits(b) && !sections_follow(b)))
+    }),
+    ("2: 1,025 nodes", || {
+        sectioned(|b| sections_within(b, [1_025, 1_024, 4_096]))
+    }),
+    ("2: 1,025 patches", || {
+        sectioned(|b| sections_within(b, [1_024, 1_025, 4_096]))
+    }),
+    ("2: 4,097 corners", || {
+        sectioned(|b| sections_within(b, [1_024, 1_024, 4_097]))
+    }),
+    ("2: a tail allowed", || sectioned(tail_allowed)),
+    ("2: a gap allowed", || sectioned(gap_allowed)),
+    ("3: nodes unseen", || {
+        asked(3, |_, s| s.corners.iter().all(in_range))
+    }),
+    ("3: corners unseen", || {
+        asked(3, |_, s| {
+            s.nodes.iter().all(|n| n.points.iter().all(in_range))
+        })
+    }),
+    ("3: 10,001 passes", || {
+        asked(3, |_, s| coordinates_within(s, -10_000, 10_001))
+    }),
+    ("3: −10,001 passes", || {
+        asked(3, |_, s| coordinates_within(s, -10_001, 10_000))
+    }),
+    ("4: left out", || without(4)),
+    ("5: named twice", || {
+        asked(5, |_, s| children_above(s) && named(s).all(|n| n > 0))
+    }),
+    ("5: never named", || {
+        asked(5, |_, s| children_above(s) && named(s).all(|n| n < 2))
+    }),
+    ("5: own number passes", || {
+        asked(5, |_, s| children_not_below(s) && named(s).all(|n| n > 0))
+    }),
+    ("6: an empty run anywhere", || asked(6, empty_anywhere)),
+    ("6: unused patches", || asked(6, unused_patches)),
+    ("6: unused corners", || asked(6, unused_corners)),
+    ("6: two corners", || asked(6, |_, s| cornered(s, 2, 8))),
+    ("6: nine corners", || asked(6, |_, s| cornered(s, 3, 9))),
+    ("6: runs in any order", || asked(6, any_order)),
+    ("7: any panel", || asked(7, |_, s| panels_never_fall(s))),
+    ("7: panel 0", || {
+        asked(7, |_, s| {
+            panels_never_fall(s) && s.records.iter().all(|r| r.panel <= 1_024)
+        })
+    }),
+    ("7: falling passes", || asked(7, |_, s| panels_in_range(s))),
+    ("7: equal refused", || asked(7, equal_refused)),
+    ("8: flatness unseen", || {
+        asked(8, |_, s| s.patches().iter().all(strictly_convex))
+    }),
+    ("8: first three only", || {
+        asked(8, |_, s| {
+            s.patches().iter().all(|p| flat(p) && turn(p, 0, 1, 2) > 0)
+        })
+    }),
+    ("8: next corner only", || asked(8, next_corner_only)),
+    ("8: in line passes", || asked(8, in_line_passes)),
+    ("8: one way round only", || asked(8, one_way_round)),
+    ("9: parent only", || asked(9, parent_only)),
+    ("9: own plane unseen", || {
+        asked(9, |_, s| sides(s, false, true))
+    }),
+    ("9: wholly on it passes", || {
+        asked(9, |_, s| sides(s, true, false))
+    }),
+    ("9: sides in 32 bits", || asked(9, sides_in_32_bits)),
+    ("9: touching refused", || asked(9, touching_refused)),
+    ("10: eye unseen", || {
+        asked(10, |c, _| window(c, 256, 128, 4_096))
+    }),
+    ("10: width 257", || {
+        asked(10, |c, _| {
+            in_range(&c.view.eye) && window(c, 257, 128, 4_096)
+        })
+    }),
+    ("10: height 129", || {
+        asked(10, |c, _| {
+            in_range(&c.view.eye) && window(c, 256, 129, 4_096)
+        })
+    }),
+    ("10: lens 4,097", || {
+        asked(10, |c, _| {
+            in_range(&c.view.eye) && window(c, 256, 128, 4_097)
+        })
+    }),
+    ("10: width 255 at most", || {
+        asked(10, |c, _| {
+            in_range(&c.view.eye) && window(c, 255, 128, 4_096)
+        })
+    }),
+    ("10: lens 0", || {
+        asked(10, |c, _| {
+            in_range(&c.view.eye)
+                && c.view.width.clamp(1, 256) == c.view.width
+                && c.view.height.clamp(1, 128) == c.view.height
+                && c.view.lens <= 4_096
+        })
+    }),
+    ("11: longer picture", || {
+        asked(11, |c, _| {
+            c.picture_len >= c.view.cells() && c.counts_len == COUNTS && unlit_fits(c)
+        })
+    }),
+    ("11: longer counts", || {
+        asked(11, |c, _| {
+            c.picture_len == c.view.cells() && c.counts_len >= COUNTS && unlit_fits(c)
+        })
+    }),
+    ("11: longer unlit", || {
+        asked(11, |c, _| {
+            c.picture_len == c.view.cells()
+                && c.counts_len == COUNTS
+                && c.unlit_len >= usize::from(c.view.height) * ROW
+        })
+    }),
+    ("12: left out", || without(12)),
+    ("12: one early", || {
+        asked(12, |c, _| c.counter < u32::MAX - 1)
+    }),
+    ("3 after 4", || swapped(3)),
+    ("4 after 5", || swapped(4)),
+    ("5 after 6", || swapped(5)),
+    ("6 after 7", || swapped(6)),
+    ("7 after 8", || swapped(7)),
+    ("8 after 9", || swapped(8)),
+    ("9 after 10", || swapped(9)),
+    ("10 after 11", || swapped(10)),
+    ("11 after 12", || swapped(11)),
+];
+
+/// Shows only where the gate alone is asked: nobody lends so much.
+pub const SHORT_LENGTHS: WrongGate = ("11: length in 32 bits", || {
+    asked(11, |c, _| {
+        c.picture_len as u32 as usize == c.view.cells()
+            && c.counts_len as u32 as usize == COUNTS
+            && c.unlit_len as u32 == u32::from(c.view.height) * 256
+    })
+});
+
+fn sized(size: fn(&[u8]) -> bool) -> Gate {
+    Gate {
+        size,
+        ..Gate::of_the_paper()
+    }
+}
+
+fn sectioned(sections: fn(&[u8]) -> bool) -> Gate {
+    Gate {
+        sections,
+        ..Gate::of_the_paper()
+    }
+}
+
+fn asked(number: u32, question: Question) -> Gate {
+    let mut gate = Gate::of_the_paper();
+    for place in gate.questions.iter_mut().filter(|q| q.0 == number) {
+        place.1 = question;
+    }
+    gate
+}
+
+fn without(number: u32) -> Gate {
+    asked(number, |_, _| true)
+}
+
+fn swapped(number: u32) -> Gate {
+    let mut gate = Gate::of_the_paper();
+    gate.questions
+        .swap(number as usize - 3, number as usize - 2);
+    gate
+}

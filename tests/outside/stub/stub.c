@@ -1,0 +1,64 @@
+/* A library of wrong answers, to see that the outside check can fail.
+ * STUB_FAULT chooses the fault:
+ *   silent  says "done" and touches nothing;
+ *   scribe  refuses with 1 and changes all it was lent, the scene too;
+ *   blank   says "done" with a blank picture, rightly counted;
+ *   beyond  as blank, and reads and writes one place outside its buffers. */
+#include <stddef.h>
+#include <stdint.h>
+#include <stdlib.h>
+#include <string.h>
+
+static int fault_is(const char *name)
+{
+    const char *fault = getenv("STUB_FAULT");
+    return fault != NULL && strcmp(fault, name) == 0;
+}
+
+uint32_t ring_survey(const uint8_t *scene, size_t scene_len,
+                     int16_t eye_x, int16_t eye_y, int16_t eye_z,
+                     uint16_t width, uint16_t height, uint16_t lens,
+                     uint16_t *picture, size_t picture_len,
+                     uint32_t *counts, size_t counts_len,
+                     uint16_t *unlit, size_t unlit_len, uint32_t *counter)
+{
+    (void)eye_x, (void)eye_y, (void)eye_z, (void)lens;
+    if (fault_is("scribe")) {
+        if (scene_len > 0)
+            ((uint8_t *)(uintptr_t)scene)[0] ^= 1;
+        for (size_t k = 0; k < picture_len; k++)
+            picture[k] ^= 1;
+        for (size_t k = 0; k < counts_len; k++)
+            counts[k] ^= 1;
+        for (size_t k = 0; k < unlit_len; k++)
+            unlit[k] ^= 1;
+        *counter ^= 1;
+        return 1;
+    }
+    if (fault_is("silent") || counts_len == 0)
+        return 0;
+    memset(picture, 0, picture_len * sizeof *picture);
+    memset(counts, 0, counts_len * sizeof *counts);
+    memset(unlit, 0, unlit_len * sizeof *unlit);
+    counts[0] = (uint32_t)width * height;
+    for (size_t j = 0; j * 256 + 1 < unlit_len; j++)
+        unlit[j * 256 + 1] = width;
+    *counter += 1;
+    if (fault_is("beyond") && scene_len > 0 && picture_len > 0) {
+        volatile const uint8_t *past = scene + scene_len;
+        picture[picture_len] = *past;
+    }
+    return 0;
+}
+
+uint32_t ring_gate(const uint8_t *scene, size_t scene_len,
+                   int16_t eye_x, int16_t eye_y, int16_t eye_z,
+                   uint16_t width, uint16_t height, uint16_t lens,
+                   size_t picture_len, size_t counts_len, size_t unlit_len,
+                   uint32_t counter)
+{
+    (void)scene, (void)scene_len, (void)eye_x, (void)eye_y, (void)eye_z;
+    (void)width, (void)height, (void)lens, (void)picture_len;
+    (void)counts_len, (void)unlit_len, (void)counter;
+    return fault_is("scribe") ? 1 : 0;
+}

@@ -1,0 +1,444 @@
+"""Tests of tools/: worked scenes, round trips, the gate, sample rings, pictures, the commands.
+
+Run by tools.sh. Each case is counted; a case that fails is named.
+"""
+
+import collections
+import os
+import random
+import struct
+import subprocess
+import sys
+import tempfile
+import zlib
+
+sys.dont_write_bytecode = True
+ROOT = os.path.dirname(os.path.dirname(os.path.abspath(__file__)))
+sys.path.insert(0, os.path.join(ROOT, "tools"))
+import draw  # noqa: E402
+import gate  # noqa: E402
+import rays  # noqa: E402
+import ring  # noqa: E402
+import scene  # noqa: E402
+
+tally = collections.Counter()
+
+
+def check(name, got, wanted=True):
+    """Count a case; say what went wrong with it."""
+    tally[got == wanted] += 1
+    if got != wanted:
+        print("FAILED: %s\n    wanted: %.300r\n    got:    %.300r" % (name, wanted, got))
+
+
+def stored(name):
+    with open(os.path.join(ROOT, name), "rb") as file:
+        return file.read()
+
+
+# --- text fragments ------------------------------------------------------------------------------
+
+def plane(forward):
+    """A node across the bore, its positive side ahead."""
+    return "node 0,%d,0 0,%d,1 1,%d,0" % (forward, forward, forward)
+
+
+def square(half, forward):
+    h, y = half, forward
+    return "-%d,%d,-%d %d,%d,-%d %d,%d,%d -%d,%d,%d" % (h, y, h, h, y, h, h, y, h, h, y, h)
+
+
+NODE, FRONT = plane(100), plane(50)
+FIVE, SEVEN = "patch 5 " + square(50, 100), "patch 7 " + square(20, 50)
+VIEW = "view 0,0,0 4 4 4"
+
+
+def text_of(*lines):
+    return "".join(line + "\n" for line in lines)
+
+
+# --- the worked scenes ---------------------------------------------------------------------------
+
+def picture(*lines):
+    return rays.survey(*gate.check_input(scene.build(text_of(*lines))))
+
+
+def middle(panel):
+    """The four cells of the middle show this panel, the others none."""
+    edge, inner = [0] * 4, [0, panel, panel, 0]
+    return [edge, inner, inner, edge]
+
+
+def test_worked_scenes():
+    check("square", picture(VIEW, NODE, FIVE), middle(5))
+    check("half-width 25", picture(VIEW, NODE, "patch 5 " + square(25, 100)), middle(0))
+    check("half-width 26", picture(VIEW, NODE, "patch 5 " + square(26, 100)), middle(5))
+    check("eye in the plane", picture("view 0,100,0 4 4 4", NODE, FIVE), middle(0))
+    check("eye beyond", picture("view 0,200,0 4 4 4", NODE, FIVE), middle(0))
+    check("one cell", picture("view 0,0,0 1 1 4", NODE, FIVE), [[5]])
+    check("two squares", picture(VIEW, FRONT + " positive 1", SEVEN, NODE, FIVE), middle(7))
+    check("less panel 5", picture(VIEW, FRONT, SEVEN), middle(7))
+    check("less panel 7", picture(VIEW, FRONT + " positive 1", NODE, FIVE), middle(5))
+    check("far one first in the list",
+          picture(VIEW, NODE + " negative 1", FIVE, FRONT, SEVEN), middle(7))
+    check("two panels on one square",
+          picture(VIEW, NODE, "patch 3 " + square(50, 100), FIVE), middle(3))
+    check("no nodes", picture(VIEW), middle(0))
+
+
+def test_stored_scenes():
+    s, t = (scene.build(stored("samples/%s.txt" % name).decode()) for name in "st")
+    check("s.txt: 88 bytes", len(s) - 12, 88)
+    check("s.txt: picture", rays.survey(*gate.check_input(s)), middle(5))
+    check("t.txt: picture", rays.survey(*gate.check_input(t)), middle(7))
+
+
+# --- round trips ---------------------------------------------------------------------------------
+
+def comes_back(data, with_view=False):
+    return scene.build(scene.show(data, with_view)) == data
+
+
+def damaged(data, draws):
+    """The file, perhaps cut short or made longer, with up to three bytes changed."""
+    data = bytearray(data[:draws.choice((len(data), draws.randrange(len(data) + 1)))])
+    data += bytes(draws.choice((0, 0, 0, 5)))
+    for _ in range(draws.randrange(4) if data else 0):
+        data[draws.randrange(len(data))] = draws.randrange(256)
+    return bytes(data)
+
+
+def test_round_trips():
+    view = stored("samples/ring.view")
+    check("ring.view", comes_back(view, True))
+    check("ring.view as a scene", comes_back(view))
+    check("empty file", comes_back(b""))
+    check("empty scene", comes_back(scene.pack(scene.Scene())))
+    check("patches without a node", comes_back(scene.build(text_of(FIVE, SEVEN))))
+    draws = random.Random(1)
+    whole = scene.build(stored("samples/t.txt").decode())[12:]
+    bad = [data for data in (damaged(whole, draws) for _ in range(1500)) if not comes_back(data)]
+    check("1,500 damaged scenes", bad, [])
+
+
+def test_odd_records():
+    """Wrong numbers in the records and the header are shown in words and not as raw bytes."""
+    lines = ("version 9", "zero 3", "length 7", NODE + " patches 7 3", "patch 5 1,2,3 corners 0 9",
+             NODE, "patch 6 4,5,6 7,8,9", "corner 1,1,1", "tail 0102")
+    data = scene.build(text_of(*lines))
+    shown = scene.show(data)
+    check("odd records come back", scene.build(shown), data)
+    for words in ("version 9", "zero 3", "length 7", "patches 7 3", "corners 0 9", "tail 0102"):
+        check("shown: " + words, words in shown)
+    check("no raw bytes", "bytes" in shown, False)
+    check("raw bytes", scene.show(b"\1\2").splitlines()[-1], "bytes 0102")
+
+
+def fault(work, *words):
+    """What a call says when it finds fault."""
+    try:
+        work(*words)
+    except scene.Fault as found:
+        return str(found)
+    return "none"
+
+
+def test_bad_text():
+    for line in ("node 1,2,3", "node 1,2,3 4,5,6 40000,0,0", "node 1,2,3 4,5,6 7,8,9 left 1",
+                 "patch 70000", "patch 5 1,2", "patch x", "plane 1", "bytes 1", "version 1 2",
+                 "view 1,2,3 4"):
+        check("text: " + line, fault(scene.build, "\n" + line)[:7], "line 2:")
+    check("text: bytes beside a node", fault(scene.build, "bytes 00\n" + NODE)[:7], "`bytes`")
+
+
+# --- the gate ------------------------------------------------------------------------------------
+
+def answer(data):
+    try:
+        gate.check_input(data)
+    except gate.No as no:
+        return no.question
+    return 0
+
+
+def asks(name, number, *lines):
+    check("gate: " + name, answer(scene.build(text_of(VIEW, *lines))), number)
+
+
+def test_gate_bytes():
+    asks("version 2", 1, "version 2", NODE, FIVE)
+    asks("zero field", 1, "zero 1", NODE, FIVE)
+    asks("length", 1, "length 87", NODE, FIVE)
+    asks("31 bytes", 1, "bytes " + "00" * 31)
+    asks("too long", 1, *["corner 0,0,0"] * 9558)
+    check("gate: no view", answer(b"\0" * 11), 1)
+    asks("byte after the sections", 2, NODE, FIVE, "tail 00")
+    asks("section out of place", 2, "patches-at 59 6", NODE, FIVE)
+    asks("part of a node", 2, "nodes-at 32 20", "patches-at 52 12", NODE, FIVE)
+    asks("part of a patch", 2, "patches-at 58 9", "corners-at 67 24", NODE, FIVE, "tail 000000")
+    asks("part of a corner", 2, "corners-at 64 27", NODE, FIVE, "tail 000000")
+    asks("1,024 nodes pass", 5, *[NODE] * 1024)
+    asks("1,025 nodes", 2, *[NODE] * 1025)
+    asks("1,025 patches", 2, *["patch 1"] * 1025)
+    asks("4,097 corners", 2, *["corner 0,0,0"] * 4097)
+    asks("coordinate 10,000", 0, plane(10000), "patch 5 " + square(50, 10000))
+    asks("coordinate 10,001", 3, NODE, "patch 5 " + square(50, 10001))
+    asks("node's coordinate", 3, "node 0,100,0 1,100,0 0,100,-10001", FIVE)
+
+
+def test_gate_tree():
+    asks("points on one line", 4, "node 0,100,0 1,100,0 2,100,0", FIVE)
+    asks("own number as child", 5, NODE + " positive 0", FIVE)
+    asks("child beyond the nodes", 5, NODE + " negative 1", FIVE)
+    asks("node named twice", 5, FRONT + " positive 1 negative 1", NODE, FIVE)
+    asks("node never named", 5, FRONT, NODE, FIVE)
+    asks("run with a gap", 6, NODE + " patches 0 0", FIVE)
+    asks("empty run out of place", 6,
+         FRONT + " positive 1 patches 1 0", NODE + " patches 0 1", FIVE)
+    asks("patch without a node", 6, FIVE)
+    asks("corner without a patch", 6, NODE, FIVE, "corner 0,100,0")
+
+
+def test_gate_patches():
+    asks("two corners", 6, NODE, "patch 5 0,100,0 1,100,0")
+    asks("eight corners", 0, NODE, "patch 5 -1,100,-3 1,100,-3 3,100,-1 3,100,1 "
+         "1,100,3 -1,100,3 -3,100,1 -3,100,-1")
+    asks("nine corners", 6, NODE, "patch 5 %s %s 0,100,0" % (square(50, 100), square(50, 100)))
+    asks("panel 0", 7, NODE, "patch 0 " + square(50, 100))
+    asks("panel 1,024", 0, NODE, "patch 1024 " + square(50, 100))
+    asks("panel 1,025", 7, NODE, "patch 1025 " + square(50, 100))
+    asks("falling panels", 7, NODE, FIVE, "patch 3 " + square(50, 100))
+    asks("level panels", 0, NODE, FIVE, FIVE)
+    asks("not flat", 8, NODE, "patch 5 -50,100,-50 50,100,-50 50,100,50 -50,101,50")
+    asks("corner midway along an edge", 8, NODE, "patch 5 0,100,-50 50,100,-50 50,100,50 "
+         "-50,100,50 -50,100,-50")
+    asks("corner twice", 8, NODE, "patch 5 0,100,0 0,100,0 50,100,0 50,100,50")
+
+
+def test_gate_sides():
+    floor = "node 0,0,%d 1,0,%d 0,1,%d positive 1"
+    asks("off its plane", 9, NODE, "patch 5 " + square(50, 101))
+    asks("on the wrong side", 9, FRONT + " negative 1", NODE, FIVE)
+    asks("one edge on the plane above", 0, floor % (-50, -50, -50), NODE, FIVE)
+    asks("wholly on the plane above", 9, NODE + " positive 1", NODE, FIVE)
+    asks("cut by a plane two above", 9, floor % (0, 0, 0), FRONT + " positive 2", NODE, FIVE)
+
+
+def test_gate_view():
+    for view, number in (("0,0,0 256 128 4096", 0), ("0,0,0 257 4 4", 10), ("0,0,0 4 129 4", 10),
+                         ("0,0,0 4 4 4097", 10), ("0,0,0 0 4 4", 10), ("0,0,-10001 4 4 4", 10),
+                         ("10000,-10000,0 4 4 4", 0)):
+        asks("view " + view, number, "view " + view, NODE, FIVE)
+
+
+# --- sample rings --------------------------------------------------------------------------------
+
+SMALL_WINDOW = (0, 20, 0, 48, 24, 30)
+
+
+def made(options):
+    """The scene of these options, straight from the maker."""
+    return ring.make(ring.arguments(["-"] + options.split()))
+
+
+def panels(made_scene):
+    return {patch.panel for patch in made_scene.patches}
+
+
+def patches(made_scene):
+    """The patches in an order of their own."""
+    return sorted((p.panel, made_scene.corners_of(p)) for p in made_scene.patches)
+
+
+def test_rings_legal():
+    flat = "--segments 9 --facets 1 "
+    for options, count in (("", 112), ("--rings 1 --segments 3 --facets 1", 4),
+                           (flat + "--rings 92 --length 100 --bend 1 --seed 3", 920),
+                           (flat + "--rings 100 --length 90 --bend 0 --tree walls", 1000),
+                           ("--tree halves --drop 40 --seed 7", 72),
+                           ("--tree walls --bend 0 --drop 40 --seed 8", 72),
+                           ("--drop 112", 0)):
+        one = made(options)
+        check("legal ring: " + options, answer(scene.pack_view(SMALL_WINDOW) + scene.pack(one)), 0)
+        check("panels of: " + options, len(panels(one)), count)
+
+
+def test_ring_numbers():
+    check("seed 0 counts along the bore", panels(made("")), set(range(1, 113)))
+    drawn = panels(made("--seed 1"))
+    check("a seed draws from 1 to 1,024", len(drawn) == 112 and drawn <= set(range(1, 1025)))
+    check("another seed, other numbers", drawn != panels(made("--seed 2")))
+    check("the same seed, the same ring", patches(made("--seed 1")) == patches(made("--seed 1")))
+
+
+def test_rings_refused():
+    for options, words in (("--rings 30 --segments 9 --facets 4", "refused 1:"),
+                           ("--rings 40 --length 300 --bend 0", "refused 3:"),
+                           ("--radius 2", "refused 4:"), ("--radius 40000", "does not fit"),
+                           ("--tree walls", "needs --bend 0"), ("--rings 300", "2100 panels")):
+        check("no ring: %s (%s)" % (options, words), words in fault(made, options))
+
+
+def test_trees():
+    """Other trees of the same patches: other bytes, the same picture."""
+    for one, other in (("--seed 1", "--tree halves --seed 1"),
+                       ("--seed 9 --bend 0", "--tree walls --seed 9 --bend 0"),
+                       ("--seed 2 --drop 20", "--tree halves --seed 2 --drop 20")):
+        first, second = made(one), made(other)
+        check("other tree: " + other, scene.pack(first) != scene.pack(second))
+        check("same patches: " + other, patches(first) == patches(second))
+        check("same picture: " + other,
+              rays.survey(SMALL_WINDOW, first) == rays.survey(SMALL_WINDOW, second))
+
+
+def less(gone):
+    return made("--without " + ",".join(map(str, sorted(gone))))
+
+
+def test_panels_taken_away():
+    """Hidden panels may go unseen; one that shows leaves its cells to what is behind."""
+    whole = made("")
+    rows = rays.survey(SMALL_WINDOW, whole)
+    seen = {panel for row in rows for panel in row} - {0}
+    hidden = panels(whole) - seen
+    check("some panels hidden", bool(hidden))
+    check("hidden ones gone", panels(less(hidden)), seen)
+    check("hidden ones gone: picture", rays.survey(SMALL_WINDOW, less(hidden)), rows)
+    one = min(seen)
+    after = rays.survey(SMALL_WINDOW, less({one}))
+    cells = [cell for row, now in zip(rows, after) for cell in zip(row, now)]
+    changed = [was for was, now in cells if was != now]
+    check("one that shows gone", changed, [one] * sum(row.count(one) for row in rows))
+
+
+def test_stored_ring():
+    data = scene.pack_view((0, 20, 0, 256, 128, 160)) + scene.pack(made(""))
+    check("samples/ring.view is what ring.py makes", stored("samples/ring.view") == data)
+
+
+def test_row_bound():
+    """Leaving patches out of a row by its plane changes nothing."""
+    view, whole = SMALL_WINDOW[:3] + (16, 8, 10), made("--facets 1")
+    all_seen = [rays.Seen(view[:3], p.panel, whole.corners_of(p)) for p in whole.patches]
+    plain = [[rays.closest_panel(rays.ray_of(view[3:], i, j), all_seen) for i in range(16)]
+             for j in range(8)]
+    check("rows without the bound", rays.survey(view, whole), plain)
+
+
+# --- pictures ------------------------------------------------------------------------------------
+
+def png_chunks(data):
+    chunks, at = [], 8
+    while at < len(data):
+        size, name = struct.unpack_from(">I4s", data, at)
+        body = data[at + 8:at + 8 + size]
+        good = struct.unpack_from(">I", data, at + 8 + size)[0] == zlib.crc32(name + body)
+        chunks.append((name, body if good else None))
+        at += 12 + size
+    return chunks
+
+
+def png_lines(data):
+    """Width, height and pixel lines of a PNG as draw.py writes it."""
+    (_, head), (_, body), _ = png_chunks(data)
+    width, height = struct.unpack_from(">II", head)
+    pixels, step = zlib.decompress(body), 1 + 3 * width
+    return width, height, [pixels[at:at + step] for at in range(0, len(pixels), step)]
+
+
+def wanted_lines(rows, scale):
+    lines = []
+    for row in rows:
+        line = b"\0" + b"".join(bytes(draw.colour(cell)) for cell in row for _ in range(scale))
+        lines += [line] * scale
+    return len(rows[0]) * scale, len(lines), lines
+
+
+def test_pictures():
+    check("colours differ", len({draw.colour(panel) for panel in range(1025)}), 1025)
+    rows = [[0, 5, 7], [1024, 0, 5]]
+    data = draw.draw(rows, 3)
+    check("raw cells", draw.unpack_picture(b"\5\0\0\4\7\1", 3, 1), [(5, 1024, 263)])
+    for size in ((3, 2), (0, 0), (-3, -1)):
+        check("raw cells, not %d by %d" % size,
+              fault(draw.unpack_picture, b"\5\0\0\4\7\1", *size)[:7], "6 bytes")
+    check("no such panel", fault(draw.draw, [[1025]], 1), "a cell holds 1025, which is no panel")
+    check("PNG begins", data[:8], b"\x89PNG\r\n\x1a\n")
+    check("PNG parts", [name for name, body in png_chunks(data) if body is not None],
+          [b"IHDR", b"IDAT", b"IEND"])
+    check("PNG pixels", png_lines(data), wanted_lines(rows, 3))
+    rows = rays.survey(*gate.check_input(stored("samples/ring.view")))
+    shows = {panel for row in rows for panel in row}
+    kept = stored("docs/sample-ring.png")
+    check("docs/sample-ring.png", png_lines(kept) == wanted_lines(rows, 4))
+    check("panels and a cell without one in it", len(shows) > 60 and 0 in shows)
+
+
+# --- the commands --------------------------------------------------------------------------------
+
+def command(name, *words, data=None):
+    """(exit status, standard output) of a tool."""
+    path = os.path.join(ROOT, "tools", name)
+    done = subprocess.run([sys.executable, path, *words], input=data, capture_output=True,
+                          check=False)
+    return done.returncode, done.stdout
+
+
+def test_scene_command():
+    text = stored("samples/s.txt")
+    s = scene.build(text.decode())
+    check("scene.py build", command("scene.py", "build", "-", "-", data=text), (0, s))
+    status, shown = command("scene.py", "show", "--view", "-", data=s)
+    check("scene.py show", (status, scene.build(shown.decode())), (0, s))
+    view = bytes.fromhex("ffff 0200 fdff 2800 3200 3c00")
+    check("scene.py view", command("scene.py", "view", "-", "-", "-1", "2", "-3", "40", "50", "60",
+                                   data=s[12:]), (0, view + s[12:]))
+    check("scene.py on bad text", command("scene.py", "build", "-", "-", data=b"plane"), (1, b""))
+
+
+def test_survey_commands():
+    s = scene.build(stored("samples/s.txt").decode())
+    bill = b"view 4 4 4\n5 4\nnothing 12\ntotal 16\n"
+    check("rays.py", command("rays.py", "-", data=s), (0, bill))
+    check("rays.py, refused", command("rays.py", "-", data=s[:-1]), (0, b"refused 1\n"))
+    check("rays.py, too short", command("rays.py", "-", data=s[:11]), (0, b"refused 1\n"))
+    check("gate.py", command("gate.py", "-", data=s), (0, b"accepted\n"))
+    check("gate.py --scene", command("gate.py", "--scene", "-", data=s[12:]), (0, b"accepted\n"))
+    check("gate.py, refused", command("gate.py", "-", data=s[:-1])[0], 1)
+
+
+def test_file_commands():
+    with tempfile.TemporaryDirectory() as folder:
+        def at(name):
+            return os.path.join(folder, name)
+        window = ("--view",) + tuple(map(str, SMALL_WINDOW))
+        check("ring.py", command("ring.py", at("a.view"), "--seed", "2", *window)[0], 0)
+        check("ring.py, text", command("ring.py", at("a.txt"), "--seed", "2", *window)[0], 0)
+        check("scene.py of the text", command("scene.py", "build", at("a.txt"), at("b.view"))[0], 0)
+        check("text and bytes agree", stored(at("a.view")) == stored(at("b.view")))
+        check("rays.py, picture", command("rays.py", at("a.view"), at("a.u16"))[0], 0)
+        check("draw.py", command("draw.py", at("a.view"), at("a.png"), "2")[0], 0)
+        check("draw.py --raw",
+              command("draw.py", "--raw", "48", "24", at("a.u16"), at("b.png"), "2")[0], 0)
+        check("both drawings agree", stored(at("a.png")) == stored(at("b.png")))
+        check("drawn at scale 2", png_lines(stored(at("a.png")))[:2], (96, 48))
+        check("draw.py, no scale", command("draw.py", at("a.view"), at("a.png"))[0], 0)
+        check("drawn at scale 4", png_lines(stored(at("a.png")))[:2], (192, 96))
+        check("draw.py, wrong size",
+              command("draw.py", "--raw", "48", "25", at("a.u16"), at("c.png"))[0], 1)
+        check("nothing drawn then", os.path.exists(at("c.png")), False)
+
+
+def main():
+    for name, test in list(globals().items()):
+        if name.startswith("test_"):
+            try:
+                test()
+            except Exception as error:  # a test that cannot run has failed
+                check("%s ran (%s: %s)" % (name, type(error).__name__, error), False)
+    print("tools: %d passed, %d failed" % (tally[True], tally[False]))
+    return 1 if tally[False] or not tally[True] else 0
+
+
+if __name__ == "__main__":
+    sys.exit(main())

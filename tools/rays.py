@@ -1,0 +1,115 @@
+#!/usr/bin/env python3
+"""A survey computed ray by ray in exact whole numbers: slow, without a tree, without the library.
+
+    rays.py IN.view [PICTURE.u16]
+
+Reads a view and a scene as `ringbill` does, prints the bill as `ringbill` does (or `refused N`),
+and writes the picture, if asked, as raw little-endian u16, row after row from the top. Example:
+
+    $ scene.py build samples/s.txt - | rays.py -
+    view 4 4 4
+    5 4
+    nothing 12
+    total 16
+"""
+
+import struct
+import sys
+from fractions import Fraction
+
+sys.dont_write_bytecode = True
+import gate  # noqa: E402
+import scene as scenes  # noqa: E402
+from gate import cross, dot, minus, normal  # noqa: E402
+
+
+class Seen:
+    """A patch as seen from one eye: what does not change from ray to ray."""
+
+    def __init__(self, eye, panel, corners):
+        self.panel = panel
+        self.normal = normal(*corners[:3])
+        self.from_eye = [minus(corner, eye) for corner in corners]
+        self.eye_product = dot(self.from_eye[0], self.normal)
+        turned = self.from_eye[1:] + self.from_eye[:1]
+        self.edges = [cross(v, w) for v, w in zip(self.from_eye, turned)]
+
+    def is_met(self, ray):
+        """Does every edge number have the sign of the eye product, none of them 0?"""
+        for edge in self.edges:
+            if dot(ray, edge) * self.eye_product <= 0:
+                return False
+        return True
+
+    def distance(self, ray):
+        return Fraction(self.eye_product, dot(ray, self.normal))
+
+    def may_meet(self, plane):
+        """A plane of rays through the eye with all corners strictly on one side meets nothing."""
+        sides = [dot(corner, plane) for corner in self.from_eye]
+        return min(sides) <= 0 <= max(sides)
+
+
+def closest_panel(ray, patches):
+    """The panel met at the least distance, the lowest where several are level, 0 for none."""
+    best = None
+    for patch in patches:
+        if patch.is_met(ray):
+            key = (patch.distance(ray), patch.panel)
+            best = key if best is None else min(best, key)
+    return 0 if best is None else best[1]
+
+
+def ray_of(window, column, row):
+    width, height, lens = window
+    return (2 * column + 1 - width, lens, height - 1 - 2 * row)
+
+
+def row_plane(window, row):
+    """A normal of the plane that holds all rays of a row."""
+    return cross((1, 0, 0), ray_of(window, 0, row))
+
+
+def survey(view, scene):
+    """The rows of the picture of an accepted view and scene, lists of panel numbers."""
+    eye, window = view[:3], view[3:]
+    patches = [Seen(eye, patch.panel, scene.corners_of(patch)) for patch in scene.patches]
+    rows = []
+    for row in range(window[1]):
+        near = [patch for patch in patches if patch.may_meet(row_plane(window, row))]
+        rows.append([closest_panel(ray_of(window, column, row), near)
+                     for column in range(window[0])])
+    return rows
+
+
+def bill(view, rows):
+    """The bill's lines."""
+    cells = [panel for row in rows for panel in row]
+    lines = ["view %d %d %d" % tuple(view[3:])]
+    lines += ["%d %d" % (panel, cells.count(panel)) for panel in sorted(set(cells) - {0})]
+    return lines + ["nothing %d" % cells.count(0), "total %d" % len(cells)]
+
+
+def pack_picture(rows):
+    cells = [panel for row in rows for panel in row]
+    return struct.pack("<%dH" % len(cells), *cells)
+
+
+def main():
+    if len(sys.argv) not in (2, 3):
+        sys.exit("usage: rays.py IN.view [PICTURE.u16]")
+    try:
+        view, scene = gate.check_input(scenes.read_file(sys.argv[1]))
+        rows = survey(view, scene)
+        if len(sys.argv) == 3:
+            scenes.write_file(sys.argv[2], pack_picture(rows))
+    except gate.No as no:
+        print("refused %d" % no.question)
+        return
+    except OSError as fault:
+        sys.exit("rays.py: %s" % fault)
+    print("\n".join(bill(view, rows)))
+
+
+if __name__ == "__main__":
+    main()
