@@ -8,76 +8,80 @@ use native.Mathlib.Omega.{arith}
 use lib.Dec.{T, le→leb, lt→ltb, ltb→lt}
 use lib.IntN.{ℤ, pos, negsuc, negℤ, natAbs, _+ℤ_, _*ℤ_, zero-*ℤ, *ℤ-zero, *ℤ-comm, pos-ne-negsuc}
 use lib.Signed.{ltZ, _≤ℤ_, _<ℤ_, leZ-yes, ltZ-yes, clashℤ}
+use Rattle.integer.specs.Magnitude.{signOf}
 use Rattle.integer.proofs.Ring.{one-*ℤ}
 use Rattle.integer.proofs.Identity.{ring, reify}
 use Rattle.integer.proofs.Order.{<-by, ≤-by, <→≤, ≡→≤, +-nonneg, +-pos-nonneg, Compared, below, same, above, compared}
 use Rattle.integer.proofs.Products.{*-pos, *-nonneg, *-pos-cancel, *-nonneg-cancel, zero-product, sq-pos, pos→≢}
 
-abbrev pub sgn : ℤ → ℤ
-sgn (pos zero) = pos 0
-sgn (pos (suc n)) = pos 1
-sgn (negsuc n) = negsuc 0
+pub sign-neg : (a : ℤ) → signOf (negℤ a) ≡ negℤ (signOf a)
+unfolding signOf
+sign-neg (pos zero) = refl
+sign-neg (pos (suc n)) = refl
+sign-neg (negsuc n) = refl
 
-pub sgn-neg : (a : ℤ) → sgn (negℤ a) ≡ negℤ (sgn a)
-sgn-neg (pos zero) = refl
-sgn-neg (pos (suc n)) = refl
-sgn-neg (negsuc n) = refl
+sign-of-ℕ : (n : ℕ) → zero < n → signOf (pos n) ≡ pos 1
+unfolding signOf
+sign-of-ℕ zero h = absurd (omega arith)
+sign-of-ℕ (suc n) h = refl
 
-sgn-of-ℕ : (n : ℕ) → zero < n → sgn (pos n) ≡ pos 1
-sgn-of-ℕ zero h = absurd (omega arith)
-sgn-of-ℕ (suc n) h = refl
-
-pub sgn-* : (a b : ℤ) → sgn (a *ℤ b) ≡ sgn a *ℤ sgn b
-sgn-* (pos zero) b = ap sgn (zero-*ℤ b) ∙ sym (zero-*ℤ (sgn b))
-sgn-* (pos (suc m)) (pos zero) = ap sgn (*ℤ-zero (pos (suc m)))
-sgn-* (pos (suc m)) (pos (suc n)) = sgn-of-ℕ (suc m * suc n) (mul-pos (zero-lt-suc m) (zero-lt-suc n))
-sgn-* (pos (suc m)) (negsuc n) = sgn-neg (pos (suc m * suc n)) ∙ ap negℤ (sgn-of-ℕ (suc m * suc n) (mul-pos (zero-lt-suc m) (zero-lt-suc n)))
-sgn-* (negsuc m) (pos zero) = ap sgn (*ℤ-zero (negsuc m))
-sgn-* (negsuc m) (pos (suc n)) = sgn-neg (pos (suc m * suc n)) ∙ ap negℤ (sgn-of-ℕ (suc m * suc n) (mul-pos (zero-lt-suc m) (zero-lt-suc n)))
-sgn-* (negsuc m) (negsuc n) = sgn-of-ℕ (suc m * suc n) (mul-pos (zero-lt-suc m) (zero-lt-suc n))
+pub sign-* : (a b : ℤ) → signOf (a *ℤ b) ≡ signOf a *ℤ signOf b
+unfolding signOf
+sign-* (pos zero) b = ap signOf (zero-*ℤ b) ∙ sym (zero-*ℤ (signOf b))
+sign-* (pos (suc m)) (pos zero) = ap signOf (*ℤ-zero (pos (suc m)))
+sign-* (pos (suc m)) (pos (suc n)) = sign-of-ℕ (suc m * suc n) (mul-pos (zero-lt-suc m) (zero-lt-suc n))
+sign-* (pos (suc m)) (negsuc n) = sign-neg (pos (suc m * suc n)) ∙ ap negℤ (sign-of-ℕ (suc m * suc n) (mul-pos (zero-lt-suc m) (zero-lt-suc n)))
+sign-* (negsuc m) (pos zero) = ap signOf (*ℤ-zero (negsuc m))
+sign-* (negsuc m) (pos (suc n)) = sign-neg (pos (suc m * suc n)) ∙ ap negℤ (sign-of-ℕ (suc m * suc n) (mul-pos (zero-lt-suc m) (zero-lt-suc n)))
+sign-* (negsuc m) (negsuc n) = sign-of-ℕ (suc m * suc n) (mul-pos (zero-lt-suc m) (zero-lt-suc n))
 
 -- the sign times the number is the magnitude, and times the magnitude the number
-pub sgn-abs : (a : ℤ) → sgn a *ℤ a ≡ pos (natAbs a)
-sgn-abs (pos zero) = refl
-sgn-abs (pos (suc n)) = one-*ℤ (pos (suc n))
-sgn-abs (negsuc n) = one-*ℤ (pos (suc n))
+pub sign-abs : (a : ℤ) → signOf a *ℤ a ≡ pos (natAbs a)
+unfolding signOf
+sign-abs (pos zero) = refl
+sign-abs (pos (suc n)) = one-*ℤ (pos (suc n))
+sign-abs (negsuc n) = one-*ℤ (pos (suc n))
 
-pub sgn-natAbs : (a : ℤ) → sgn a *ℤ pos (natAbs a) ≡ a
-sgn-natAbs (pos zero) = refl
-sgn-natAbs (pos (suc n)) = one-*ℤ (pos (suc n))
-sgn-natAbs (negsuc n) = ap negℤ (one-*ℤ (pos (suc n)))
+pub sign-natAbs : (a : ℤ) → signOf a *ℤ pos (natAbs a) ≡ a
+unfolding signOf
+sign-natAbs (pos zero) = refl
+sign-natAbs (pos (suc n)) = one-*ℤ (pos (suc n))
+sign-natAbs (negsuc n) = ap negℤ (one-*ℤ (pos (suc n)))
 
-pub sgn-nonneg : (a : ℤ) → pos zero ≤ℤ (sgn a *ℤ a)
-sgn-nonneg a = subst (λ z. pos zero ≤ℤ z) (sym (sgn-abs a)) (leZ-yes (le→leb zero (natAbs a) (omega arith)))
+pub sign-nonneg : (a : ℤ) → pos zero ≤ℤ (signOf a *ℤ a)
+sign-nonneg a = subst (λ z. pos zero ≤ℤ z) (sym (sign-abs a)) (leZ-yes (le→leb zero (natAbs a) (omega arith)))
 
-pub sgn-pos : (a : ℤ) → (sgn a ≡ pos 1) ↔ (pos zero <ℤ a)
-sgn-pos a = (λ e. to a e, λ h. from a (h .lt))
+pub sign-pos : (a : ℤ) → (signOf a ≡ pos 1) ↔ (pos zero <ℤ a)
+unfolding signOf
+sign-pos a = (λ e. to a e, λ h. from a (h .lt))
   where
-    to : (a : ℤ) → sgn a ≡ pos 1 → pos zero <ℤ a
+    to : (a : ℤ) → signOf a ≡ pos 1 → pos zero <ℤ a
     to (pos zero) e = absurd (omega (arith, ap natAbs e))
     to (pos (suc n)) e = ltZ-yes (lt→ltb zero (suc n) (zero-lt-suc n))
     to (negsuc n) e = absurd (pos-ne-negsuc 1 0 (sym e))
 
-    from : (a : ℤ) → T (ltZ (pos zero) a) → sgn a ≡ pos 1
-    from (pos n) t = sgn-of-ℕ n (ltb→lt zero n t)
+    from : (a : ℤ) → T (ltZ (pos zero) a) → signOf a ≡ pos 1
+    from (pos n) t = sign-of-ℕ n (ltb→lt zero n t)
     from (negsuc n) t = absurd t
 
-pub sgn-negative : (a : ℤ) → (sgn a ≡ negsuc 0) ↔ (a <ℤ pos zero)
-sgn-negative a = (λ e. to a e, λ h. from a (h .lt))
+pub sign-negative : (a : ℤ) → (signOf a ≡ negsuc 0) ↔ (a <ℤ pos zero)
+unfolding signOf
+sign-negative a = (λ e. to a e, λ h. from a (h .lt))
   where
-    to : (a : ℤ) → sgn a ≡ negsuc 0 → a <ℤ pos zero
+    to : (a : ℤ) → signOf a ≡ negsuc 0 → a <ℤ pos zero
     to (pos zero) e = absurd (pos-ne-negsuc 0 0 e)
     to (pos (suc n)) e = absurd (pos-ne-negsuc 1 0 e)
     to (negsuc n) e = ltZ-yes tt
 
-    from : (a : ℤ) → T (ltZ a (pos zero)) → sgn a ≡ negsuc 0
+    from : (a : ℤ) → T (ltZ a (pos zero)) → signOf a ≡ negsuc 0
     from (pos n) t = absurd (omega (arith, ltb→lt n zero t))
     from (negsuc n) t = refl
 
-pub sgn-zero : (a : ℤ) → (sgn a ≡ pos 0) ↔ (a ≡ pos 0)
-sgn-zero a = (λ e. to a e, λ e. ap sgn e)
+pub sign-zero : (a : ℤ) → (signOf a ≡ pos 0) ↔ (a ≡ pos 0)
+unfolding signOf
+sign-zero a = (λ e. to a e, λ e. ap signOf e)
   where
-    to : (a : ℤ) → sgn a ≡ pos 0 → a ≡ pos 0
+    to : (a : ℤ) → signOf a ≡ pos 0 → a ≡ pos 0
     to (pos zero) e = refl
     to (pos (suc n)) e = absurd (omega (arith, ap natAbs e))
     to (negsuc n) e = absurd (omega (arith, ap natAbs e))
@@ -114,10 +118,11 @@ pub same-pos : {s a : ℤ} → pos zero <ℤ s → SameSign s a → pos zero <�
 same-pos p h = *-pos-cancel p (h .agree)
 
 -- by the sign
-pub same-sgn : {a b : ℤ} → SameSign a b → sgn a ≡ sgn b
-same-sgn {a} {b} h = go a b (sym (sgn-* a b) ∙ sgn-pos (a *ℤ b) .1 (h .agree))
+pub same-sign : {a b : ℤ} → SameSign a b → signOf a ≡ signOf b
+unfolding signOf
+same-sign {a} {b} h = go a b (sym (sign-* a b) ∙ sign-pos (a *ℤ b) .1 (h .agree))
   where
-    go : (a b : ℤ) → sgn a *ℤ sgn b ≡ pos 1 → sgn a ≡ sgn b
+    go : (a b : ℤ) → signOf a *ℤ signOf b ≡ pos 1 → signOf a ≡ signOf b
     go (pos zero) (pos zero) e = refl
     go (pos zero) (pos (suc n)) e = absurd (omega (arith, ap natAbs e))
     go (pos zero) (negsuc n) e = absurd (omega (arith, ap natAbs e))
@@ -128,12 +133,12 @@ same-sgn {a} {b} h = go a b (sym (sgn-* a b) ∙ sgn-pos (a *ℤ b) .1 (h .agree
     go (negsuc m) (pos (suc n)) e = absurd (pos-ne-negsuc 1 0 (sym e))
     go (negsuc m) (negsuc n) e = refl
 
-pub sgn-same : {a b : ℤ} → sgn a ≡ sgn b → a ≢ pos zero → SameSign a b
-sgn-same {a} {b} e f =
-    record { agree = sgn-pos (a *ℤ b) .0 (sgn-* a b ∙ ap (λ z. sgn a *ℤ z) (sym e) ∙ sym (sgn-* a a) ∙ sgn-pos (a *ℤ a) .1 (sq-pos f)) }
+pub sign-same : {a b : ℤ} → signOf a ≡ signOf b → a ≢ pos zero → SameSign a b
+sign-same {a} {b} e f =
+    record { agree = sign-pos (a *ℤ b) .0 (sign-* a b ∙ ap (λ z. signOf a *ℤ z) (sym e) ∙ sym (sign-* a a) ∙ sign-pos (a *ℤ a) .1 (sq-pos f)) }
 
 pub same-trans : {a b c : ℤ} → SameSign a b → SameSign b c → SameSign a c
-same-trans h k = sgn-same (same-sgn h ∙ same-sgn k) (same-≢ h)
+same-trans h k = sign-same (same-sign h ∙ same-sign k) (same-≢ h)
 
 -- ---- not of opposite signs
 pub record WeakSign (s a : ℤ) : Type 0 where

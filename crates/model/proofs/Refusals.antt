@@ -66,9 +66,13 @@ midway =
     ∷ vec (negℤ (pos 50)) (pos 100) (pos 50)
     ∷ []
 
--- a corner that stands twice: the other corner goes by its place, so it is not strictly convex
+-- a corner that stands twice
 abbrev twice : List Vec
 twice = vec (negℤ (pos 50)) (pos 100) (negℤ (pos 50)) ∷ cornersS
+
+-- a triangle that is gone round twice: each other corner goes by its place, so it is not strictly convex, though by their values the corners are
+abbrev doubled : List Vec
+doubled = take 3 cornersS ++ take 3 cornersS
 
 -- S's square the other way round: as good
 abbrev otherWay : List Vec
@@ -197,6 +201,7 @@ cases =
     ∷ case (likeS planeS none 1 5 4 otherWay) []
     ∷ case (likeS planeS none 1 5 5 midway) (8 ∷ [])
     ∷ case (likeS planeS none 1 5 5 twice) (8 ∷ [])
+    ∷ case (likeS planeS none 1 5 6 doubled) (8 ∷ [])
     ∷ case (likeS level none 1 5 5 midway) (8 ∷ 9 ∷ [])
     -- the planes; 9 before 10
     ∷ case (likeS planeS none 1 5 4 offPlane) (9 ∷ [])

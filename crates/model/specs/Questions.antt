@@ -120,7 +120,8 @@ cornerRunsFollow s =
     runsFollow 0 (length (s .corners)) (map (λ (p : PatchRecord). p .cornerRun) (s .patches))
     && every cornersCounted (patchTable s)
 
--- 6. both
+-- 6. "Do the nodes' patch runs follow each other from 0 and use every patch, do the patches' corner runs do so with the corners, and has each patch 3 to 8
+-- corners?"
 unfoldable pub runsProper : Scene → Bool
 runsProper s = patchRunsFollow s && cornerRunsFollow s
 

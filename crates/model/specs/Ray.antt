@@ -1,4 +1,4 @@
--- Sight lines (rays from the eye): which patches they meet, how far away, and the closest panel. Tree and walk have no part in it.
+-- Sight lines (rays from the eye): which patches they meet, how far away, and the closest panel. Tree and walk have no part in the closest panel.
 use mathlib.Core.Path.{_≡_}
 use mathlib.Core.Bool.{Bool, true, false, not, cond, _&&_, _||_}
 use mathlib.Core.List.{List, [], _∷_, _++_, List·Memᴰ}
@@ -28,7 +28,7 @@ abbrev pub sameSign : ℤ → ℤ → Bool
 sameSign m n = ltZ (pos 0) (m *ℤ n)
 
 -- "It meets a patch when, for every edge from v to w, direction · ((v − eye) × (w − eye)) is not zero and has the sign of the eye-to-corner product
--- (first corner − eye) · n, also not zero."
+-- (first corner − eye) · n, also not zero. A patch behind the eye or with the eye in its plane is not met. Both faces show."
 unfoldable pub met : Vec → Vec → Patch → Bool
 met eye d p =
     not (isZero (eyeProduct eye p))
@@ -43,7 +43,8 @@ pub record Fraction : Type 0 where
 abbrev pub distance : Vec → Vec → Patch → Fraction
 distance eye d p = record { numerator = eyeProduct eye p; denominator = dot d (normal p) }
 
--- f is below g. Both numbers of a fraction have one sign where the patch is met ("above 0 where the patch is met"), so their magnitudes are cross-multiplied.
+-- f is below g. "The definition compares it exactly": both numbers of a fraction have one sign where a flat, convex patch is met ("above 0 where the patch is met"),
+-- so their magnitudes are cross-multiplied.
 abbrev pub below : Fraction → Fraction → Bool
 below f g = ltb (natAbs (f .numerator) * natAbs (g .denominator)) (natAbs (g .numerator) * natAbs (f .denominator))
 

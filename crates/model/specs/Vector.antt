@@ -46,6 +46,7 @@ pub record Plane : Type 0 where
 abbrev pub planeNormal : Plane → Vec
 planeNormal s = cross (minus (s .b) (s .a)) (minus (s .c) (s .a))
 
+-- "The sign is exact at and around zero and at the ends of the range."
 -- "For points a, b, c the side number of p is (p − a) · ((b − a) × (c − a)). Above 0 is the positive side, below 0 the negative, 0 is on the plane."
 abbrev pub side : Plane → Vec → ℤ
 side s p = dot (minus p (s .a)) (planeNormal s)

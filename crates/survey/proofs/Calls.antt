@@ -26,16 +26,13 @@ use Rattle.painting.specs.Framing.{Framed}
 use Rattle.painting.specs.Counting.{Countable}
 use Rattle.survey.specs.Contract.{Lent, lentOf, callOn, results, leftBy, Surveyed}
 use Rattle.survey.specs.Painted.{Painted}
+use Rattle.survey.proofs.Refusal.{left-old}
 use Rattle.survey.proofs.PanelNumbers.{panel-bounded}
 
 -- painted from the same eye
 pub painted-from :
     {bytes : List ℕ} {u v : Vec} {w : Window} {cells unlit : List ℕ} → u ≡ v → Painted bytes u w cells unlit → Painted bytes v w cells unlit
 painted-from {bytes} {w = w} {cells = cells} {unlit = unlit} e p = subst (λ (x : Vec). Painted bytes x w cells unlit) e p
-
-left-old : (n : ℕ) (new old : Lent) → (n ≡ 0 → ⊥) → old ≡ leftBy n new old
-left-old zero new old f = absurd (f refl)
-left-old (suc n) new old f = refl
 
 module _ (bytes : List ℕ) (eye : Vec) (w : Window) (before : Lent) {n : ℕ}
     (answer : n ≡ surveyAnswer (callOn bytes eye w before))

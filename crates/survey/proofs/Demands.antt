@@ -1,34 +1,35 @@
--- Demands 2 and 3, from the survey's contract alone.
-use mathlib.Core.Path.{_≡_, refl, sym, _∙_, ap, subst}
-use mathlib.Core.Bool.{Bool, _&&_}
+-- Demands 1, 2 and 3, from the survey's contract alone.
+use mathlib.Core.Path.{_≡_, sym, _∙_, ap, subst}
+use mathlib.Core.Bool.{Bool, not}
 use mathlib.Core.Logic.{_↔_}
-use mathlib.Core.List.{List, sum, List·Memᴰ, map, flatten}
-use Prim.Native.Nat.{ℕ, _+_, _*_, _≤_, _<_}
+use mathlib.Core.List.{List, [], _∷_}
+use Prim.Native.Nat.{ℕ, _*_, _<_}
 use native.Mathlib.Nat.{zero-add, mul-comm}
-use lib.Dec.{T, eqb, leb, leb→le}
+use lib.Dec.{T, T-not, eqb}
 use lib.ListN.{length, getD, take, drop, length-map}
 use Rattle.model.specs.Lists.{every, range, occurrences}
 use Rattle.model.specs.Vector.{Vec}
 use Rattle.model.specs.Patch.{Patch}
 use Rattle.model.specs.Ray.{IsClosest, closest}
 use Rattle.model.specs.Window.{Window, direction}
-use Rattle.model.specs.Format.{Scene, PatchRecord, decode, patchTable, patchOf, highestPanel}
+use Rattle.model.specs.Format.{decode}
 use Rattle.model.specs.Row.{rowOf, rowLength}
 use Rattle.model.specs.Picture.{picture, counts, countEntries, unlitLists, cellPanel}
-use Rattle.model.specs.Questions.{surveyAnswer, within, panelsInRange, panelsNeverFall, panelsProper}
+use Rattle.model.specs.Questions.{Question, answer, sceneQuestions, callQuestions, questions, surveyAnswer}
 use Rattle.model.specs.Survey.{callPicture, callCounts, callUnlit, callCounter}
 use Rattle.model.specs.Removal.{isChosen, kept, TakenAway}
-use Rattle.model.proofs.Tests.{both, every-true}
-use Rattle.model.proofs.Ranges.{of-map, range-length, rows-part, rows-length}
-use Rattle.model.proofs.Answers.{AcceptedCall, accepted-call}
+use Rattle.model.proofs.Tests.{both}
+use Rattle.model.proofs.Ranges.{range-length, rows-part, rows-length}
+use Rattle.model.proofs.Answers.{AcceptedCall, accepted-call, all-yes, answer-yes, answer-done}
 use Rattle.model.proofs.Closest.{closest-right}
 use Rattle.model.proofs.Counts.{counts-at}
 use Rattle.model.proofs.Pictures.{picture-length, picture-at, picture-total}
 use Rattle.model.proofs.Removal.{pictures-counts, cell-differs, cell-shows}
 use Rattle.rows.proofs.Rows.{row-length, row-congr}
+use Rattle.survey.proofs.Refusal.{left-old}
 use Rattle.survey.proofs.PanelNumbers.{panel-bounded}
 use Rattle.survey.specs.Contract.{Lent, callOn, results, leftBy, Surveyed}
-use Rattle.survey.specs.Demands.{patchesIn, cell, ClosestPanels, ChosenTakenAway, DemandThree, PairSurveyed}
+use Rattle.survey.specs.Demands.{patchesIn, cell, RefusesRightly, ClosestPanels, ChosenTakenAway, DemandThree, PairSurveyed}
 
 -- an accepted call leaves the results
 pub accepted-leaves :
@@ -39,6 +40,35 @@ pub accepted-leaves :
 accepted-leaves {bytes} {eye} {w} {before} h e =
     h .left
     ∙ ap (λ (n : ℕ). leftBy n (results (callOn bytes eye w before)) before) (sym (h .answered) ∙ e)
+
+-- the answer is 0 exactly if every question says yes, where no question has the number 0
+all-yes-says : {A : Type 0} (qs : List (Question A)) (a : A) → T (every (λ (q : Question A). not (eqb (q .number) 0)) qs)
+    → (answer qs a ≡ 0) ↔ T (every (λ (q : Question A). q .test a) qs)
+all-yes-says [] a h = (λ e. tt, λ t. answer-done a)
+all-yes-says {A} (q ∷ qs) a h =
+    let p = both (not (eqb (q .number) 0)) (every (λ (q : Question A). not (eqb (q .number) 0)) qs) .0 h in
+    let rest = all-yes-says qs a (p .1) in
+    let pair = both (q .test a) (every (λ (q : Question A). q .test a) qs) in (
+      λ e. let y = all-yes q qs a (λ z. T-not (eqb (q .number) 0) (p .0) (subst (λ (n : ℕ). T (eqb n 0)) (sym z) tt)) e in
+          pair .1 (y .0, rest .0 (y .1)),
+      λ t. answer-yes q qs a (pair .0 t .0) ∙ rest .1 (pair .0 t .1),
+    )
+
+-- Demand 1.
+pub refuses-rightly :
+    {bytes : List ℕ} {eye : Vec} {w : Window} {before after : Lent} {result : ℕ} →
+    Surveyed bytes eye w before after result →
+    RefusesRightly (callOn bytes eye w before) before after result
+unfolding surveyAnswer questions sceneQuestions callQuestions
+refuses-rightly {bytes} {eye} {w} {before} {after} {result} h =
+    let c = callOn bytes eye w before in
+    let says = all-yes-says questions c tt in
+    record {
+      exactly = (λ e. says .0 (sym (h .answered) ∙ e), λ t. h .answered ∙ says .1 t);
+      numbered = h .answered;
+      painted = accepted-leaves h;
+      untouched = λ f. h .left ∙ sym (left-old (surveyAnswer c) (results c) before (λ z. f (h .answered ∙ z)));
+    }
 
 module _ (bytes : List ℕ) (eye : Vec) (w : Window) (before : Lent) (accepted : AcceptedCall (callOn bytes eye w before)) where
   abbrev cellRow : ℕ → List ℕ

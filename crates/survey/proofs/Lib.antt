@@ -1,4 +1,5 @@
 -- The results of a painted walk, the questions on the call, and demands 2 and 3 from the contract.
+pub mod Refusal
 pub mod PanelNumbers
 pub mod Results
 pub mod Walks

@@ -6,7 +6,7 @@ use mathlib.Core.List.{List, sum}
 use Prim.Native.Nat.{ℕ, _+_, _*_, _<_}
 use lib.Dec.{T, eqb}
 use lib.ListN.{length, getD, take, drop}
-use Rattle.model.specs.Lists.{occurrences}
+use Rattle.model.specs.Lists.{every, occurrences}
 use Rattle.model.specs.Vector.{Vec}
 use Rattle.model.specs.Patch.{Patch}
 use Rattle.model.specs.Ray.{IsClosest}
@@ -14,8 +14,10 @@ use Rattle.model.specs.Window.{Window, direction}
 use Rattle.model.specs.Format.{decode, patchTable}
 use Rattle.model.specs.Row.{rowOf, rowLength}
 use Rattle.model.specs.Picture.{countEntries}
+use Rattle.model.specs.Call.{Call}
+use Rattle.model.specs.Questions.{Question, questions, surveyAnswer}
 use Rattle.model.specs.Removal.{isChosen, kept, TakenAway}
-use Rattle.survey.specs.Contract.{Lent, Surveyed}
+use Rattle.survey.specs.Contract.{Lent, results, Surveyed}
 
 -- the patches of a scene
 abbrev pub patchesIn : List ℕ → List Patch
@@ -25,8 +27,18 @@ patchesIn bytes = patchTable (decode bytes)
 abbrev pub cell : Window → List ℕ → ℕ → ℕ → ℕ
 cell w picture i j = getD picture (j * w .width + i) 0
 
--- Demand 2, of an accepted call: "Each cell of an accepted scene's picture holds .. the polygon closest to the eye along that cell's sight line"; "each count is
--- the number of such cells"; the counts "add up to width × height"; the unlit lists are the rows of the cells that hold 0.
+-- Demand 1: "every call ends with a full picture or with the one numbered refusal that document 01 gives, a scene is accepted exactly if it keeps the rules there,
+-- and a refusal leaves picture, counts, unlit lists and station counter untouched."
+pub record RefusesRightly (c : Call) (before after : Lent) (result : ℕ) : Type 0 where
+  pub exactly : (result ≡ 0) ↔ T (every (λ (q : Question Call). q .test c) questions)
+  pub numbered : result ≡ surveyAnswer c
+  pub painted : result ≡ 0 → after ≡ results c
+  pub untouched : (result ≡ 0 → ⊥) → after ≡ before
+
+-- Demand 2, of an accepted call: "Each cell of an accepted scene's picture holds the panel that Fuchs, Kedem and Naylor define: the polygon closest to the eye along
+-- that cell's sight line. A polygon is met only strictly inside its edges; at one and the same nearest point the lowest panel number shows; where none is met the
+-- cell holds 0. All of it is exact in whole numbers, and each count is the number of such cells." The counts "add up to width × height"; the unlit lists are the
+-- rows of the cells that hold 0.
 pub record ClosestPanels (bytes : List ℕ) (eye : Vec) (w : Window) (after : Lent) : Type 0 where
   pub cells :
       (i j : ℕ) → i < w .width → j < w .height →
@@ -44,7 +56,7 @@ pub record ClosestPanels (bytes : List ℕ) (eye : Vec) (w : Window) (after : Le
 -- Demand 3, of two accepted calls from one station and window, on a scene and on one that "has just the first's patches less all those of the chosen panels":
 -- "The two pictures are equal, cell by cell, exactly when every chosen panel's count, from the call on the first scene, is zero. Equal or not, each cell of the
 -- first holds its closest panel .., or 0; the pictures differ in exactly the cells where the first shows a chosen panel, and in each of these the second shows
--- the closest of the panels kept, or 0."
+-- the closest of the panels kept, or 0." Of the cell's closest among the panels kept: "among the first scene's patches with those of chosen panels left out".
 pub record ChosenTakenAway (bytes : List ℕ) (chosen : ℕ → Bool) (eye : Vec) (w : Window) (first second : Lent) : Type 0 where
   pub equal :
       (first .picture ≡ second .picture) ↔ ((n : ℕ) → T (isChosen chosen n) → getD (first .counts) n 0 ≡ 0)
@@ -58,7 +70,7 @@ pub record ChosenTakenAway (bytes : List ℕ) (chosen : ℕ → Bool) (eye : Vec
       (i j : ℕ) → i < w .width → j < w .height → T (isChosen chosen (cell w (first .picture) i j)) →
       IsClosest eye (direction w i j) (kept chosen (patchesIn bytes)) (cell w (second .picture) i j)
 
--- The whole of demand 3: whatever the two calls were lent, and whatever their trees.
+-- Demand 3, for any chosen panels: "All this holds whatever the two trees are and whatever the lent buffers held before." The calls' contracts stand beside it below.
 abbrev pub DemandThree :
     (firstBytes secondBytes : List ℕ) (eye : Vec) (w : Window) (first second : Lent) (firstResult secondResult : ℕ) → Type 0
 DemandThree firstBytes secondBytes eye w first second firstResult secondResult =

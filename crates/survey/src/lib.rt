@@ -72,7 +72,7 @@ pub extern "C" fn ring_survey(
         (lentOf (now (picture .exit)) (now (counts .exit)) (now (unlit .exit)) (now (counter .exit))) r ⌝ }
 {
     let before = *counter;
-    let refusal = ring_gate(
+    let verdict = ring_gate(
         scene,
         eye_x,
         eye_y,
@@ -85,8 +85,8 @@ pub extern "C" fn ring_survey(
         unlit.len(),
         before,
     );
-    if refusal != 0 {
-        return refusal;
+    if verdict != 0 {
+        return verdict;
     }
     paint(
         scene,

@@ -1,8 +1,8 @@
-// Questions 10 to 12, on the call's own numbers.
+// Question 10 without the eye, and question 11.
 ghost use mathlib.Core.Path.{_≡_};
 ghost use mathlib.Core.Bool.{_&&_};
 ghost use Prim.Native.Nat.{_*_};
-ghost use lib.Dec.{eqb, ltb};
+ghost use lib.Dec.{eqb};
 ghost use Rattle.model.specs.Row.{rowLength};
 ghost use Rattle.model.specs.Picture.{countEntries};
 ghost use Rattle.model.specs.Questions.{within};
