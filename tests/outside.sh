@@ -9,6 +9,9 @@ seed=${2:-1}
 rt staticlib survey | tail -n 1
 export SURVEY_LIB_DIR=$PWD/target/staticlib
 tests/tools.sh
+for text in samples/stations/*.txt; do
+    python3 tools/scene.py build "$text" - | cmp - "crates/stations/data/$(basename "$text" .txt)"
+done
 tests/console.sh "$SURVEY_LIB_DIR"
 (cd tests/outside && cargo run --quiet --release --offline --features library --bin differential -- \
     --cases "$cases" --seed "$seed" --ringbill "$PWD/../../target/bin/ringbill")

@@ -1,0 +1,29 @@
+-- The survey call that an input of a view (an eye and a window, 12 bytes) and a scene asks for.
+use mathlib.Core.List.{List}
+use Prim.Native.Nat.{ℕ, zero, suc, _*_, min}
+use lib.ListN.{length, drop}
+use Rattle.model.specs.Vector.{vec}
+use Rattle.model.specs.Format.{u16At, i16At}
+use Rattle.model.specs.Call.{Call}
+use Rattle.model.specs.Questions.{surveyAnswer}
+use Rattle.model.specs.Survey.{callCounts}
+use Rattle.survey.specs.Contract.{windowOf, gateCall}
+
+-- The picture and the unlit lists are as long as question 11 asks, up to the 32,768 numbers that a legal window needs. The station counter is 0.
+unfoldable pub inputCall : List ℕ → ℕ → Call
+inputCall input entries =
+    gateCall (drop 12 input) (vec (i16At input 0) (i16At input 2) (i16At input 4))
+    (windowOf (u16At input 6) (u16At input 8) (u16At input 10))
+    (min (u16At input 6 * u16At input 8) 32768)
+    entries
+    (min (u16At input 8 * 256) 32768)
+    0
+
+-- the new counts where the answer is 0, and the old ones where it is a refusal
+abbrev pub countsBy : ℕ → List ℕ → List ℕ → List ℕ
+countsBy zero new old = new
+countsBy (suc n) new old = old
+
+unfoldable pub inputCounts : List ℕ → List ℕ → List ℕ
+inputCounts input before =
+    countsBy (surveyAnswer (inputCall input (length before))) (callCounts (inputCall input (length before))) before

@@ -1,0 +1,82 @@
+// What the programs share: the lines that they print, and the survey of a view (an eye and a window, 12 bytes) and a scene.
+use format::bytes::i16_at;
+use format::bytes::u16_at;
+use libc::STDOUT_FILENO;
+use survey::view::area;
+ghost use mathlib.Core.Path.{_≡_};
+ghost use Prim.Native.Nat.{_+_, _≤_, min};
+ghost use lib.ListN.{length};
+ghost use Rattle.model.specs.Format.{u16At};
+ghost use Rattle.model.specs.Questions.{surveyAnswer};
+ghost use Rattle.console.specs.Input.{inputCall, inputCounts};
+
+pub fn print(text: &[u8]) {
+    io::write_all(STDOUT_FILENO, text);
+}
+
+pub fn print_number(n: usize) {
+    io::print_decimal(STDOUT_FILENO, n as u64);
+}
+
+// "name n", as a line
+pub fn print_line(name: &[u8], n: usize) {
+    print(name);
+    print(b" ");
+    print_number(n);
+    print(b"\n");
+}
+
+pub fn print_total(name: &[u8], n: u32) {
+    print_line(name, n as usize);
+}
+
+pub fn word(bytes: &[u8], at: usize) -> u16
+    requires { ⌜ at + 2 ≤ length (now bytes) ⌝ }
+    ensures { λ r. ⌜ r ≡ u16At (now (bytes .entry)) at ⌝ }
+{
+    u16_at(bytes, at) as u16
+}
+
+// as much of a buffer as is wanted and there
+fn part(wanted: usize) -> usize
+    ensures { λ r. ⌜ r ≡ min wanted 32768 ⌝ }
+    ensures { λ r. ⌜ r ≤ 32768 ⌝ }
+{
+    if wanted < 32768 { wanted } else { 32768 }
+}
+
+// Room for the largest picture, and for the unlit lists of its rows. The contract gives the length, which lending a part needs.
+fn buffer() -> [u16; 32768]
+    ensures { λ r. ⌜ 32768 ≡ length r ⌝ }
+{
+    [0; 32768]
+}
+
+// The survey of an input of a view and a scene, with the station counter at 0: the answer, and the counts.
+pub fn survey_input(input: &[u8], counts: &mut [u32]) -> u32
+    requires { ⌜ 12 ≤ length (now input) ⌝ }
+    ensures { λ r. ⌜ r ≡ surveyAnswer (inputCall (now (input .entry)) (length (now (counts .entry)))) ⌝ }
+    ensures { λ _. ⌜ now (counts .exit) ≡ inputCounts (now (input .entry)) (now (counts .entry)) ⌝ }
+{
+    let width = word(input, 6);
+    let height = word(input, 8);
+    let lens = word(input, 10);
+    let mut picture = buffer();
+    let mut unlit = buffer();
+    let mut counter = 0u32;
+    let cells = part(area(width, height));
+    let rows = part(area(height, 256));
+    survey::ring_survey(
+        &input[12..],
+        i16_at(input, 0),
+        i16_at(input, 2),
+        i16_at(input, 4),
+        width,
+        height,
+        lens,
+        &mut picture[..cells],
+        counts,
+        &mut unlit[..rows],
+        &mut counter,
+    )
+}
