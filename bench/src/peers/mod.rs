@@ -1,0 +1,60 @@
+//! The peers: the whole call four times over, with one gate.
+
+mod boxes;
+mod finish;
+mod gate;
+mod order;
+mod painter;
+mod plane;
+mod rays;
+mod reach;
+mod segments;
+mod shapes;
+mod tables;
+mod zbuffer;
+
+use outside::call::{Call, Lent, Library};
+use tables::Tables;
+
+type Paint = fn(&Tables, &Call, &mut Lent);
+
+pub struct Peer {
+    pub name: &'static str,
+    paint: Paint,
+}
+
+pub const PEERS: [Peer; 4] = [
+    Peer {
+        name: "rays",
+        paint: rays::paint,
+    },
+    Peer {
+        name: "z-buffer",
+        paint: zbuffer::paint,
+    },
+    Peer {
+        name: "painter",
+        paint: painter::paint,
+    },
+    Peer {
+        name: "segments",
+        paint: segments::paint,
+    },
+];
+
+impl Library for Peer {
+    fn survey(&self, call: &Call, lent: &mut Lent) -> u32 {
+        match gate::judge(call) {
+            Err(number) => number,
+            Ok(tables) => {
+                (self.paint)(&tables, call, lent);
+                lent.counter += 1;
+                0
+            }
+        }
+    }
+
+    fn gate(&self, call: &Call) -> u32 {
+        gate::judge(call).err().unwrap_or(0)
+    }
+}

@@ -1,0 +1,67 @@
+//! Ray by ray: each cell asks the patches of its row, front to back, and takes
+//! the first that it meets. What a row's cells share is worked out once a row.
+
+use super::finish::count_and_list;
+use super::order::front_to_back;
+use super::shapes::Shapes;
+use super::tables::{wide, Tables};
+use outside::call::{Call, Lent};
+
+/// An edge in one row: inside where slope × column + start is above 0.
+#[derive(Clone, Copy)]
+struct RowEdge {
+    slope: f64,
+    start: f64,
+}
+
+/// The patches that reach a row, with the ends of their edges.
+#[derive(Default)]
+struct Row {
+    edges: Vec<RowEdge>,
+    patches: Vec<(u16, u32)>,
+}
+
+pub fn paint(tables: &Tables, call: &Call, lent: &mut Lent) {
+    let order = front_to_back(tables, wide(call.view.eye));
+    let shapes = Shapes::of(tables, &call.view, order.into_iter());
+    let mut row = Row::default();
+    let rows = lent.picture.chunks_exact_mut(usize::from(call.view.width));
+    for (j, cells) in rows.enumerate() {
+        row.gather(&shapes, j);
+        for (i, cell) in cells.iter_mut().enumerate() {
+            *cell = row.first_met(i as f64);
+        }
+    }
+    count_and_list(&call.view, lent);
+}
+
+impl Row {
+    fn gather(&mut self, shapes: &Shapes, j: usize) {
+        self.edges.clear();
+        self.patches.clear();
+        for shape in &shapes.shapes {
+            if j < usize::from(shape.low) || j >= usize::from(shape.high) {
+                continue;
+            }
+            let edges = shapes.edges(shape).iter().map(|edge| RowEdge {
+                slope: edge.slope,
+                start: edge.start + j as f64 * edge.step,
+            });
+            self.edges.extend(edges);
+            self.patches.push((shape.panel, self.edges.len() as u32));
+        }
+    }
+
+    #[inline]
+    fn first_met(&self, column: f64) -> u16 {
+        let mut first = 0;
+        for &(panel, end) in &self.patches {
+            let edges = &self.edges[first..end as usize];
+            if edges.iter().all(|e| e.slope * column + e.start > 0.0) {
+                return panel;
+            }
+            first = end as usize;
+        }
+        0
+    }
+}

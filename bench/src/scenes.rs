@@ -1,0 +1,117 @@
+//! The scenes that are timed.
+
+use crate::plant::{Level, Maker};
+use outside::call::{Call, View};
+use outside::random::Random;
+use outside::scene::{Patch, Scene};
+use outside::vector::Point;
+
+pub const WIDE: View = View {
+    eye: [0, 0, 0],
+    width: 256,
+    height: 128,
+    lens: 256,
+};
+
+/// The same look through fewer cells.
+pub fn window(width: u16) -> View {
+    View {
+        width,
+        height: width / 2,
+        lens: width,
+        ..WIDE
+    }
+}
+
+pub fn call(scene: &Scene, view: View) -> Call {
+    Call::new(scene.write(), view)
+}
+
+/// A bent bore of 60 rings of 16 panels, seen from its mouth.
+pub fn tunnel() -> Scene {
+    let around = |side: usize| {
+        let angle = (side % 16) as f64 * std::f64::consts::TAU / 16.0 + 0.1;
+        (600.0 * angle.cos(), 600.0 * angle.sin())
+    };
+    let corner = |side: usize, ring: usize| -> Point {
+        let (x, z) = around(side);
+        let (far, bend) = (ring as f64, (ring * ring) as f64);
+        let shift = ((0.9 * bend).round(), (3.0 * far).round());
+        [
+            (x.round() + shift.0) as i16,
+            150 * ring as i16 - 100,
+            (z.round() + shift.1) as i16,
+        ]
+    };
+    let panel = |side: usize, ring: usize| Patch {
+        panel: (ring * 16 + side + 1) as u16,
+        corners: vec![
+            corner(side, ring),
+            corner(side + 1, ring),
+            corner(side + 1, ring + 1),
+            corner(side, ring + 1),
+        ],
+    };
+    let rings: Vec<Vec<Patch>> = (0..60)
+        .map(|ring| (0..16).map(|side| panel(side, ring)).collect())
+        .collect();
+    Maker::rings(&rings)
+}
+
+/// Large quads across the view, each behind the last and a little wider in it.
+pub fn quads(count: usize) -> Vec<Level> {
+    let quad = |k: usize| {
+        let y = 700.0 + (9 * k) as f64;
+        let part = 0.3 + 0.65 * k as f64 / 1_023.0;
+        let (x, z) = (part * y, part * y / 2.0);
+        square(k, [0.0, y, 0.0], x, z)
+    };
+    (0..count).map(quad).collect()
+}
+
+/// Patches of three to five corners over the whole view, about 4 cells wide.
+pub fn small(count: usize) -> Vec<Level> {
+    let mut rng = Random::new(7, count as u64);
+    let patch = |k: usize| {
+        let y = 300.0 + (9 * k) as f64;
+        let x = y * rng.between(-250, 250) as f64 / 256.0;
+        let z = y * rng.between(-122, 122) as f64 / 256.0;
+        let size = (y / 64.0).max(4.0);
+        let shape: &[(f64, f64)] = match k % 4 {
+            0 => &[(-1.0, -1.0), (1.0, -0.5), (0.0, 1.0)],
+            1 => &[
+                (-1.0, 0.0),
+                (-0.5, -1.0),
+                (0.5, -1.0),
+                (1.0, 0.0),
+                (0.0, 1.0),
+            ],
+            _ => &[(-1.0, -1.0), (1.0, -1.0), (1.0, 1.0), (-1.0, 1.0)],
+        };
+        let corner = |p: &(f64, f64)| point([x + size * p.0, y, z + size * p.1]);
+        Level {
+            y: y as i16,
+            patches: vec![Patch {
+                panel: k as u16 + 1,
+                corners: shape.iter().map(corner).collect(),
+            }],
+        }
+    };
+    (0..count).map(patch).collect()
+}
+
+fn square(k: usize, [x, y, z]: [f64; 3], wide: f64, high: f64) -> Level {
+    let corners = [(-1.0, -1.0), (1.0, -1.0), (1.0, 1.0), (-1.0, 1.0)];
+    let corner = |p: &(f64, f64)| point([x + wide * p.0, y, z + high * p.1]);
+    Level {
+        y: y as i16,
+        patches: vec![Patch {
+            panel: k as u16 + 1,
+            corners: corners.iter().map(corner).collect(),
+        }],
+    }
+}
+
+fn point(p: [f64; 3]) -> Point {
+    p.map(|n| n.round() as i16)
+}
