@@ -14,4 +14,3 @@ pub mod RowsPlaced
 pub mod Clearing
 pub mod Copying
 pub mod Counted
-pub mod Numbered
