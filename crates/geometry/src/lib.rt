@@ -10,7 +10,7 @@ pub struct Vector {
 }
 
 // b − a
-fn from_to(a: Vector, b: Vector) -> Vector
+pub fn from_to(a: Vector, b: Vector) -> Vector
     requires { ⌜ Bounded 10000 a × Bounded 10000 b ⌝ }
     ensures { λ r. ⌜ VectorIs 20000 (minus (vecOf b) (vecOf a)) r ⌝ }
 {

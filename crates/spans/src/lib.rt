@@ -60,7 +60,7 @@ pub fn clip(span: Span, slope: i64, start: i64) -> Span
 }
 
 // The span's columns i where (base + i · step) · edge is above 0.
-fn clip_edge(span: Span, base: Vector, step: Vector, edge: Vector) -> Span
+pub fn clip_edge(span: Span, base: Vector, step: Vector, edge: Vector) -> Span
     requires { ⌜ Occupied 1024 span × Bounded 563000 base × Bounded 563000 step × Bounded 800000000 edge ⌝ }
     ensures { λ r. ⌜ EdgeClipped (vecOf base) (vecOf step) (vecOf edge) span r ⌝ }
 {

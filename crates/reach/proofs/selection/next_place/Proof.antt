@@ -1,0 +1,19 @@
+-- `reach::selection::next_place` meets its contract.
+use borrow.Author.Tests.{le-ltb, lt-ltb}
+use borrow.Author.Needs.{needs}
+use mathlib.Core.Bool.{and-false}
+use native.Mathlib.Omega.{arith}
+use Rattle.reach.proofs.selection.next_place.Statement.{statement}
+use Rattle.reach.proofs.selection.next_place.Tie as tie
+
+returns : tie.Need-returns
+returns c = rw (le-ltb _ _ (c .if1 .taken))
+
+returns-2 : tie.Need-returns-2
+returns-2 c = rw (le-ltb _ _ (c .if2 .taken), and-false)
+
+returns-3 : tie.Need-returns-3
+returns-3 c = rw (lt-ltb _ _ (c .before .if1 .left), lt-ltb _ _ (c .if2 .left))
+
+pub next-place-spec : {M : Type 1} → statement M
+next-place-spec = tie.close (tie.spec returns returns-2 (λ c. search needs) returns-3)

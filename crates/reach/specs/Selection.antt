@@ -1,0 +1,30 @@
+-- The patches of a walk that can be met in some rows.
+use mathlib.Core.Path.{_≡_}
+use mathlib.Core.Bool.{Bool, cond, _&&_}
+use mathlib.Core.List.{List, [], _∷_}
+use Prim.Native.Nat.{ℕ, _≤_, _<_}
+use lib.Dec.{ltb}
+use lib.ListN.{length, getD, take}
+
+-- the rows from `low` up to below `high` have one from `from` up to below `to`
+abbrev pub reached : ℕ → ℕ → ℕ → ℕ → Bool
+reached low high from to = ltb low to && ltb from high
+
+-- the numbers that pass a test
+unfoldable pub chosen : (ℕ → Bool) → List ℕ → List ℕ
+chosen test [] = []
+chosen test (n ∷ ns) = cond (test n) (n ∷ chosen test ns) (chosen test ns)
+
+-- patch n can be met in some row from `from` up to below `to`
+abbrev pub reaching : List ℕ → List ℕ → ℕ → ℕ → ℕ → Bool
+reaching lows highs from to n = reached (getD lows n 0) (getD highs n 0) from to
+
+-- every number has a place in both lists
+pub record Listed (order lows highs : List ℕ) : Type 0 where
+  pub low : (k : ℕ) → k < length order → getD order k 0 < length lows
+  pub high : (k : ℕ) → k < length order → getD order k 0 < length highs
+
+-- the numbers of the walk whose patches reach the rows stand at the front, r of them
+pub record Selected (lows highs : List ℕ) (from to : ℕ) (order after : List ℕ) (r : ℕ) : Type 0 where
+  pub front : take r after ≡ chosen (reaching lows highs from to) order
+  pub few : r ≤ length order
