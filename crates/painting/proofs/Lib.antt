@@ -10,6 +10,7 @@ pub mod RunParts
 pub mod MetColumns
 pub mod WalkPainted
 pub mod RowsPlaced
+pub mod NearWalk
 -- cleared, copied and counted cells
 pub mod Clearing
 pub mod Copying

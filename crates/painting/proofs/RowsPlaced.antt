@@ -21,7 +21,7 @@ use Rattle.rows.proofs.Rows.{row-length}
 use Rattle.spans.specs.Row.{along}
 use Rattle.spans.proofs.Orientation.{direction-along}
 use Rattle.painting.specs.Painting.{shownAfter, RowPainted, RowsPainted}
-use Rattle.painting.specs.Framing.{Framed, withRow, RowPlaced}
+use Rattle.painting.specs.Framing.{Framed, withRow, RowPlaced, rowsThen, cellsOf, unlitOf, RowsUpTo}
 use Rattle.painting.proofs.WalkPainted.{as-long}
 
 -- ---- one row
@@ -67,9 +67,10 @@ module _ {w : Window} {j : ℕ} {eye : Vec} {walk : List Patch} {picture unlit :
 
 -- ---- all rows
 
--- the rows before row j, and then the rest of a list
-abbrev pub rowsThen : ℕ → (ℕ → List ℕ) → ℕ → List ℕ → List ℕ
-rowsThen width row j list = flatten (map row (range 0 j)) ++ drop (j * width) list
+pub still-framed :
+    {width height : ℕ} {picture unlit picture′ unlit′ : List ℕ} → length picture′ ≡ length picture → length unlit′ ≡ length unlit →
+    Framed width height picture unlit → Framed width height picture′ unlit′
+still-framed e f framed = record { narrow = framed .narrow; low = framed .low; cells = e ∙ framed .cells; rows = f ∙ framed .rows }
 
 last-row : (row : ℕ → List ℕ) (a n : ℕ) → flatten (map row (range a (suc n))) ≡ flatten (map row (range a n)) ++ row (a + n)
 unfolding flatten
@@ -97,22 +98,6 @@ module _ (width : ℕ) (row : ℕ → List ℕ) (long : (j : ℕ) → length (ro
   rows-all : (j : ℕ) (list : List ℕ) → length list ≡ j * width → rowsThen width row j list ≡ flatten (map row (range 0 j))
   rows-all j list e = rw (sym e, drop-length list) (append-nil (flatten (map row (range 0 j))))
 
--- what stands in row j
-abbrev pub cellsOf : Vec → (ℕ → ℕ → Vec) → List Patch → ℕ → ℕ → List ℕ
-cellsOf eye ray walk width j = map (shownAfter eye (λ (i : ℕ). ray i j) walk) (range 0 width)
-
-abbrev pub unlitOf : Vec → (ℕ → ℕ → Vec) → List Patch → ℕ → ℕ → List ℕ
-unlitOf eye ray walk width j = rowOf width (unlitAfter eye (λ (i : ℕ). ray i j) walk)
-
--- the rows before row j are in their places
-pub record RowsUpTo
-    (eye : Vec) (ray : ℕ → ℕ → Vec) (walk : List Patch) (width height : ℕ) (picture₀ unlit₀ picture unlit : List ℕ) (j : ℕ) : Type 0 where
-  pub bound : j ≤ height
-  pub same-cells : length picture ≡ length picture₀
-  pub same-unlit : length unlit ≡ length unlit₀
-  pub picture-is : picture ≡ rowsThen width (cellsOf eye ray walk width) j picture₀
-  pub unlit-is : unlit ≡ rowsThen rowLength (unlitOf eye ray walk width) j unlit₀
-
 module _ {eye : Vec} {ray : ℕ → ℕ → Vec} {walk : List Patch} {width height : ℕ} {picture₀ unlit₀ : List ℕ} where
   pub rows-start : RowsUpTo eye ray walk width height picture₀ unlit₀ picture₀ unlit₀ 0
   unfolding flatten
@@ -126,14 +111,6 @@ module _ {eye : Vec} {ray : ℕ → ℕ → Vec} {walk : List Patch} {width heig
       }
 
   module _ {picture unlit : List ℕ} {j : ℕ} (inv : RowsUpTo eye ray walk width height picture₀ unlit₀ picture unlit j) where
-    pub rows-framed : Framed width height picture₀ unlit₀ → Framed width height picture unlit
-    rows-framed framed =
-        record {
-          narrow = framed .narrow;
-          cells = inv .same-cells ∙ framed .cells;
-          rows = inv .same-unlit ∙ framed .rows;
-        }
-
     pub rows-go :
         {picture′ unlit′ : List ℕ} → j < height → RowPlaced eye (λ (i : ℕ). ray i j) walk width j picture unlit picture′ unlit′ →
         length picture′ ≡ length picture → length unlit′ ≡ length unlit →
@@ -165,3 +142,42 @@ module _ {eye : Vec} {ray : ℕ → ℕ → Vec} {walk : List Patch} {width heig
               inv .unlit-is
               ∙ rw e (rows-all rowLength (unlitOf eye ray walk width) (λ j. row-length width _) height unlit₀ (framed .rows));
         }
+
+-- ---- a band of rows
+
+-- of a band that begins with row `from`, the rows before row j are in their places
+pub record BandUpTo
+    (eye : Vec) (ray : ℕ → ℕ → Vec) (walk : List Patch) (width height from to : ℕ) (picture unlit picture′ unlit′ : List ℕ) (j : ℕ) : Type 0 where
+  pub above : from ≤ j
+  pub below : j ≤ to
+  pub same-cells : length picture′ ≡ length picture
+  pub same-unlit : length unlit′ ≡ length unlit
+  pub up-to :
+      (picture₀ unlit₀ : List ℕ) →
+      RowsUpTo eye ray walk width height picture₀ unlit₀ picture unlit from →
+      RowsUpTo eye ray walk width height picture₀ unlit₀ picture′ unlit′ j
+
+module _ {eye : Vec} {ray : ℕ → ℕ → Vec} {walk : List Patch} {width height from to : ℕ} {picture unlit : List ℕ} where
+  pub band-start : from ≤ to → BandUpTo eye ray walk width height from to picture unlit picture unlit from
+  band-start h = record { above = omega arith; below = h; same-cells = refl; same-unlit = refl; up-to = λ p u inv. inv }
+
+  module _ {picture′ unlit′ : List ℕ} {j : ℕ} (b : BandUpTo eye ray walk width height from to picture unlit picture′ unlit′ j) where
+    pub band-go :
+        {picture″ unlit″ : List ℕ} → j < to → to ≤ height → RowPlaced eye (λ (i : ℕ). ray i j) walk width j picture′ unlit′ picture″ unlit″ →
+        length picture″ ≡ length picture′ → length unlit″ ≡ length unlit′ →
+        BandUpTo eye ray walk width height from to picture unlit picture″ unlit″ (j + 1)
+    band-go h k placed e f =
+        record {
+          above = omega (arith, b .above);
+          below = omega arith;
+          same-cells = e ∙ b .same-cells;
+          same-unlit = f ∙ b .same-unlit;
+          up-to = λ p u inv. rows-go (b .up-to p u inv) (omega arith) placed e f;
+        }
+
+    pub band-end :
+        to ≤ j → (picture₀ unlit₀ : List ℕ) → RowsUpTo eye ray walk width height picture₀ unlit₀ picture unlit from →
+        RowsUpTo eye ray walk width height picture₀ unlit₀ picture′ unlit′ to
+    band-end h p u inv =
+        let e : j ≡ to = omega (arith, b .below) in
+        subst (RowsUpTo eye ray walk width height p u picture′ unlit′) e (b .up-to p u inv)

@@ -1,6 +1,6 @@
 -- The rows of a picture and of the unlit lists, each in its place.
 use mathlib.Core.Path.{_≡_}
-use mathlib.Core.List.{List, _++_, map}
+use mathlib.Core.List.{List, _++_, map, flatten}
 use Prim.Native.Nat.{ℕ, _+_, _*_, _≤_}
 use lib.ListN.{length, take, drop}
 use Rattle.model.specs.Lists.{range}
@@ -13,6 +13,7 @@ use Rattle.painting.specs.Painting.{shownAfter}
 -- the lists have just the room for the rows
 pub record Framed (width height : ℕ) (picture unlit : List ℕ) : Type 0 where
   pub narrow : width ≤ rowLength
+  pub low : height ≤ 1024
   pub cells : length picture ≡ width * height
   pub rows : length unlit ≡ height * rowLength
 
@@ -25,3 +26,23 @@ pub record RowPlaced
     (eye : Vec) (ray : ℕ → Vec) (walk : List Patch) (width j : ℕ) (picture unlit picture′ unlit′ : List ℕ) : Type 0 where
   pub cells-are : picture′ ≡ withRow width j (map (shownAfter eye ray walk) (range 0 width)) picture
   pub row-is : unlit′ ≡ withRow rowLength j (rowOf width (unlitAfter eye ray walk)) unlit
+
+-- the rows before row j, and then the rest of a list
+abbrev pub rowsThen : ℕ → (ℕ → List ℕ) → ℕ → List ℕ → List ℕ
+rowsThen width row j list = flatten (map row (range 0 j)) ++ drop (j * width) list
+
+-- what stands in row j
+abbrev pub cellsOf : Vec → (ℕ → ℕ → Vec) → List Patch → ℕ → ℕ → List ℕ
+cellsOf eye ray walk width j = map (shownAfter eye (λ (i : ℕ). ray i j) walk) (range 0 width)
+
+abbrev pub unlitOf : Vec → (ℕ → ℕ → Vec) → List Patch → ℕ → ℕ → List ℕ
+unlitOf eye ray walk width j = rowOf width (unlitAfter eye (λ (i : ℕ). ray i j) walk)
+
+-- the rows before row j are in their places
+pub record RowsUpTo
+    (eye : Vec) (ray : ℕ → ℕ → Vec) (walk : List Patch) (width height : ℕ) (picture₀ unlit₀ picture unlit : List ℕ) (j : ℕ) : Type 0 where
+  pub bound : j ≤ height
+  pub same-cells : length picture ≡ length picture₀
+  pub same-unlit : length unlit ≡ length unlit₀
+  pub picture-is : picture ≡ rowsThen width (cellsOf eye ray walk width) j picture₀
+  pub unlit-is : unlit ≡ rowsThen rowLength (unlitOf eye ray walk width) j unlit₀

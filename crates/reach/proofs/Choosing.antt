@@ -69,6 +69,10 @@ module _ {test : ℕ → Bool} {order out₀ out : List ℕ} {n k : ℕ} (c : Ch
 
 pub choosing-all :
     {lows highs order out₀ out : List ℕ} {from to n k : ℕ} → Choosing (reaching lows highs from to) order out₀ out n k →
-    length order ≤ k → Selected lows highs from to order out n
-choosing-all {order = order} {k = k} c h =
-    record { front = rw (take-all k order h) at (c .front); few = omega (arith, c .few, c .most) }
+    length order ≤ length out₀ → length order ≤ k → Selected lows highs from to order out n
+choosing-all {order = order} {k = k} c room h =
+    record {
+      front = rw (take-all k order h) at (c .front);
+      few = omega (arith, c .few, c .most);
+      inside = omega (arith, c .few, c .most, c .long);
+    }

@@ -28,3 +28,4 @@ pub record Listed (order lows highs : List ℕ) : Type 0 where
 pub record Selected (lows highs : List ℕ) (from to : ℕ) (order after : List ℕ) (r : ℕ) : Type 0 where
   pub front : take r after ≡ chosen (reaching lows highs from to) order
   pub few : r ≤ length order
+  pub inside : r ≤ length after

@@ -84,7 +84,7 @@ module _ (bytes : List ℕ) (eye : Vec) (w : Window) (before : Lent) {n : ℕ}
       paintable {v} e = (
         yes .scene,
         point-bounded v (subst (λ (u : Vec). T (pointInRange u)) (sym e) (view .point)),
-        record { narrow = view .narrow; cells = fitting .cells; rows = fitting .rows },
+        record { narrow = view .narrow; low = omega (arith, view .low); cells = fitting .cells; rows = fitting .rows },
       )
 
       pub counter-rises : before .counter + 1 < 4294967296

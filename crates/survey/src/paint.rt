@@ -3,6 +3,7 @@ use format::layout::read_layout;
 use geometry::Vector;
 use painting::edges::all_edges;
 use painting::picture::paint_rows;
+use reach::table::all_rows;
 use walk::order::walk;
 ghost use Rattle.model.proofs.Answers.{AcceptedScene};
 ghost use Rattle.geometry.specs.Machine.{vecOf, Bounded};
@@ -10,7 +11,7 @@ ghost use Rattle.painting.specs.Framing.{Framed};
 ghost use Rattle.survey.specs.Contract.{windowOf};
 ghost use Rattle.survey.specs.Painted.{Painted};
 
-// What does not depend on the row, the walk's order and the patches' edge vectors, is worked out once.
+// What does not depend on the row, the walk's order, the patches' edge vectors and their reach, is worked out once.
 pub fn paint(
     scene: &[u8],
     eye: Vector,
@@ -30,6 +31,9 @@ pub fn paint(
     let mut ey = [0i64; 4096];
     let mut ez = [0i64; 4096];
     all_edges(scene, l, eye, &mut ex, &mut ey, &mut ez);
+    let mut lows = [0u16; 1024];
+    let mut highs = [0u16; 1024];
+    all_rows(scene, l, eye, height, lens, &mut lows, &mut highs);
     paint_rows(
         scene,
         l,
@@ -38,6 +42,8 @@ pub fn paint(
         &ex,
         &ey,
         &ez,
+        &lows,
+        &highs,
         width,
         height,
         lens,

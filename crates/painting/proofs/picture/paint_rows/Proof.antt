@@ -1,45 +1,45 @@
--- `paint_rows` meets its contract: the rows before row j are in their places.
+-- `paint_rows` meets its contract: the rows before the band are in their places.
 use Prim.Native.Nat.{_-_}
 use native.Mathlib.Omega.{arith}
 use Rattle.geometry.specs.Machine.{vecOf}
 use Rattle.model.specs.Window.{direction}
 use Rattle.painting.specs.Laying.{walkOf}
-use Rattle.painting.proofs.RowsPlaced.{RowsUpTo, rows-start, rows-framed, rows-go, rows-end}
+use Rattle.painting.specs.Framing.{RowsUpTo}
+use Rattle.painting.proofs.RowsPlaced.{still-framed, rows-start, rows-end}
 use Rattle.painting.proofs.picture.paint_rows.Statement.{statement}
 use Rattle.painting.proofs.picture.paint_rows.Tie as tie
 
 abbrev Inv-loop : tie.InvT-loop
-Inv-loop bytes l order eye ex ey ez width height lens picture₀ unlit₀ j₀ picture unlit j =
+Inv-loop bytes l order eye ex ey ez lows highs width height lens picture₀ unlit₀ from₀ picture unlit from =
     RowsUpTo (vecOf eye) (direction (record { width = width; height = height; lens = lens })) (walkOf bytes order)
-    width height picture₀ unlit₀ picture unlit j
+    width height picture₀ unlit₀ picture unlit from
 
 abbrev μ-loop : tie.MeasureT-loop
-μ-loop bytes l order eye ex ey ez width height lens picture₀ unlit₀ j₀ picture unlit j = height - j
+μ-loop bytes l order eye ex ey ez lows highs width height lens picture₀ unlit₀ from₀ picture unlit from = height - from
 
 loop-holds : tie.Need-loop-holds Inv-loop μ-loop
 loop-holds c = rows-start
 
-place-row-requires : tie.Need-place-row-requires Inv-loop μ-loop
-place-row-requires c κs =
-    let l = c .before .before .before in
-    let b = l .before .before .before .before .before .pre in
-    (b .0, b .1, rows-framed (l .loop .inv) (b .2), c .before .before .loop-test .taken)
+band-end-requires : tie.Need-band-end-requires Inv-loop μ-loop
+band-end-requires c κs = c .loop-test .taken
 
-add-j : tie.Need-add-j Inv-loop μ-loop
-add-j c =
-    let n = c .before .before .before .before .before .before .before in
-    omega (arith, n .loop-test .taken, n .before .before .before .before .before .before .fits .height)
+paint-band-requires : tie.Need-paint-band-requires Inv-loop μ-loop
+paint-band-requires c κs =
+    let b = c .before .before .before .before .before .before .before .before .before .before .before .pre in (
+      b .0,
+      b .1,
+      b .2,
+      b .3,
+      still-framed (c .before .before .before .before .loop .inv .same-cells) (c .before .before .before .before .loop .inv .same-unlit) (b .4),
+      omega (arith, c .before .before .band-end .ensures .0),
+      c .before .before .band-end .ensures .1,
+    )
 
 loop-less : tie.Need-loop-less Inv-loop μ-loop
-loop-less c = omega (arith, c .before .before .before .before .before .before .before .loop-test .taken)
+loop-less c = omega (arith, c .before .before .before .before .before .before .before .band-end .ensures .0, c .before .before .before .before .before .before .before .band-end .ensures .1)
 
 loop-again : tie.Need-loop-again Inv-loop μ-loop
-loop-again c =
-    let p = c .before .before .before .before in
-    let n = p .before .before .before in
-    rows-go (n .before .loop .inv) (n .loop-test .taken) (p .place-row .ensures)
-    (p .place-row .kept .1 .1 .1 .1 .1 .1 .1 .1 .1 .1 .1 .0)
-    (p .place-row .kept .1 .1 .1 .1 .1 .1 .1 .1 .1 .1 .1 .1 .0)
+loop-again c = c .before .before .before .before .paint-band .ensures _ _ (c .before .before .before .before .before .before .before .before .before .loop .inv)
 
 same-length : tie.Need-same-length Inv-loop μ-loop
 same-length c = c .before .loop .inv .same-cells
@@ -48,7 +48,7 @@ same-length-2 : tie.Need-same-length-2 Inv-loop μ-loop
 same-length-2 c = c .before .loop .inv .same-unlit
 
 returns : tie.Need-returns Inv-loop μ-loop
-returns c = rows-end (c .before .loop .inv) (c .loop-test .left) (c .before .before .before .before .before .before .pre .2)
+returns c = rows-end (c .before .loop .inv) (c .loop-test .left) (c .before .before .before .before .before .before .before .before .pre .4)
 
 pub paint-rows-spec : {M : Type 1} → statement M
 paint-rows-spec =
@@ -57,8 +57,8 @@ paint-rows-spec =
     Inv-loop
     μ-loop
     loop-holds
-    place-row-requires
-    add-j
+    band-end-requires
+    paint-band-requires
     loop-less
     loop-again
     same-length

@@ -62,7 +62,7 @@ same-length : tie.Need-same-length Inv-loop μ-loop
 same-length c = c .before .loop .inv .long
 
 returns : tie.Need-returns Inv-loop μ-loop
-returns c = choosing-all (c .before .loop .inv) (c .loop-test .left)
+returns c = choosing-all (c .before .loop .inv) (c .before .before .before .before .before .before .pre .1) (c .loop-test .left)
 
 pub select-spec : {M : Type 1} → statement M
 select-spec =
