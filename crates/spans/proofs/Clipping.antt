@@ -93,9 +93,16 @@ clipped {A} {B} {s} {r} f g h = record { exact = exact; shaped = h }
         covers-says r i .1 (f i (q .0) (q .1) (ltZ-yes (p .1))))
 
 module _ {A B : ℤ} {s : Span} (some : s .first < s .end) where
-  pub whole : pos 0 <ℤ numberAt A B (s .first) → pos 0 <ℤ numberAt A B (s .end - 1) → Clipped A B s s
-  whole hf hl =
-      clipped (λ i p q n. (p, q)) (λ i p q. (p, q, above A B hf hl p (omega arith))) (record { written = inl some; limited = omega arith })
+  whole : ((i : ℕ) → s .first ≤ i → i < s .end → pos 0 <ℤ numberAt A B i) → Clipped A B s s
+  whole f = clipped (λ i p q n. (p, q)) (λ i p q. (p, q, f i p q)) (record { written = inl some; limited = omega arith })
+
+  -- above 0 where it is least
+  pub whole-rising : pos 0 ≤ℤ A → pos 0 <ℤ numberAt A B (s .first) → Clipped A B s s
+  whole-rising n h = whole (λ i p q. subst (pos 0 <ℤ_) (ahead A B p) (all-columns n h (i - s .first)))
+
+  pub whole-falling : A <ℤ pos 0 → pos 0 <ℤ numberAt A B (s .end - 1) → Clipped A B s s
+  whole-falling n h =
+      whole (λ i p q. subst (pos 0 <ℤ_) (back A B (omega arith)) (all-columns (<→≤ (neg-of-neg n)) h (s .end - 1 - i)))
 
   pub nothing : numberAt A B (s .first) ≤ℤ pos 0 → numberAt A B (s .end - 1) ≤ℤ pos 0 → Clipped A B s (record { first = 0; end = 0 })
   nothing hf hl =

@@ -32,25 +32,30 @@ fn past_quotient(n: i64, d: i64) -> usize
     (n as usize) / (d as usize) + 1
 }
 
-// The span's columns i where slope · i + start is above 0. Only where that changes its sign on the span does it cost a division.
+// The span's columns i where slope · i + start is above 0. At the end where the number is least it says whether all are kept; only where it changes its sign
+// on the span does that cost a division.
 pub fn clip(span: Span, slope: i64, start: i64) -> Span
     requires { ⌜ Occupied 1024 span × Linear slope start ⌝ }
     ensures { λ r. ⌜ Clipped slope start span r ⌝ }
 {
     let first = span.first;
     let end = span.end;
-    let low = number_at(slope, start, first);
-    let high = number_at(slope, start, end - 1);
-    if 0 < low {
-        if 0 < high {
+    if slope < 0 {
+        if 0 < number_at(slope, start, end - 1) {
             return span;
         }
-        return Span {
-            first,
-            end: past_quotient(start - 1, 0 - slope),
-        };
+        if 0 < number_at(slope, start, first) {
+            return Span {
+                first,
+                end: past_quotient(start - 1, 0 - slope),
+            };
+        }
+        return Span { first: 0, end: 0 };
     }
-    if 0 < high {
+    if 0 < number_at(slope, start, first) {
+        return span;
+    }
+    if 0 < number_at(slope, start, end - 1) {
         return Span {
             first: past_quotient(0 - start, slope),
             end,

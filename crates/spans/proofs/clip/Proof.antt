@@ -12,7 +12,7 @@ use Rattle.integer.proofs.Products.{neg-of-neg, neg-of-nonpos}
 use Rattle.integer.proofs.Machine.{machine, no-overflow, exact}
 use Rattle.integer.proofs.Comparison.{comparisons}
 use Rattle.spans.specs.Span.{numberAt, Linear}
-use Rattle.spans.proofs.Clipping.{falls, rises, whole, nothing, cut-end, cut-first}
+use Rattle.spans.proofs.Clipping.{falls, rises, whole-rising, whole-falling, nothing, cut-end, cut-first}
 use Rattle.spans.proofs.clip.Statement.{statement}
 use Rattle.spans.proofs.clip.Tie as tie
 
@@ -39,101 +39,98 @@ module _ {A B : ℤ} (h : Linear A B) where
 quotient-of : {n d n′ d′ : ℤ} {q : ℕ} → n ≡ n′ → d ≡ d′ → q ≡ natAbs n / natAbs d + 1 → q ≡ natAbs n′ / natAbs d′ + 1
 quotient-of e f is = is ∙ ap₂ (λ (n d : ℤ). natAbs n / natAbs d + 1) e f
 
--- ---- the numbers at the two ends
-number-at-requires : tie.Need-number-at-requires
-number-at-requires c κs = search needs
+-- ---- the number falls
+falls-down : (c : tie.Then1) → c .before .args .slope <ℤ pos 0
+falls-down c = search comparisons
 
-sub-number-at : tie.Need-sub-number-at
-sub-number-at c = search needs
+last-is : (c : tie.After-number-at) → c .number-at .result ≡ numberAt (c .before .before .args .slope) (c .before .before .args .start) (c .before .before .args .span .end - 1)
+last-is c = number-is (c .before .before .pre .1) (c .before .before .args .span .end - 1) (c .number-at .ensures)
 
-number-at-requires-2 : tie.Need-number-at-requires-2
-number-at-requires-2 c κs = search needs
+first-is : (c : tie.After-number-at2) → c .number-at2 .result ≡ numberAt (c .before .before .before .before .args .slope) (c .before .before .before .before .args .start) (c .before .before .before .before .args .span .first)
+first-is c = number-is (c .before .before .before .before .pre .1) (c .before .before .before .before .args .span .first) (c .number-at2 .ensures)
 
-abbrev number : tie.Start → ℕ → ℤ
-number b i = numberAt (b .args .slope) (b .args .start) i
-
-low-is : (c : tie.After-number-at2) → c .before .number-at .result ≡ number (c .before .before) (c .before .before .args .span .first)
-low-is c = number-is (c .before .before .pre .1) (c .before .before .args .span .first) (c .before .number-at .ensures)
-
-high-is : (c : tie.After-number-at2) → c .number-at2 .result ≡ number (c .before .before) (c .before .before .args .span .end - 1)
-high-is c = number-is (c .before .before .pre .1) (c .before .before .args .span .end - 1) (c .number-at2 .ensures)
-
-low-above : (c : tie.Then1) → pos 0 <ℤ number (c .before .before .before) (c .before .before .before .args .span .first)
-low-above c = subst (pos 0 <ℤ_) (low-is (c .before)) (search comparisons)
-
-low-not-above : (c : tie.Else1) → number (c .before .before .before) (c .before .before .before .args .span .first) ≤ℤ pos 0
-low-not-above c = subst (_≤ℤ pos 0) (low-is (c .before)) (search comparisons)
-
--- ---- above 0 at both ends
 returns : tie.Need-returns
-returns c = whole (c .before .before .before .before .pre .0 .some) (low-above (c .before)) (subst (pos 0 <ℤ_) (high-is (c .before .before)) (search comparisons))
+returns c = whole-falling (c .before .before .before .pre .0 .some) (falls-down (c .before .before)) (subst (pos 0 <ℤ_) (last-is (c .before)) (search comparisons))
 
--- ---- above 0 at the first column alone
-high-not-above : (c : tie.Else2) → number (c .before .before .before .before) (c .before .before .before .before .args .span .end - 1) ≤ℤ pos 0
-high-not-above c = subst (_≤ℤ pos 0) (high-is (c .before .before)) (search comparisons)
+last-not-above : (c : tie.Else2) → numberAt (c .before .before .before .args .slope) (c .before .before .before .args .start) (c .before .before .before .args .span .end - 1) ≤ℤ pos 0
+last-not-above c = subst (_≤ℤ pos 0) (last-is (c .before)) (search comparisons)
 
-falling : (c : tie.Else2) → (c .before .before .before .before .args .slope <ℤ pos 0) × (pos 0 <ℤ c .before .before .before .before .args .start)
-falling c = falls _ _ (omega arith) (low-above (c .before)) (high-not-above c)
+first-above : (c : tie.Then3) → pos 0 <ℤ numberAt (c .before .before .before .before .before .args .slope) (c .before .before .before .before .before .args .start) (c .before .before .before .before .before .args .span .first)
+first-above c = subst (pos 0 <ℤ_) (first-is (c .before)) (search comparisons)
 
-sub-past-quotient : tie.Need-sub-past-quotient
-sub-past-quotient c = no-overflow (search machine depth 40 fits 20000, tt)
-
-sub-past-quotient-2 : tie.Need-sub-past-quotient-2
-sub-past-quotient-2 c = no-overflow (search machine depth 40 fits 20000, tt)
+falling : (c : tie.Then3) → (c .before .before .before .before .before .args .slope <ℤ pos 0) × (pos 0 <ℤ c .before .before .before .before .before .args .start)
+falling c = falls _ _ (omega (arith, c .before .before .before .before .before .pre .0 .some)) (first-above c) (last-not-above (c .before .before))
 
 past-quotient-requires : tie.Need-past-quotient-requires
 past-quotient-requires c κs =
-    let h = c .before .before .before .before .pre .1 in (
+    let h = c .before .before .before .before .before .pre .1 in (
       subst (pos 0 ≤ℤ_) (sym (start-less h)) (≤-diff (suc-≤ (falling c .1))),
       subst (pos 0 <ℤ_) (sym (slope-turned h)) (neg-of-neg (falling c .0)),
     )
 
 returns-2 : tie.Need-returns-2
 returns-2 c =
-    let b = c .before .before .before .before .before in
-    cut-end (b .pre .0 .some) (low-above (c .before .before)) (high-not-above (c .before))
-    (quotient-of (start-less (b .pre .1)) (slope-turned (b .pre .1)) (c .past-quotient .ensures))
+    cut-end (c .before .before .before .before .before .before .pre .0 .some) (first-above (c .before)) (last-not-above (c .before .before .before))
+    (quotient-of (start-less (c .before .before .before .before .before .before .pre .1)) (slope-turned (c .before .before .before .before .before .before .pre .1)) (c .past-quotient .ensures))
 
--- ---- above 0 at the last column alone
-high-above : (c : tie.Then3) → pos 0 <ℤ number (c .before .before .before .before) (c .before .before .before .before .args .span .end - 1)
-high-above c = subst (pos 0 <ℤ_) (high-is (c .before .before)) (search comparisons)
+returns-3 : tie.Need-returns-3
+returns-3 c = nothing (c .before .before .before .before .before .pre .0 .some) (subst (_≤ℤ pos 0) (first-is (c .before)) (search comparisons)) (last-not-above (c .before .before))
 
-rising : (c : tie.Then3) → (pos 0 <ℤ c .before .before .before .before .args .slope) × (c .before .before .before .before .args .start ≤ℤ pos 0)
-rising c = rises _ _ (omega arith) (low-not-above (c .before)) (high-above c)
+-- ---- it does not fall
+not-falls : (c : tie.Else1) → pos 0 ≤ℤ c .before .args .slope
+not-falls c = search comparisons
 
-sub-past-quotient-3 : tie.Need-sub-past-quotient-3
-sub-past-quotient-3 c = no-overflow (search machine depth 40 fits 20000, tt)
+first-is-2 : (c : tie.After-number-at3) → c .number-at3 .result ≡ numberAt (c .before .before .args .slope) (c .before .before .args .start) (c .before .before .args .span .first)
+first-is-2 c = number-is (c .before .before .pre .1) (c .before .before .args .span .first) (c .number-at3 .ensures)
+
+last-is-2 : (c : tie.After-number-at4) → c .number-at4 .result ≡ numberAt (c .before .before .before .before .args .slope) (c .before .before .before .before .args .start) (c .before .before .before .before .args .span .end - 1)
+last-is-2 c = number-is (c .before .before .before .before .pre .1) (c .before .before .before .before .args .span .end - 1) (c .number-at4 .ensures)
+
+returns-4 : tie.Need-returns-4
+returns-4 c = whole-rising (c .before .before .before .pre .0 .some) (not-falls (c .before .before)) (subst (pos 0 <ℤ_) (first-is-2 (c .before)) (search comparisons))
+
+first-not-above : (c : tie.Else4) → numberAt (c .before .before .before .args .slope) (c .before .before .before .args .start) (c .before .before .before .args .span .first) ≤ℤ pos 0
+first-not-above c = subst (_≤ℤ pos 0) (first-is-2 (c .before)) (search comparisons)
+
+last-above : (c : tie.Then5) → pos 0 <ℤ numberAt (c .before .before .before .before .before .args .slope) (c .before .before .before .before .before .args .start) (c .before .before .before .before .before .args .span .end - 1)
+last-above c = subst (pos 0 <ℤ_) (last-is-2 (c .before)) (search comparisons)
+
+rising : (c : tie.Then5) → (pos 0 <ℤ c .before .before .before .before .before .args .slope) × (c .before .before .before .before .before .args .start ≤ℤ pos 0)
+rising c = rises _ _ (omega (arith, c .before .before .before .before .before .pre .0 .some)) (first-not-above (c .before .before)) (last-above c)
 
 past-quotient-requires-2 : tie.Need-past-quotient-requires-2
 past-quotient-requires-2 c κs =
-    let h = c .before .before .before .before .pre .1 in (
+    let h = c .before .before .before .before .before .pre .1 in (
       subst (pos 0 ≤ℤ_) (sym (start-turned h)) (neg-of-nonpos (rising c .1)),
       subst (pos 0 <ℤ_) (sym (slope-is h)) (rising c .0),
     )
 
-returns-3 : tie.Need-returns-3
-returns-3 c =
-    let b = c .before .before .before .before .before in
-    cut-first (b .pre .0 .some) (low-not-above (c .before .before)) (high-above (c .before))
-    (quotient-of (start-turned (b .pre .1)) (slope-is (b .pre .1)) (c .past-quotient2 .ensures))
+returns-5 : tie.Need-returns-5
+returns-5 c =
+    cut-first (c .before .before .before .before .before .before .pre .0 .some) (first-not-above (c .before .before .before)) (last-above (c .before))
+    (quotient-of (start-turned (c .before .before .before .before .before .before .pre .1)) (slope-is (c .before .before .before .before .before .before .pre .1)) (c .past-quotient2 .ensures))
 
--- ---- above 0 at neither end
-returns-4 : tie.Need-returns-4
-returns-4 c = nothing (c .before .before .before .before .pre .0 .some) (low-not-above (c .before)) (subst (_≤ℤ pos 0) (high-is (c .before .before)) (search comparisons))
+returns-6 : tie.Need-returns-6
+returns-6 c = nothing (c .before .before .before .before .before .pre .0 .some) (first-not-above (c .before .before)) (subst (_≤ℤ pos 0) (last-is-2 (c .before)) (search comparisons))
 
 pub clip-spec : {M : Type 1} → statement M
 clip-spec =
     tie.close
     (tie.spec
-    number-at-requires
-    sub-number-at
-    number-at-requires-2
+    (λ c. search needs)
+    (λ c κs. search needs)
     returns
-    sub-past-quotient
-    sub-past-quotient-2
+    (λ c κs. search needs)
+    (λ c. no-overflow (search machine depth 40 fits 20000, tt))
+    (λ c. no-overflow (search machine depth 40 fits 20000, tt))
     past-quotient-requires
     returns-2
-    sub-past-quotient-3
-    past-quotient-requires-2
     returns-3
-    returns-4)
+    (λ c κs. search needs)
+    returns-4
+    (λ c. search needs)
+    (λ c κs. search needs)
+    (λ c. no-overflow (search machine depth 40 fits 20000, tt))
+    past-quotient-requires-2
+    returns-5
+    returns-6)
