@@ -1,11 +1,12 @@
 -- The edges of a patch by the corner that they begin at, and the corners of a patch in hand.
 use mathlib.Core.Path.{_≡_, refl, sym, _∙_, ap, subst}
-use mathlib.Core.Bool.{_&&_}
+use mathlib.Core.Bool.{Bool, true, false, cond, _&&_}
 use mathlib.Core.List.{List, [], _∷_, _++_, map, map-map}
 use Prim.Native.Nat.{ℕ, zero, suc, _+_, _≤_, _<_}
 use native.Mathlib.Omega.{arith}
 use native.Mathlib.Numerals.{add-one}
-use lib.Dec.{T, leb→le, lit<}
+use lib.Dec.{T, ltb, leb→le, lit<}
+use borrow.Author.Tests.{ltb-true, ltb-false, lt-ltb, le-ltb}
 use lib.IntN.{ℤ}
 use lib.ListN.{length, getD, take, drop, drop-of-length-le}
 use lib.Seq.{drop-cons}
@@ -25,7 +26,7 @@ use Rattle.geometry.specs.Machine.{vecOf, planeOf, Bounded, VectorIs, NumberIs}
 use Rattle.format.specs.declared.patch.Patch.{Patch}
 use Rattle.format.specs.Patch.{cornerOf, patchOf}
 use Rattle.format.proofs.Tables.{length-table, table-at}
-use Rattle.spans.specs.Row.{orientedEdges}
+use Rattle.spans.specs.Row.{orientedEdges, nextCorner}
 use Rattle.spans.proofs.Orientation.{sign-within}
 use Rattle.walk.proofs.SceneNodes.{point-bounded}
 use Rattle.painting.specs.EdgeVectors.{InHand, EyeSign, edgeNumbered}
@@ -83,25 +84,50 @@ module _ {p : Patch} (h : InHand p) where
   pub corner-bounded : {k : ℕ} {v : Vector} → k < p .count → vecOf v ≡ cornerOf p k → Bounded 10000 v
   corner-bounded {k} {v} b e = point-bounded v (subst (λ (c : Vec). T (pointInRange c)) (sym e) (h .in-range k b))
 
-  module _ {i : ℕ} {v : Vector} (b : i < p .count) where
-    pub ends-next : i + 1 < p .count → vecOf v ≡ cornerOf p (i + 1) → VectorIs 10000 (firstEdge (round (patchOf p .corners) i) .to) v
-    ends-next k e =
-        record {
-          value =
-              e ∙ sym (hand-corner p (i + 1) k) ∙ ap (λ (m : ℕ). getD (patchOf p .corners) m origin) (add-one i)
-              ∙ sym (edge-to-next (patchOf p .corners) i (omega (arith, hand-count p)) (omega (arith, hand-count p)));
-          bounded = corner-bounded k e;
-        }
+  -- the corner at the next place is the edge's end
+  pub ends-at : {i : ℕ} {v : Vector} → i < p .count → vecOf v ≡ cornerOf p (nextCorner (p .count) i) → VectorIs 10000 (firstEdge (round (patchOf p .corners) i) .to) v
+  ends-at {i} {v} b = go (ltb (suc i) (p .count)) refl
+    where
+      go :
+          (t : Bool) → ltb (suc i) (p .count) ≡ t → vecOf v ≡ cornerOf p (cond t (suc i) 0) →
+          VectorIs 10000 (firstEdge (round (patchOf p .corners) i) .to) v
+      go true t e =
+          let k : suc i < p .count = ltb-true (suc i) (p .count) t in
+          record {
+            value =
+                e ∙ sym (hand-corner p (suc i) k)
+                ∙ sym (edge-to-next (patchOf p .corners) i (omega (arith, hand-count p)) (omega (arith, hand-count p)));
+            bounded = corner-bounded k e;
+          }
+      go false t e =
+          let k : p .count ≤ suc i = ltb-false (suc i) (p .count) t in
+          let some : 0 < p .count = omega (arith, h .three) in
+          record {
+            value =
+                e ∙ sym (hand-corner p 0 some)
+                ∙ sym (edge-to-first (patchOf p .corners) i (omega (arith, hand-count p)) (omega (arith, hand-count p, h .three)) (omega (arith, hand-count p)));
+            bounded = corner-bounded some e;
+          }
 
-    pub ends-first : p .count ≤ i + 1 → vecOf v ≡ cornerOf p 0 → VectorIs 10000 (firstEdge (round (patchOf p .corners) i) .to) v
-    ends-first k e =
-        let some : 0 < p .count = omega (arith, h .three) in
-        record {
-          value =
-              e ∙ sym (hand-corner p 0 some)
-              ∙ sym (edge-to-first (patchOf p .corners) i (omega (arith, hand-count p)) (omega (arith, hand-count p, h .three)) (omega (arith, hand-count p)));
-          bounded = corner-bounded some e;
-        }
+-- and, but for the last edge, where the next edge begins
+pub ends-begins : (p : Patch) (i : ℕ) {w : Vec} → w ≡ firstEdge (round (patchOf p .corners) i) .to → i + 1 < p .count → w ≡ cornerOf p (i + 1)
+ends-begins p i e k =
+    e ∙ edge-to-next (patchOf p .corners) i (omega (arith, hand-count p)) (omega (arith, hand-count p))
+    ∙ ap (λ (m : ℕ). getD (patchOf p .corners) m origin) (sym (add-one i))
+    ∙ hand-corner p (i + 1) k
+
+pub next-further : (n i : ℕ) → i + 1 < n → i + 1 ≡ nextCorner n i
+next-further n i h = rw (lt-ltb (suc i) n (omega arith)) (add-one i)
+
+pub next-first : (n i : ℕ) → n ≤ i + 1 → 0 ≡ nextCorner n i
+next-first n i h = rw (le-ltb (suc i) n (omega arith))
+
+pub next-inside : (n i : ℕ) → i < n → nextCorner n i < n
+next-inside n i h = go (ltb (suc i) n) refl
+  where
+    go : (t : Bool) → ltb (suc i) n ≡ t → cond t (suc i) 0 < n
+    go true t = ltb-true (suc i) n t
+    go false t = omega arith
 
 -- ---- the sign of the eye product
 module _ {eye : Vec} {p : Patch} {sign : ℤ} (h : EyeSign eye p sign) where

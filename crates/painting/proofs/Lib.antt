@@ -3,6 +3,7 @@ pub mod FirstShown
 -- the edge vectors of the patches
 pub mod EdgePlaces
 pub mod EdgeWrites
+pub mod EdgeRounds
 pub mod EdgeRuns
 -- a patch, a row, all rows
 pub mod Columns

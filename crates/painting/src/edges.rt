@@ -5,15 +5,17 @@ use format::patch::Patch;
 use format::patch::corner_of;
 use format::patch::read_patch;
 use geometry::Vector;
+ghost use mathlib.Core.Path.{_≡_};
 ghost use Prim.Native.Nat.{_+_, _<_};
 ghost use Rattle.model.specs.Patch.{firstEdge, round};
 ghost use Rattle.model.specs.Format.{decode, patchNumbered};
 ghost use Rattle.geometry.specs.Machine.{vecOf, Bounded, VectorIs};
 ghost use Rattle.format.specs.Layout.{patchNumber};
 ghost use Rattle.format.specs.Patch.{patchOf};
+ghost use Rattle.spans.specs.Row.{nextCorner};
 ghost use Rattle.painting.specs.Painting.{EdgesOf};
 ghost use Rattle.walk.specs.Walked.{Walkable};
-ghost use Rattle.painting.specs.EdgeVectors.{InHand, EyeSign, edgeNumbered, Room, EdgesWritten};
+ghost use Rattle.painting.specs.EdgeVectors.{InHand, EyeSign, Room, EdgesWritten};
 
 // the sign of the patch's eye product
 fn eye_sign(p: Patch, eye: Vector) -> i64
@@ -25,24 +27,24 @@ fn eye_sign(p: Patch, eye: Vector) -> i64
     integer::sign(geometry::eye_product(eye, a, normal))
 }
 
-// the corner that the edge from corner i goes to: the next one, after the last the first
+// the corner's place after place i: after the last comes the first
+fn next_place(count: usize, i: usize) -> usize
+    requires { ⌜ i < count ⌝ }
+    ensures { λ r. ⌜ r ≡ nextCorner count i ⌝ }
+{
+    let next = i + 1;
+    if next < count {
+        return next;
+    }
+    0
+}
+
+// the corner that the edge from corner i goes to
 fn edge_end(p: Patch, i: usize) -> Vector
     requires { ⌜ InHand p × (i < p .count) ⌝ }
     ensures { λ r. ⌜ VectorIs 10000 (firstEdge (round (patchOf p .corners) i) .to) r ⌝ }
 {
-    let next = i + 1;
-    if next < p.count {
-        return corner_of(p, next);
-    }
-    corner_of(p, 0)
-}
-
-// the edge vector from corner i
-fn edge_at(p: Patch, i: usize, eye: Vector, sign: i64) -> Vector
-    requires { ⌜ InHand p × Bounded 10000 eye × EyeSign (vecOf eye) p sign × (i < p .count) ⌝ }
-    ensures { λ r. ⌜ VectorIs 800000000 (edgeNumbered (vecOf eye) (patchOf p) i) r ⌝ }
-{
-    spans::oriented_edge(eye, corner_of(p, i), edge_end(p, i), sign)
+    corner_of(p, next_place(p.count, i))
 }
 
 // writes the edge vectors of a patch in hand from place `first` on
@@ -61,9 +63,11 @@ fn write_edges(
         (now (ex .entry)) (now (ey .entry)) (now (ez .entry)) (now (ex .exit)) (now (ey .exit)) (now (ez .exit)) ⌝ }
 {
     let count = p.count;
+    let mut from = corner_of(p, 0);
     let mut i = 0;
     while i < count {
-        let edge = edge_at(p, i, eye, sign);
+        let to = edge_end(p, i);
+        let edge = spans::oriented_edge(eye, from, to, sign);
         // a slice takes a signed number from a whole local alone
         let x = edge.x;
         let y = edge.y;
@@ -71,6 +75,7 @@ fn write_edges(
         ex[first + i] = x;
         ey[first + i] = y;
         ez[first + i] = z;
+        from = to;
         i += 1;
     }
 }
