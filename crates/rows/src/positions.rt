@@ -39,6 +39,11 @@ const ACTIONS: [u8; 12] = [
     BEFORE + NEXT,
 ];
 
+// The places of positions 1 and 8 in the table.
+const POSITION_1: usize = 0;
+
+const POSITION_8: usize = 11;
+
 // I's place: I ≤ Min, Min < I ≤ Max, Max < I.
 fn start_place(first: u16, min: u16, max: u16) -> usize
     ensures { λ r. ⌜ Starts first min max r ⌝ }
@@ -79,17 +84,17 @@ fn decoded(code: u8) -> Action
     }
 }
 
-// Most segments lie before the span or after it (positions 8 and 1). Their entries stand at known places, so that the
-// compiler reads them.
+// Most segments lie before the span or after it. One comparison tells their entry, so that no place in the table is
+// computed for them.
 pub fn action_for(first: u16, last: u16, min: u16, max: u16) -> Action
     requires { ⌜ (first ≤ last) × (min ≤ max) ⌝ }
     ensures { λ r. ⌜ Acts first last min max (r .paint) (r .before) (r .after) (r .next) ⌝ }
 {
     if max < first {
-        return decoded(ACTIONS[11]);
+        return decoded(ACTIONS[POSITION_8]);
     }
     if last < min {
-        return decoded(ACTIONS[0]);
+        return decoded(ACTIONS[POSITION_1]);
     }
     let i = 4 * start_place(first, min, max) + end_place(last, min, max);
     decoded(ACTIONS[i])
