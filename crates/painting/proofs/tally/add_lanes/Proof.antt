@@ -1,7 +1,6 @@
 -- `add_lanes` meets its contract: the totals below n are the sums of their counters.
 use Prim.Native.Nat.{_-_}
 use native.Mathlib.Omega.{arith}
-use borrow.Author.Needs.{needs}
 use lib.ListN.{length}
 use Rattle.painting.specs.Counting.{Summed}
 use Rattle.painting.proofs.Counted.{sums-start, sums-go, sums-end}
