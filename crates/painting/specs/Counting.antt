@@ -1,8 +1,9 @@
--- What counting the cells of a picture asks.
+-- Counting the cells of a picture: what it asks, and the parts that it is made of.
 use mathlib.Core.Path.{_≡_}
 use mathlib.Core.List.{List}
-use Prim.Native.Nat.{ℕ, _≤_, _<_}
+use Prim.Native.Nat.{ℕ, _+_, _*_, _≤_, _<_}
 use lib.ListN.{length, getD}
+use Rattle.model.specs.Lists.{occurrences}
 use Rattle.model.specs.Picture.{countEntries}
 
 -- each cell's number has an entry, and a count of all cells fits one
@@ -10,3 +11,17 @@ pub record Countable (cells totals : List ℕ) : Type 0 where
   pub numbered : (k : ℕ) → k < length cells → getD cells k 0 < countEntries
   pub few : length cells ≤ 32768
   pub entries : length totals ≡ countEntries
+
+-- the sum of a number's four counters
+abbrev pub laneSum : List ℕ → ℕ → ℕ
+laneSum lanes n = getD lanes (4 * n) 0 + getD lanes (4 * n + 1) 0 + getD lanes (4 * n + 2) 0 + getD lanes (4 * n + 3) 0
+
+-- the counters of each number add up to how often it stands among the cells
+pub record Laned (cells lanes : List ℕ) : Type 0 where
+  pub size : length lanes ≡ 4 * countEntries
+  pub sums : (n : ℕ) → n < countEntries → laneSum lanes n ≡ occurrences n cells
+
+-- the totals of the numbers below n are the sums of their counters
+pub record Summed (lanes totals : List ℕ) (n : ℕ) : Type 0 where
+  pub entries : length totals ≡ countEntries
+  pub sums : (m : ℕ) → m < n → getD totals m 0 ≡ laneSum lanes m

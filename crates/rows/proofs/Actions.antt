@@ -8,21 +8,8 @@ use lib.Dec.{T, eqb, leb, ltb, leb·zero}
 use lib.ListN.{length, getD}
 use borrow.Author.Tests.{lt-ltb, le-ltb, le-leb, lt-leb}
 use Rattle.model.proofs.Tests.{both}
-use Rattle.rows.specs.Step.{Starts, by-start, inside, beyond, Ends, ahead, within-it, at-end, past, Acts}
+use Rattle.rows.specs.Step.{Starts, by-start, inside, beyond, Ends, ahead, within-it, at-end, past, Decodes, Acts}
 use Rattle.rows.proofs.Table.{obeys, entry}
-
--- the parts of an action code
-abbrev pub paints : ℕ → Bool
-paints code = eqb (code % 2) 1
-
-abbrev pub keepsBefore : ℕ → Bool
-keepsBefore code = eqb (code / 2 % 2) 1
-
-abbrev pub keepsAfter : ℕ → Bool
-keepsAfter code = eqb (code / 4 % 2) 1
-
-abbrev pub goesOn : ℕ → Bool
-goesOn code = eqb (code / 8) 1
 
 -- the places a and b of a span's ends can occur together
 abbrev pub possible : ℕ → ℕ → Bool
@@ -32,8 +19,8 @@ possible a b = cond (eqb a 2) (eqb b 3) (leb a b)
 abbrev pub rule : ℕ → ℕ → ℕ → Bool
 rule a b code =
     cond (possible a b)
-    (Bool·beq (paints code) (ltb a 2 && ltb 0 b)
-    && (Bool·beq (keepsBefore code) (ltb 0 a) && (Bool·beq (keepsAfter code) (ltb b 2) && Bool·beq (goesOn code) (eqb b 3))))
+    (Bool·beq (eqb (code % 2) 1) (ltb a 2 && ltb 0 b)
+    && (Bool·beq (eqb (code / 2 % 2) 1) (ltb 0 a) && (Bool·beq (eqb (code / 4 % 2) 1) (ltb b 2) && Bool·beq (eqb (code / 8) 1) (eqb b 3))))
     true
 
 abbrev pub test : ℕ → ℕ → Bool
@@ -96,30 +83,28 @@ module _ (first last left right : ℕ) (span : first ≤ last) (segment : left �
   together (beyond p) (at-end r) = absurd (omega arith)
   together (beyond p) (past r) = refl
 
-  acts :
-      (a b code : ℕ) → Starts first left right a → Ends last left right b → T (rule a b code) →
-      Acts first last left right (paints code) (keepsBefore code) (keepsAfter code) (goesOn code)
-  acts a b code s e t =
-      let r = rw (together s e) at t in
-      let p = both (Bool·beq (paints code) (ltb a 2 && ltb 0 b)) _ .0 r in
-      let q = both (Bool·beq (keepsBefore code) (ltb 0 a)) _ .0 (p .1) in
-      let u = both (Bool·beq (keepsAfter code) (ltb b 2)) _ .0 (q .1) in
-      record {
-        paint-is = beq-path (paints code) (ltb a 2 && ltb 0 b) (p .0) ∙ rw (start-inside s, end-inside e);
-        before-is = beq-path (keepsBefore code) (ltb 0 a) (q .0) ∙ start-before s;
-        after-is = beq-path (keepsAfter code) (ltb b 2) (u .0) ∙ end-after e;
-        next-is = beq-path (goesOn code) (eqb b 3) (u .1) ∙ end-next e;
-      }
+  module _ {code : ℕ} {paint before after next : Bool} (d : Decodes code paint before after next) where
+    -- what a code that obeys the rule of its places says
+    pub acts : (a b : ℕ) → Starts first left right a → Ends last left right b → T (rule a b code) → Acts first last left right paint before after next
+    acts a b s e t =
+        let r = rw (together s e) at t in
+        let p = both (Bool·beq (eqb (code % 2) 1) (ltb a 2 && ltb 0 b)) _ .0 r in
+        let q = both (Bool·beq (eqb (code / 2 % 2) 1) (ltb 0 a)) _ .0 (p .1) in
+        let u = both (Bool·beq (eqb (code / 4 % 2) 1) (ltb b 2)) _ .0 (q .1) in
+        record {
+          paint-is = d .paint-is ∙ beq-path _ (ltb a 2 && ltb 0 b) (p .0) ∙ rw (start-inside s, end-inside e);
+          before-is = d .before-is ∙ beq-path _ (ltb 0 a) (q .0) ∙ start-before s;
+          after-is = d .after-is ∙ beq-path _ (ltb b 2) (u .0) ∙ end-after e;
+          next-is = d .next-is ∙ beq-path _ (eqb b 3) (u .1) ∙ end-next e;
+        }
 
   -- a table that obeys the rule at each entry says what to do
   pub acts-by :
-      (codes : List ℕ) → length codes ≡ 12 → (a b : ℕ) → Starts first left right a → Ends last left right b →
-      T (obeys test 0 codes) →
-      let code : ℕ = getD codes (4 * a + b) 0 in
-      Acts first last left right (paints code) (keepsBefore code) (keepsAfter code) (goesOn code)
-  acts-by codes l a b s e t =
+      {paint before after next : Bool} (codes : List ℕ) → length codes ≡ 12 → (a b : ℕ) →
+      Decodes (getD codes (4 * a + b) 0) paint before after next → Starts first left right a → Ends last left right b →
+      T (obeys test 0 codes) → Acts first last left right paint before after next
+  acts-by codes l a b d s e t =
       let k : ℕ = 4 * a + b in
-      let code : ℕ = getD codes k 0 in
       let p : k / 4 ≡ a = omega (arith, end-below e) in
       let q : k % 4 ≡ b = omega (arith, end-below e) in
-      acts a b code s e (rw (p, q) at (entry test codes t k (omega (arith, start-below s, end-below e))))
+      acts d a b s e (rw (p, q) at (entry test codes t k (omega (arith, start-below s, end-below e))))

@@ -2,8 +2,8 @@
 use mathlib.Core.Path.{_≡_}
 use mathlib.Core.Bool.{Bool, true, false, _&&_}
 use mathlib.Core.List.{List, [], _∷_, _++_}
-use Prim.Native.Nat.{ℕ, suc, _+_, _-_, _≤_, _<_, min, max}
-use lib.Dec.{leb, ltb}
+use Prim.Native.Nat.{ℕ, suc, _+_, _-_, _/_, _%_, _≤_, _<_, min, max}
+use lib.Dec.{eqb, leb, ltb}
 use lib.ListN.{length}
 use Rattle.model.specs.Row.{Segment}
 use Rattle.rows.specs.Span.{inSpan, painted}
@@ -41,6 +41,13 @@ pub data Ends (last left right : ℕ) : ℕ → Type 0 where
   within-it : left ≤ last → last < right → Ends last left right 1
   at-end : last ≡ right → Ends last left right 2
   past : right < last → Ends last left right 3
+
+-- the parts of an action code, each 0 or 1: paint, keep the columns before the span, keep those after it, go on
+pub record Decodes (code : ℕ) (paint before after next : Bool) : Type 0 where
+  pub paint-is : paint ≡ eqb (code % 2) 1
+  pub before-is : before ≡ eqb (code / 2 % 2) 1
+  pub after-is : after ≡ eqb (code / 4 % 2) 1
+  pub next-is : next ≡ eqb (code / 8) 1
 
 -- what to do with that segment: whether there are columns to paint, whether it has columns before the span and after it,
 -- and whether the next segment is to be looked at

@@ -1,6 +1,6 @@
 // The positions of a span, from I to J, against a segment, from Min to Max (document 01's eight positions).
 ghost use Prim.Native.Nat.{_≤_};
-ghost use Rattle.rows.specs.Step.{Starts, Ends, Acts};
+ghost use Rattle.rows.specs.Step.{Starts, Ends, Decodes, Acts};
 
 // What to do with the segment: paint the columns that it shares with the span, keep those before the span,
 // keep those after it, go on to the next segment.
@@ -39,6 +39,11 @@ const ACTIONS: [u8; 12] = [
     BEFORE + NEXT,
 ];
 
+// The places of positions 1 and 8 in the table.
+const POSITION_1: usize = 0;
+
+const POSITION_8: usize = 11;
+
 // I's place: I ≤ Min, Min < I ≤ Max, Max < I.
 fn start_place(first: u16, min: u16, max: u16) -> usize
     ensures { λ r. ⌜ Starts first min max r ⌝ }
@@ -68,16 +73,29 @@ fn end_place(last: u16, min: u16, max: u16) -> usize
     3
 }
 
-pub fn action_for(first: u16, last: u16, min: u16, max: u16) -> Action
-    requires { ⌜ (first ≤ last) × (min ≤ max) ⌝ }
-    ensures { λ r. ⌜ Acts first last min max (r .paint) (r .before) (r .after) (r .next) ⌝ }
+fn decoded(code: u8) -> Action
+    ensures { λ r. ⌜ Decodes code (r .paint) (r .before) (r .after) (r .next) ⌝ }
 {
-    let i = 4 * start_place(first, min, max) + end_place(last, min, max);
-    let code = ACTIONS[i];
     Action {
         paint: code % 2 == 1,
         before: code / 2 % 2 == 1,
         after: code / 4 % 2 == 1,
         next: code / 8 == 1,
     }
+}
+
+// Most segments lie before the span or after it. One comparison tells their entry, so that no place in the table is
+// computed for them.
+pub fn action_for(first: u16, last: u16, min: u16, max: u16) -> Action
+    requires { ⌜ (first ≤ last) × (min ≤ max) ⌝ }
+    ensures { λ r. ⌜ Acts first last min max (r .paint) (r .before) (r .after) (r .next) ⌝ }
+{
+    if max < first {
+        return decoded(ACTIONS[POSITION_8]);
+    }
+    if last < min {
+        return decoded(ACTIONS[POSITION_1]);
+    }
+    let i = 4 * start_place(first, min, max) + end_place(last, min, max);
+    decoded(ACTIONS[i])
 }
