@@ -1,11 +1,11 @@
--- The edges of a patch by the corner that they begin at, and the corners of a patch in hand.
+-- The edges of a patch by the corner that they begin at.
 use mathlib.Core.Path.{_≡_, refl, sym, _∙_, ap, subst}
 use mathlib.Core.Bool.{Bool, true, false, cond, _&&_}
 use mathlib.Core.List.{List, [], _∷_, _++_, map, map-map}
 use Prim.Native.Nat.{ℕ, zero, suc, _+_, _≤_, _<_}
 use native.Mathlib.Omega.{arith}
 use native.Mathlib.Numerals.{add-one}
-use lib.Dec.{T, ltb, leb→le, lit<}
+use lib.Dec.{ltb, lit<}
 use borrow.Author.Tests.{ltb-true, ltb-false, lt-ltb, le-ltb}
 use lib.IntN.{ℤ}
 use lib.ListN.{length, getD, take, drop, drop-of-length-le}
@@ -16,20 +16,14 @@ use Rattle.integer.specs.Magnitude.{Within, signOf}
 use Rattle.integer.proofs.Magnitude.{within-stored}
 use Rattle.model.specs.Lists.{range}
 use Rattle.model.specs.Vector.{Vec, origin, minus, dot, cross, times, planeNormal}
-use Rattle.model.specs.Patch as model
-use Rattle.model.specs.Patch.{round, firstEdge, edges}
+use Rattle.model.specs.Patch.{Patch, round, firstEdge, edges}
 use Rattle.model.specs.Ray.{eyeProduct, edgeVector}
-use Rattle.model.specs.Questions.{inRange, pointInRange}
-use Rattle.model.proofs.Tests.{both}
 use Rattle.geometry.specs.declared.Vector.{Vector}
-use Rattle.geometry.specs.Machine.{vecOf, planeOf, Bounded, VectorIs, NumberIs}
-use Rattle.format.specs.declared.patch.Patch.{Patch}
-use Rattle.format.specs.Patch.{cornerOf, patchOf}
+use Rattle.geometry.specs.Machine.{vecOf, planeOf, NumberIs}
 use Rattle.format.proofs.Tables.{length-table, table-at}
 use Rattle.spans.specs.Row.{orientedEdges, nextCorner}
 use Rattle.spans.proofs.Orientation.{sign-within}
-use Rattle.walk.proofs.SceneNodes.{point-bounded}
-use Rattle.painting.specs.EdgeVectors.{InHand, EyeSign, edgeNumbered}
+use Rattle.painting.specs.EdgeVectors.{EyeSign, edgeNumbered}
 
 -- ---- the edge that begins at corner i
 module _ (cs : List Vec) (i : ℕ) (h : i < length cs) where
@@ -59,7 +53,7 @@ module _ (cs : List Vec) (i : ℕ) (h : i < length cs) where
       ends (suc j) l = ap (λ (l : List Vec). firstEdge (getD cs i origin ∷ take (suc j) l) .to) (drop-cons cs 0 origin (omega arith))
 
 -- ---- the edge vectors: as many as corners, each of the edge from its corner
-module _ (eye : Vec) (p : model.Patch) where
+module _ (eye : Vec) (p : Patch) where
   abbrev fromCorner : ℕ → Vec
   fromCorner k = times (signOf (eyeProduct eye p)) (edgeVector eye (firstEdge (round (p .corners) k)))
 
@@ -73,48 +67,13 @@ module _ (eye : Vec) (p : model.Patch) where
   pub oriented-at : (i : ℕ) → i < length (p .corners) → edgeNumbered eye p i ≡ fromCorner i
   oriented-at i h = ap (λ (l : List Vec). getD l i origin) oriented-table ∙ table-at fromCorner (length (p .corners)) i origin h
 
-module _ (p : Patch) where
-  pub hand-count : length (patchOf p .corners) ≡ p .count
-  hand-count = length-table (cornerOf p) 0 (p .count)
-
-  pub hand-corner : (k : ℕ) → k < p .count → getD (patchOf p .corners) k origin ≡ cornerOf p k
-  hand-corner k h = table-at (cornerOf p) (p .count) k origin h
-
-module _ {p : Patch} (h : InHand p) where
-  pub corner-bounded : {k : ℕ} {v : Vector} → k < p .count → vecOf v ≡ cornerOf p k → Bounded 10000 v
-  corner-bounded {k} {v} b e = point-bounded v (subst (λ (c : Vec). T (pointInRange c)) (sym e) (h .in-range k b))
-
-  -- the corner at the next place is the edge's end
-  pub ends-at : {i : ℕ} {v : Vector} → i < p .count → vecOf v ≡ cornerOf p (nextCorner (p .count) i) → VectorIs 10000 (firstEdge (round (patchOf p .corners) i) .to) v
-  ends-at {i} {v} b = go (ltb (suc i) (p .count)) refl
-    where
-      go :
-          (t : Bool) → ltb (suc i) (p .count) ≡ t → vecOf v ≡ cornerOf p (cond t (suc i) 0) →
-          VectorIs 10000 (firstEdge (round (patchOf p .corners) i) .to) v
-      go true t e =
-          let k : suc i < p .count = ltb-true (suc i) (p .count) t in
-          record {
-            value =
-                e ∙ sym (hand-corner p (suc i) k)
-                ∙ sym (edge-to-next (patchOf p .corners) i (omega (arith, hand-count p)) (omega (arith, hand-count p)));
-            bounded = corner-bounded k e;
-          }
-      go false t e =
-          let k : p .count ≤ suc i = ltb-false (suc i) (p .count) t in
-          let some : 0 < p .count = omega (arith, h .three) in
-          record {
-            value =
-                e ∙ sym (hand-corner p 0 some)
-                ∙ sym (edge-to-first (patchOf p .corners) i (omega (arith, hand-count p)) (omega (arith, hand-count p, h .three)) (omega (arith, hand-count p)));
-            bounded = corner-bounded some e;
-          }
-
--- and, but for the last edge, where the next edge begins
-pub ends-begins : (p : Patch) (i : ℕ) {w : Vec} → w ≡ firstEdge (round (patchOf p .corners) i) .to → i + 1 < p .count → w ≡ cornerOf p (i + 1)
-ends-begins p i e k =
-    e ∙ edge-to-next (patchOf p .corners) i (omega (arith, hand-count p)) (omega (arith, hand-count p))
-    ∙ ap (λ (m : ℕ). getD (patchOf p .corners) m origin) (sym (add-one i))
-    ∙ hand-corner p (i + 1) k
+-- ---- the corner at the next place is the edge's end
+pub next-end : (cs : List Vec) (i : ℕ) → i < length cs → 1 < length cs → getD cs (nextCorner (length cs) i) origin ≡ firstEdge (round cs i) .to
+next-end cs i h some = go (ltb (suc i) (length cs)) refl
+  where
+    go : (t : Bool) → ltb (suc i) (length cs) ≡ t → getD cs (cond t (suc i) 0) origin ≡ firstEdge (round cs i) .to
+    go true t = sym (edge-to-next cs i h (ltb-true (suc i) (length cs) t))
+    go false t = sym (edge-to-first cs i h some (ltb-false (suc i) (length cs) t))
 
 pub next-further : (n i : ℕ) → i + 1 < n → i + 1 ≡ nextCorner n i
 next-further n i h = rw (lt-ltb (suc i) n (omega arith)) (add-one i)
@@ -132,7 +91,7 @@ next-inside n i h = go (ltb (suc i) n) refl
 -- ---- the sign of the eye product
 module _ {eye : Vec} {p : Patch} {sign : ℤ} (h : EyeSign eye p sign) where
   pub sign-small : Within 1 sign
-  sign-small = subst (Within 1) (sym (h .is)) (sign-within (eyeProduct eye (patchOf p)))
+  sign-small = subst (Within 1) (sym (h .is)) (sign-within (eyeProduct eye p))
 
   -- it passes through a word
   pub sign-passed : EyeSign eye p (toZ w64 (ofZ w64 sign))
@@ -141,43 +100,30 @@ module _ {eye : Vec} {p : Patch} {sign : ℤ} (h : EyeSign eye p sign) where
 -- what is computed from the first three corners is the patch's
 pub sign-made :
     {eye : Vec} {p : Patch} {a b c normal : Vector} {z sign : ℤ} →
-    InHand p →
-    vecOf a ≡ cornerOf p 0 →
-    vecOf b ≡ cornerOf p 1 →
-    vecOf c ≡ cornerOf p 2 →
+    vecOf a ≡ getD (p .corners) 0 origin →
+    vecOf b ≡ getD (p .corners) 1 origin →
+    vecOf c ≡ getD (p .corners) 2 origin →
     vecOf normal ≡ planeNormal (planeOf a b c) →
     NumberIs 48000000000000 (dot (minus (vecOf a) eye) (vecOf normal)) z →
     sign ≡ signOf (toZ w64 (ofZ w64 z)) →
     EyeSign eye p sign
-sign-made {eye} {p} {a} {b} {c} h ea eb ec en ez es =
+sign-made {eye} {a = a} first second third en ez es =
     record {
       is =
           es
           ∙ ap signOf (within-stored w64 (ez .bounded) (lit< tt) ∙ ez .value ∙ ap (dot (minus (vecOf a) eye)) en)
           ∙ (λ t. signOf (dot (minus (first t) eye) (planeNormal (record { a = first t; b = second t; c = third t }))));
     }
-  where
-    place : (k : ℕ) → k < 3 → cornerOf p k ≡ getD (patchOf p .corners) k origin
-    place k l = sym (hand-corner p k (omega (arith, h .three)))
-
-    first : vecOf a ≡ getD (patchOf p .corners) 0 origin
-    first = ea ∙ place 0 (omega arith)
-
-    second : vecOf b ≡ getD (patchOf p .corners) 1 origin
-    second = eb ∙ place 1 (omega arith)
-
-    third : vecOf c ≡ getD (patchOf p .corners) 2 origin
-    third = ec ∙ place 2 (omega arith)
 
 -- and what is computed from an edge's corners is the edge's vector
 pub edge-made :
-    (eye : Vec) {p : Patch} {v w : Vec} {sign : ℤ} {i : ℕ} →
+    (eye : Vec) {p : Patch} {v w : Vec} {sign : ℤ} (i : ℕ) →
     EyeSign eye p sign →
-    i < p .count →
-    v ≡ cornerOf p i →
-    w ≡ firstEdge (round (patchOf p .corners) i) .to →
-    times sign (cross (minus v eye) (minus w eye)) ≡ edgeNumbered eye (patchOf p) i
-edge-made eye {p} {i = i} s b ev ew =
-    let inside : i < length (patchOf p .corners) = omega (arith, hand-count p) in
-    let from = ev ∙ sym (hand-corner p i b) ∙ sym (edge-from (patchOf p .corners) i inside) in
-    (λ t. times (s .is t) (cross (minus (from t) eye) (minus (ew t) eye))) ∙ sym (oriented-at eye (patchOf p) i inside)
+    i < length (p .corners) → 1 < length (p .corners) →
+    v ≡ getD (p .corners) i origin →
+    w ≡ getD (p .corners) (nextCorner (length (p .corners)) i) origin →
+    times sign (cross (minus v eye) (minus w eye)) ≡ edgeNumbered eye p i
+edge-made eye {p} i s h some ev ew =
+    let from = ev ∙ sym (edge-from (p .corners) i h) in
+    let to = ew ∙ next-end (p .corners) i h some in
+    (λ t. times (s .is t) (cross (minus (from t) eye) (minus (to t) eye))) ∙ sym (oriented-at eye p i h)

@@ -12,27 +12,27 @@ use lib.Seq.{take-nil, take-take}
 use borrow.Author.Count.{below-none, below-more}
 use Rattle.model.specs.Lists.{every, range}
 use Rattle.model.specs.Vector.{Vec, origin}
-use Rattle.model.specs.Patch as model
+use Rattle.model.specs.Patch.{Patch}
 use Rattle.model.specs.Format.{Run, NodeRecord, PatchRecord, Scene, decode, inRun, patchNumbered, patchTable}
 use Rattle.model.specs.Questions.{pointInRange, planeInRange, coordinatesInRange, runsFollow, patchRunsFollow, cornerRunsFollow, runsProper}
 use Rattle.model.specs.Patch.{cornersCounted}
 use Rattle.model.proofs.Tests.{both, every-true}
 use Rattle.model.proofs.Ranges.{range-at, getD-member}
+use Rattle.geometry.specs.declared.Vector.{Vector}
+use Rattle.geometry.specs.Machine.{vecOf, Bounded, VectorIs}
 use Rattle.format.specs.declared.layout.Layout.{Layout}
-use Rattle.format.specs.declared.patch.Patch.{Patch}
 use Rattle.format.specs.declared.records.PatchRecord as machine
 use Rattle.format.specs.Machine.{patchRecordOf}
 use Rattle.format.specs.Layout.{patchNumber, cornerNumber}
-use Rattle.format.specs.Patch.{PatchIs, cornerOf, patchOf}
 use Rattle.format.proofs.Tables.{length-table}
 use Rattle.format.proofs.Decoded.{corner-count, corner-at, tablePatch, patch-numbered, patch-corners}
 use Rattle.walk.proofs.Runs.{runEnd}
+use Rattle.walk.proofs.SceneNodes.{point-bounded}
 use Rattle.painting.specs.Painting.{EdgesAt, EdgesOf}
 use Rattle.walk.specs.Walked.{Walkable}
-use Rattle.painting.specs.EdgeVectors.{InHand, Room, Beside, EdgesWritten}
-use Rattle.painting.proofs.EdgePlaces.{hand-count, hand-corner}
+use Rattle.painting.specs.EdgeVectors.{Room, Beside, EdgesWritten}
 
--- ---- a patch in hand
+-- ---- the corners of a patch
 module _ {bytes : List ℕ} {l : Layout} (readable : Walkable bytes l) where
   corner-in-range : (m : ℕ) → m < l .corners → T (pointInRange (cornerNumber bytes l m))
   unfolding coordinatesInRange
@@ -43,52 +43,59 @@ module _ {bytes : List ℕ} {l : Layout} (readable : Walkable bytes l) where
       subst (λ (c : Vec). T (pointInRange c)) (corner-at (readable .laid) m origin h)
       (every-true pointInRange (s .corners) .0 t _ (getD-member (s .corners) m origin inside))
 
-  module _ {k : ℕ} {r : Patch} (h : k < l .patches) (is : PatchIs (patchNumbered (decode bytes) k) r) where
-    abbrev run : Run
-    run = patchNumber bytes l k .cornerRun
+  pub corner-bounded : {m : ℕ} {v : Vector} → m < l .corners → vecOf v ≡ cornerNumber bytes l m → VectorIs 10000 (cornerNumber bytes l m) v
+  corner-bounded {m} {v} h e =
+      record { value = e; bounded = point-bounded v (subst (λ (c : Vec). T (pointInRange c)) (sym e) (corner-in-range m h)) }
 
-    tabled : patchOf r ≡ tablePatch bytes l (patchNumber bytes l k)
-    tabled = is .value ∙ patch-numbered (readable .laid) k h ∙ patch-corners (readable .laid) k (readable .inside .corners k h)
+  pub bounded-corner : {m : ℕ} {v : Vector} → m < l .corners → vecOf v ≡ cornerNumber bytes l m → Bounded 10000 v
+  bounded-corner h e = corner-bounded h e .bounded
 
-    pub run-count : r .count ≡ run .count
-    run-count = sym (hand-count r) ∙ ap (λ (p : model.Patch). length (p .corners)) tabled ∙ length-table (cornerNumber bytes l) (run .first) (run .count)
+  module _ {k : ℕ} (h : k < l .patches) {q : machine.PatchRecord} (e : patchRecordOf q ≡ patchNumber bytes l k) where
+    tabled : patchNumbered (decode bytes) k ≡ tablePatch bytes l (patchNumber bytes l k)
+    tabled = patch-numbered (readable .laid) k h ∙ patch-corners (readable .laid) k (readable .inside .corners k h)
 
-    pub in-hand : InHand r
-    in-hand =
+    -- the run that the machine reads
+    pub run-is : _≡_ {A = Run} (record { first = q .corners .first; count = q .corners .count }) (patchNumber bytes l k .cornerRun)
+    run-is = ap (λ (p : PatchRecord). p .cornerRun) e
+
+    pub run-inside : q .corners .first + q .corners .count ≤ l .corners
+    run-inside = subst (λ (n : Run). n .first + n .count ≤ l .corners) (sym run-is) (readable .inside .corners k h .inside)
+
+    pub run-three : 3 ≤ q .corners .count
+    run-three = subst (λ (n : Run). 3 ≤ n .count) (sym run-is) (readable .inside .three k h)
+
+    pub run-eight : q .corners .count ≤ 8
+    run-eight = subst (λ (n : Run). n .count ≤ 8) (sym run-is) (readable .inside .eight k h)
+
+    corners-are : patchNumbered (decode bytes) k .corners ≡ map (cornerNumber bytes l) (range (q .corners .first) (q .corners .count))
+    corners-are =
+        ap (λ (p : Patch). p .corners) tabled
+        ∙ ap (λ (n : Run). map (cornerNumber bytes l) (range (n .first) (n .count))) (sym run-is)
+
+    pub run-count : length (patchNumbered (decode bytes) k .corners) ≡ q .corners .count
+    run-count = ap length corners-are ∙ length-table (cornerNumber bytes l) (q .corners .first) (q .corners .count)
+
+    pub run-corner : (j : ℕ) → j < q .corners .count → cornerNumber bytes l (q .corners .first + j) ≡ getD (patchNumbered (decode bytes) k .corners) j origin
+    run-corner j b =
+        sym (ap (λ (cs : List Vec). getD cs j origin) corners-are ∙ range-at (cornerNumber bytes l) (q .corners .first) (q .corners .count) j origin b)
+
+    pub first-corner : cornerNumber bytes l (q .corners .first) ≡ getD (patchNumbered (decode bytes) k .corners) 0 origin
+    first-corner = ap (cornerNumber bytes l) (sym (add-zero (q .corners .first))) ∙ run-corner 0 (omega (arith, run-three))
+
+    pub run-room : {xs ys zs : List ℤ} → Room (l .corners) xs ys zs → Room (q .corners .first + q .corners .count) xs ys zs
+    run-room room =
         record {
-          three = is .three;
-          eight = is .eight;
-          in-range = λ j b.
-              subst (λ (c : Vec). T (pointInRange c)) (sym (numbered j b))
-              (corner-in-range (run .first + j) (omega (arith, run-count, readable .inside .corners k h .inside)));
+          x-room = omega (arith, room .x-room, run-inside);
+          y-room = omega (arith, room .y-room, run-inside);
+          z-room = omega (arith, room .z-room, run-inside);
         }
-      where
-        numbered : (j : ℕ) → j < r .count → cornerOf r j ≡ cornerNumber bytes l (run .first + j)
-        numbered j b =
-            sym (hand-corner r j b)
-            ∙ ap (λ (p : model.Patch). getD (p .corners) j origin) tabled
-            ∙ range-at (cornerNumber bytes l) (run .first) (run .count) j origin (omega (arith, run-count))
 
-    module _ {q : machine.PatchRecord} (e : patchRecordOf q ≡ patchNumber bytes l k) where
-      named : _≡_ {A = Run} (record { first = q .corners .first; count = r .count }) run
-      named = λ t. record { first = ap (λ (p : PatchRecord). p .cornerRun .first) e t; count = run-count t }
-
-      pub run-room : {xs ys zs : List ℤ} → Room (l .corners) xs ys zs → Room (q .corners .first + r .count) xs ys zs
-      run-room room =
-          let inside : q .corners .first + r .count ≤ l .corners =
-          subst (λ (n : Run). n .first + n .count ≤ l .corners) (sym named) (readable .inside .corners k h .inside)
-          in
-          record { x-room = omega (arith, room .x-room); y-room = omega (arith, room .y-room); z-room = omega (arith, room .z-room) }
-
-      pub run-written :
-          {eye : Vec} {xs ys zs xs′ ys′ zs′ : List ℤ} →
-          EdgesWritten eye (patchOf r) (record { first = q .corners .first; count = r .count }) xs ys zs xs′ ys′ zs′ →
-          EdgesWritten eye (patchNumbered (decode bytes) k) run xs ys zs xs′ ys′ zs′
-      run-written {eye} {xs} {ys} {zs} {xs′} {ys′} {zs′} w =
-          subst (λ (n : Run). EdgesWritten eye (patchNumbered (decode bytes) k) n xs ys zs xs′ ys′ zs′) named
-          (subst
-          (λ (p : model.Patch). EdgesWritten eye p (record { first = q .corners .first; count = r .count }) xs ys zs xs′ ys′ zs′)
-          (is .value) w)
+    pub run-written :
+        {eye : Vec} {xs ys zs xs′ ys′ zs′ : List ℤ} →
+        EdgesWritten eye (patchNumbered (decode bytes) k) (record { first = q .corners .first; count = q .corners .count }) xs ys zs xs′ ys′ zs′ →
+        EdgesWritten eye (patchNumbered (decode bytes) k) (patchNumber bytes l k .cornerRun) xs ys zs xs′ ys′ zs′
+    run-written {eye} {xs} {ys} {zs} {xs′} {ys′} {zs′} w =
+        subst (λ (n : Run). EdgesWritten eye (patchNumbered (decode bytes) k) n xs ys zs xs′ ys′ zs′) run-is w
 
 -- ---- the runs one after the other
 module _ (end : ℕ) (run : ℕ → Run) where
@@ -157,7 +164,7 @@ part-stays run {later} {xs} {xs′} h k =
     ∙ front-part (run .first) (run .count) (later .first) xs h
 
 edges-stay :
-    {eye : Vec} {p q : model.Patch} {run later : Run} {xs ys zs xs′ ys′ zs′ : List ℤ} →
+    {eye : Vec} {p q : Patch} {run later : Run} {xs ys zs xs′ ys′ zs′ : List ℤ} →
     runEnd run ≤ later .first →
     EdgesWritten eye q later xs ys zs xs′ ys′ zs′ →
     EdgesAt eye p run xs ys zs →

@@ -3,8 +3,8 @@ pub mod FirstShown
 -- the edge vectors of the patches
 pub mod EdgePlaces
 pub mod EdgeWrites
-pub mod EdgeRounds
 pub mod EdgeRuns
+pub mod EdgeRounds
 -- a patch, a row, all rows
 pub mod Columns
 pub mod RunParts

@@ -1,7 +1,8 @@
--- `survey::edges::all_edges` meets its contract: while the loop runs, the vectors of the first k patches stand in the lists.
+-- `painting::edges::all_edges` meets its contract: while the loop runs, the vectors of the first k patches stand in the lists.
 use Prim.Native.Nat.{_-_}
 use native.Mathlib.Omega.{arith}
 use Rattle.geometry.specs.Machine.{vecOf}
+use Rattle.painting.proofs.EdgePlaces.{sign-passed}
 use Rattle.painting.proofs.EdgeRuns.{Begun, begun-none, begun-room, begun-more, begun-all}
 use Rattle.painting.proofs.edges.all_edges.Statement.{statement}
 use Rattle.painting.proofs.edges.all_edges.Tie as tie
@@ -15,24 +16,26 @@ abbrev μ-loop : tie.MeasureT-loop
 loop-holds : tie.Need-loop-holds Inv-loop μ-loop
 loop-holds c = begun-none _ _ _ _ _ _
 
-patch-edges-requires : tie.Need-patch-edges-requires Inv-loop μ-loop
-patch-edges-requires c κs =
-    let a = c .before .before .before .before in
-    let s = a .before .before in
-    (s .pre .0, c .before .before .before .loop-test .taken, s .pre .1, begun-room (a .loop .inv) (s .pre .2))
+eye-sign-requires : tie.Need-eye-sign-requires Inv-loop μ-loop
+eye-sign-requires c κs = (c .before .before .before .pre .0, c .loop-test .taken, c .before .before .before .pre .1)
+
+write-edges-requires : tie.Need-write-edges-requires Inv-loop μ-loop
+write-edges-requires c κs = (
+  c .before .before .before .before .before .before .before .pre .0,
+  c .before .before .before .before .loop-test .taken,
+  c .before .before .before .before .before .before .before .pre .1,
+  sign-passed (c .before .before .before .eye-sign .ensures),
+  begun-room (c .before .before .before .before .before .loop .inv) (c .before .before .before .before .before .before .before .pre .2),
+)
 
 add-k : tie.Need-add-k Inv-loop μ-loop
-add-k c =
-    let t = c .before .before .before .before .before .before .before in
-    omega (arith, t .loop-test .taken, t .before .before .before .pre .0 .laid .few-patches)
+add-k c = omega (arith, c .before .before .before .before .before .before .before .before .loop-test .taken, c .before .before .before .before .before .before .before .before .before .before .before .pre .0 .laid .few-patches)
 
 loop-less : tie.Need-loop-less Inv-loop μ-loop
-loop-less c = omega (arith, c .before .before .before .before .before .before .before .loop-test .taken)
+loop-less c = omega (arith, c .before .before .before .before .before .before .before .before .loop-test .taken)
 
 loop-again : tie.Need-loop-again Inv-loop μ-loop
-loop-again c =
-    let t = c .before .before .before .before .before .before .before in
-    begun-more (t .before .loop .inv) (t .before .before .before .pre .0) (t .loop-test .taken) (c .before .before .before .patch-edges .ensures)
+loop-again c = begun-more (c .before .before .before .before .before .before .before .before .before .loop .inv) (c .before .before .before .before .before .before .before .before .before .before .before .pre .0) (c .before .before .before .before .before .before .before .before .loop-test .taken) (c .before .before .before .write-edges .ensures)
 
 same-length : tie.Need-same-length Inv-loop μ-loop
 same-length c = c .before .loop .inv .x-long
@@ -53,7 +56,8 @@ all-edges-spec =
     Inv-loop
     μ-loop
     loop-holds
-    patch-edges-requires
+    eye-sign-requires
+    write-edges-requires
     add-k
     loop-less
     loop-again
