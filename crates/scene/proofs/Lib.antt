@@ -10,3 +10,6 @@ pub mod Edges
 pub mod Corners
 pub mod PatchTables
 pub mod Answers
+pub mod Seen
+pub mod Axes
+pub mod Along

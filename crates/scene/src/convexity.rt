@@ -6,18 +6,20 @@ use format::patch::read_patch;
 use geometry::Vector;
 use geometry::plane_normal;
 use geometry::side;
-use geometry::turn;
 ghost use mathlib.Core.Path.{_≡_};
 ghost use mathlib.Core.Bool.{true};
 ghost use Prim.Native.Nat.{_+_, _<_};
-ghost use Rattle.geometry.specs.Machine.{VectorIs};
+ghost use lib.IntN.{_*ℤ_};
+ghost use Rattle.integer.specs.Magnitude.{Within};
+ghost use Rattle.geometry.specs.Machine.{VectorIs, NumberIs};
 ghost use Rattle.format.specs.Layout.{LaidOut, RunsInside};
 ghost use Rattle.format.specs.Patch.{patchOf};
 ghost use Rattle.model.specs.Patch.{normal, flat, strictlyConvex};
 ghost use Rattle.model.specs.Format.{decode};
 ghost use Rattle.model.specs.Questions.{coordinatesInRange, patchesProper};
 ghost use Rattle.scene.specs.Bounds.{PatchBounded};
-ghost use Rattle.scene.specs.Tests.{wrap, turnsAtEdge, patchProper};
+ghost use Rattle.scene.specs.Tests.{wrap, patchProper};
+ghost use Rattle.scene.specs.Seen.{seen, seenOf, seenAt, SeenWithin, ViewBounded, turnPart, turnsSeenAt, convexSeen};
 
 pub fn patch_normal(p: Patch) -> Vector
     requires { ⌜ PatchBounded p ⌝ }
@@ -32,7 +34,8 @@ fn is_flat(p: Patch, n: Vector) -> bool
 {
     let count = p.count;
     let a = corner_of(p, 0);
-    let mut k = 0;
+    // the first three are on their plane
+    let mut k = 3;
     while k < count {
         if side(n, a, corner_of(p, k)) != 0 {
             return false;
@@ -53,19 +56,68 @@ fn wrapped(count: usize, place: usize) -> usize
     place - count
 }
 
-// every other corner is on the inner side of the edge from corner k
-fn turns_at_edge(p: Patch, n: Vector, k: usize) -> bool
-    requires { ⌜ PatchBounded p × VectorIs 800000000 (normal (patchOf p)) n × (k < p .count) ⌝ }
-    ensures { λ r. ⌜ r ≡ turnsAtEdge (patchOf p) k ⌝ }
+// A patch seen along an axis: the part of its normal along the axis, and how many corners it has.
+struct View {
+    part: i64,
+    count: usize,
+}
+
+// a corner seen along an axis: its two other coordinates
+struct Point {
+    u: i64,
+    v: i64,
+}
+
+fn point_of(u: i16, v: i16) -> Point
+    ensures { λ r. ⌜ seenOf r ≡ seen u v ⌝ }
 {
-    let count = p.count;
-    let v = corner_of(p, k);
-    let w = corner_of(p, wrapped(count, k + 1));
+    Point {
+        u: u as i64,
+        v: v as i64,
+    }
+}
+
+fn point_at<'a>(u: &'a [i16; 8], v: &'a [i16; 8], k: usize) -> Point
+    requires { ⌜ k < 8 ⌝ }
+    ensures { λ r. ⌜ seenOf r ≡ seenAt (now (u .entry)) (now (v .entry)) k ⌝ }
+{
+    point_of(u[k], v[k])
+}
+
+// the part of (b − a) × (c − a) along the axis
+fn turn_part(a: Point, b: Point, c: Point) -> i64
+    requires { ⌜ SeenWithin (seenOf a) × SeenWithin (seenOf b) × SeenWithin (seenOf c) ⌝ }
+    ensures { λ r. ⌜ NumberIs 800000000 (turnPart (seenOf a) (seenOf b) (seenOf c)) r ⌝ }
+{
+    integer::cross_part(
+        integer::difference(b.u, a.u),
+        integer::difference(c.v, a.v),
+        integer::difference(b.v, a.v),
+        integer::difference(c.u, a.u),
+    )
+}
+
+// Of corners on one plane it has the sign of n · ((b − a) × (c − a)), if the part of n along the axis is not 0.
+fn turn_along(view: View, a: Point, b: Point, c: Point) -> i64
+    requires { ⌜ Within 800000000 (view .part) × SeenWithin (seenOf a) × SeenWithin (seenOf b) × SeenWithin (seenOf c) ⌝ }
+    ensures { λ r. ⌜ NumberIs 640000000000000000 (view .part *ℤ turnPart (seenOf a) (seenOf b) (seenOf c)) r ⌝ }
+{
+    integer::product(view.part, turn_part(a, b, c))
+}
+
+// every other corner is on the inner side of the edge from corner k
+fn turns_at_edge<'a>(view: View, u: &'a [i16; 8], v: &'a [i16; 8], k: usize) -> bool
+    requires { ⌜ ViewBounded view (now u) (now v) × (k < view .count) ⌝ }
+    ensures { λ r. ⌜ r ≡ turnsSeenAt view (now (u .entry)) (now (v .entry)) k ⌝ }
+{
+    let count = view.count;
+    let a = point_at(u, v, k);
+    let b = point_at(u, v, wrapped(count, k + 1));
     let others = count - 2;
     let mut j = 0;
     while j < others {
-        let q = corner_of(p, wrapped(count, k + 2 + j));
-        if turn(n, v, w, q) <= 0 {
+        let c = point_at(u, v, wrapped(count, k + 2 + j));
+        if turn_along(view, a, b, c) <= 0 {
             return false;
         }
         j += 1;
@@ -73,19 +125,35 @@ fn turns_at_edge(p: Patch, n: Vector, k: usize) -> bool
     true
 }
 
-fn strictly_convex(p: Patch, n: Vector) -> bool
-    requires { ⌜ PatchBounded p × VectorIs 800000000 (normal (patchOf p)) n ⌝ }
-    ensures { λ r. ⌜ r ≡ strictlyConvex (patchOf p) ⌝ }
+// strictly convex, as it is seen along an axis
+fn convex_along<'a>(view: View, u: &'a [i16; 8], v: &'a [i16; 8]) -> bool
+    requires { ⌜ ViewBounded view (now u) (now v) ⌝ }
+    ensures { λ r. ⌜ r ≡ convexSeen view (now (u .entry)) (now (v .entry)) ⌝ }
 {
-    let count = p.count;
+    let count = view.count;
     let mut k = 0;
     while k < count {
-        if !turns_at_edge(p, n, k) {
+        if !turns_at_edge(view, u, v, k) {
             return false;
         }
         k += 1;
     }
     true
+}
+
+// seen along the first axis that the plane is not parallel to
+fn strictly_convex(p: Patch, n: Vector) -> bool
+    requires { ⌜ PatchBounded p × VectorIs 800000000 (normal (patchOf p)) n × (flat (patchOf p) ≡ true) ⌝ }
+    ensures { λ r. ⌜ r ≡ strictlyConvex (patchOf p) ⌝ }
+{
+    let count = p.count;
+    if n.x != 0 {
+        return convex_along(View { part: n.x, count }, &p.y, &p.z);
+    }
+    if n.y != 0 {
+        return convex_along(View { part: n.y, count }, &p.z, &p.x);
+    }
+    convex_along(View { part: n.z, count }, &p.x, &p.y)
 }
 
 fn patch_proper(p: Patch) -> bool
