@@ -1,7 +1,7 @@
 -- A flat patch in hand is strictly convex exactly if it is seen to be, along an axis that shows its plane.
 use mathlib.Core.Path.{_≡_, refl, sym, ap, _∙_, subst}
 use mathlib.Core.Logic.{_≢_}
-use mathlib.Core.Bool.{true, true≢false}
+use mathlib.Core.Bool.{Bool, true, true≢false}
 use mathlib.Core.List.{List}
 use Prim.Native.Nat.{ℕ, zero, suc, _+_, _-_, _<_}
 use native.Mathlib.Omega.{arith}
@@ -20,13 +20,14 @@ use Rattle.format.specs.declared.patch.Patch.{Patch}
 use Rattle.format.specs.Patch.{cornerOf, patchOf}
 use Rattle.scene.specs.Bounds.{VecWithin, PatchBounded}
 use Rattle.scene.specs.Tests.{wrap}
-use Rattle.scene.specs.Seen.{seenAt, SeenWithin, ViewBounded, turnsSeen, convexSeen}
+use Rattle.scene.specs.Seen.{Seen, seenAt, SeenWithin, ViewBounded, turnsSeen, convexSeen}
 use Rattle.scene.specs.declared.convexity.View.{View}
-use Rattle.scene.proofs.Loops.{each, same-every}
+use Rattle.scene.proofs.Loops.{each, agree}
 use Rattle.scene.proofs.OffOneLine.{zero-word}
 use Rattle.scene.proofs.Edges.{wrap-below}
 use Rattle.scene.proofs.Corners.{turnAt, corner-within-in, flat-asked, convex-asked, turns-asked}
-use Rattle.scene.proofs.Seen.{turnSeenAt, convex-seen-asked, turns-seen-asked}
+use Rattle.scene.proofs.Seen.{turnSeenAt, turned-seen, convex-seen-asked, turns-seen-asked}
+use Rattle.scene.proofs.Asked.{asked-others, all-others}
 use Rattle.scene.proofs.Axes.{Axis, x-axis, y-axis, z-axis, along, across, Shown, slanted, no-plane, turns-as-seen}
 
 -- ---- the coordinates across an axis
@@ -113,6 +114,26 @@ module _ {p : Patch} {n : Vector} (b : PatchBounded p) (en : VectorIs 800000000 
           shown
 
       pub convex-as-seen : convexSeen (viewed a p n) (firsts a p) (seconds a p) ≡ strictlyConvex (patchOf p)
-      convex-as-seen =
-          same-every (convex-seen-asked view-bounded) (convex-asked b)
-          (λ k h. same-every (turns-seen-asked view-bounded h) (turns-asked b h) (λ j l. same-turn h l))
+      convex-as-seen = agree forth back
+        where
+          place : ℕ → Seen
+          place k = seenAt (firsts a p) (seconds a p) k
+
+          turn : ℕ → ℕ → ℕ → Bool
+          turn i j k = turnsSeen (viewed a p n .part) (place i) (place j) (place k)
+
+          forth : convexSeen (viewed a p n) (firsts a p) (seconds a p) ≡ true → strictlyConvex (patchOf p) ≡ true
+          forth t =
+              convex-asked b .all-yes
+              (λ k h. turns-asked b h .all-yes
+              (λ j l. sym (same-turn h l)
+              ∙ all-others turn (λ i j k. turned-seen (viewed a p n .part) (place i) (place j) (place k)) (p .count)
+              (λ k h j l. each (turns-seen-asked view-bounded h) (each (convex-seen-asked view-bounded) t k h) j l) k h j l))
+
+          back : strictlyConvex (patchOf p) ≡ true → convexSeen (viewed a p n) (firsts a p) (seconds a p) ≡ true
+          back t =
+              convex-seen-asked view-bounded .all-yes
+              (λ k h. turns-seen-asked view-bounded h .all-yes
+              (λ j l.
+              let m = asked-others (b .three) l in
+              same-turn h m ∙ each (turns-asked b h) (each (convex-asked b) t k h) j m))

@@ -11,5 +11,6 @@ pub mod Corners
 pub mod PatchTables
 pub mod Answers
 pub mod Seen
+pub mod Asked
 pub mod Axes
 pub mod Along

@@ -43,19 +43,14 @@ each {n} {test} {whole} is t k h = go (test k) refl
     go true e = refl
     go false e = sym (is .one-no k h e) ∙ t
 
--- tests that agree on each entry agree as a whole
-pub same-every :
-    {n : ℕ} {test test′ : ℕ → Bool} {whole whole′ : Bool} →
-    IsEvery n test whole →
-    IsEvery n test′ whole′ →
-    ((k : ℕ) → k < n → test k ≡ test′ k) →
-    whole ≡ whole′
-same-every {n} {test} {test′} {whole} {whole′} is is′ same = go whole whole′ refl refl
+-- tests that pass together are equal
+pub agree : {a b : Bool} → (a ≡ true → b ≡ true) → (b ≡ true → a ≡ true) → a ≡ b
+agree {a} {b} f g = go a b refl refl
   where
-    go : (t t′ : Bool) → whole ≡ t → whole′ ≡ t′ → whole ≡ whole′
-    go true t′ e f = e ∙ sym (is′ .all-yes (λ k h. sym (same k h) ∙ each is e k h))
-    go false true e f = is .all-yes (λ k h. same k h ∙ each is′ f k h) ∙ sym f
-    go false false e f = e ∙ sym f
+    go : (s t : Bool) → a ≡ s → b ≡ t → a ≡ b
+    go true t d e = d ∙ sym (f d)
+    go false true d e = g e ∙ sym e
+    go false false d e = d ∙ sym e
 
 -- ---- the loop
 -- the first k of n entries have passed

@@ -1,7 +1,8 @@
 -- Question 8 seen along an axis: each corner by its two other coordinates.
-use mathlib.Core.Bool.{Bool}
+use mathlib.Core.Bool.{Bool, cond}
 use mathlib.Core.List.{List, map}
 use Prim.Native.Nat.{ℕ, _+_, _-_, _≤_, _<_}
+use lib.Dec.{leb}
 use lib.IntN.{ℤ, pos, _-ℤ_, _*ℤ_}
 use lib.ListN.{getD}
 use lib.Signed.{ltZ}
@@ -46,11 +47,15 @@ turnPart a b c = (b .u -ℤ a .u) *ℤ (c .v -ℤ a .v) -ℤ (b .v -ℤ a .v) *�
 abbrev pub turnsSeen : ℤ → Seen → Seen → Seen → Bool
 turnsSeen part a b c = ltZ (pos 0) (part *ℤ turnPart a b c)
 
--- the edge from corner k has every other corner on its inner side
+-- how many corners after an edge are asked: of 3 or 4 corners the next one
+unfoldable pub asked : ℕ → ℕ
+asked count = cond (leb count 4) 1 (count - 2)
+
+-- the edge from corner k has the corners asked on its inner side
 abbrev pub turnsSeenAt : View → List ℤ → List ℤ → ℕ → Bool
 turnsSeenAt view us vs k =
     every (turnsSeen (view .part) (seenAt us vs k) (seenAt us vs (wrap (view .count) (k + 1))))
-    (map (λ (j : ℕ). seenAt us vs (wrap (view .count) (k + 2 + j))) (range 0 (view .count - 2)))
+    (map (λ (j : ℕ). seenAt us vs (wrap (view .count) (k + 2 + j))) (range 0 (asked (view .count))))
 
 abbrev pub convexSeen : View → List ℤ → List ℤ → Bool
 convexSeen view us vs = every (λ (t : Bool). t) (map (turnsSeenAt view us vs) (range 0 (view .count)))

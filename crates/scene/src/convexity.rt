@@ -8,7 +8,7 @@ use geometry::plane_normal;
 use geometry::side;
 ghost use mathlib.Core.Path.{_≡_};
 ghost use mathlib.Core.Bool.{true};
-ghost use Prim.Native.Nat.{_+_, _<_};
+ghost use Prim.Native.Nat.{_+_, _≤_, _<_};
 ghost use lib.IntN.{_*ℤ_};
 ghost use Rattle.integer.specs.Magnitude.{Within};
 ghost use Rattle.geometry.specs.Machine.{VectorIs, NumberIs};
@@ -19,7 +19,7 @@ ghost use Rattle.model.specs.Format.{decode};
 ghost use Rattle.model.specs.Questions.{coordinatesInRange, patchesProper};
 ghost use Rattle.scene.specs.Bounds.{PatchBounded};
 ghost use Rattle.scene.specs.Tests.{wrap, patchProper};
-ghost use Rattle.scene.specs.Seen.{seen, seenOf, seenAt, SeenWithin, ViewBounded, turnPart, turnsSeenAt, convexSeen};
+ghost use Rattle.scene.specs.Seen.{seen, seenOf, seenAt, SeenWithin, ViewBounded, turnPart, asked, turnsSeenAt, convexSeen};
 
 pub fn patch_normal(p: Patch) -> Vector
     requires { ⌜ PatchBounded p ⌝ }
@@ -105,7 +105,18 @@ fn turn_along(view: View, a: Point, b: Point, c: Point) -> i64
     integer::product(view.part, turn_part(a, b, c))
 }
 
-// every other corner is on the inner side of the edge from corner k
+// How many corners after an edge are asked. With up to 4 corners the next one is enough: the turn to the last corner is that of the edge before.
+fn asked_corners(count: usize) -> usize
+    requires { ⌜ 3 ≤ count ⌝ }
+    ensures { λ r. ⌜ (r ≡ asked count) × (r + 2 ≤ count) ⌝ }
+{
+    if count <= 4 {
+        return 1;
+    }
+    count - 2
+}
+
+// the corners asked are on the inner side of the edge from corner k
 fn turns_at_edge<'a>(view: View, u: &'a [i16; 8], v: &'a [i16; 8], k: usize) -> bool
     requires { ⌜ ViewBounded view (now u) (now v) × (k < view .count) ⌝ }
     ensures { λ r. ⌜ r ≡ turnsSeenAt view (now (u .entry)) (now (v .entry)) k ⌝ }
@@ -113,7 +124,7 @@ fn turns_at_edge<'a>(view: View, u: &'a [i16; 8], v: &'a [i16; 8], k: usize) -> 
     let count = view.count;
     let a = point_at(u, v, k);
     let b = point_at(u, v, wrapped(count, k + 1));
-    let others = count - 2;
+    let others = asked_corners(count);
     let mut j = 0;
     while j < others {
         let c = point_at(u, v, wrapped(count, k + 2 + j));

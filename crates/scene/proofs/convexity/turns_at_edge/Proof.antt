@@ -4,13 +4,14 @@ use native.Mathlib.Omega.{arith}
 use borrow.Author.Needs.{needs}
 use Rattle.integer.proofs.Order.{<→≤}
 use Rattle.integer.proofs.Comparison.{comparisons}
+use Rattle.scene.specs.Seen.{asked}
 use Rattle.scene.proofs.Loops.{Passed, none-passed, one-passed, refused, accepted}
 use Rattle.scene.proofs.Seen.{turnSeenAt, point-bounded, turns-seen-asked, turns-away, turns-in}
 use Rattle.scene.proofs.convexity.turns_at_edge.Statement.{statement}
 use Rattle.scene.proofs.convexity.turns_at_edge.Tie as tie
 
 abbrev Inv-loop : tie.InvT-loop
-Inv-loop view u v k count a b others j₀ j = Passed (view .count - 2) (turnSeenAt view u v k) j
+Inv-loop view u v k count a b others j₀ j = Passed (asked (view .count)) (turnSeenAt view u v k) j
 
 abbrev μ-loop : tie.MeasureT-loop
 μ-loop view u v k count a b others j₀ j = others - j
@@ -27,27 +28,29 @@ wrapped-requires c κs = omega (arith, c .before .pre .0)
 point-at-requires-2 : tie.Need-point-at-requires-2 Inv-loop μ-loop
 point-at-requires-2 c κs = omega (arith, c .before .before .pre .0, c .wrapped .ensures .1)
 
-sub-others : tie.Need-sub-others Inv-loop μ-loop
-sub-others c = omega (arith, c .before .before .before .pre .0)
+asked-corners-requires : tie.Need-asked-corners-requires Inv-loop μ-loop
+asked-corners-requires c κs = c .before .before .before .pre .0 .three
 
 loop-holds : tie.Need-loop-holds Inv-loop μ-loop
 loop-holds c = none-passed _ _
 
 add-wrapped-2 : tie.Need-add-wrapped-2 Inv-loop μ-loop
-add-wrapped-2 c = omega (arith, c .before .before .before .before .before .pre)
+add-wrapped-2 c = omega (arith, c .before .before .before .before .before .before .pre, c .before .before .asked-corners .ensures .1)
 
 add-wrapped-3 : tie.Need-add-wrapped-3 Inv-loop μ-loop
-add-wrapped-3 c = omega (arith, c .before .before .before .before .before .pre)
+add-wrapped-3 c = omega (arith, c .before .before .before .before .before .before .pre, c .before .before .asked-corners .ensures .1)
 
 wrapped-requires-2 : tie.Need-wrapped-requires-2 Inv-loop μ-loop
-wrapped-requires-2 c κs = omega (arith, c .before .before .before .before .before .pre)
+wrapped-requires-2 c κs =
+    omega (arith, c .before .before .before .before .before .before .pre, c .before .before .asked-corners .ensures .1)
 
 point-at-requires-3 : tie.Need-point-at-requires-3 Inv-loop μ-loop
-point-at-requires-3 c κs = omega (arith, c .before .before .before .before .before .before .pre .0, c .wrapped2 .ensures .1)
+point-at-requires-3 c κs =
+    omega (arith, c .before .before .before .before .before .before .before .pre .0, c .wrapped2 .ensures .1)
 
 turn-along-requires : tie.Need-turn-along-requires Inv-loop μ-loop
 turn-along-requires c κs =
-    let e = c .before .before .before .before in
+    let e = c .before .before .before .before .before in
     let s = e .before .before .before in (
       s .pre .0 .part-within,
       point-bounded (s .pre .0) (s .pre .1) (e .before .before .point-at .ensures),
@@ -58,9 +61,10 @@ turn-along-requires c κs =
 returns : tie.Need-returns Inv-loop μ-loop
 returns c =
     let d = c .before .before in
-    let e = d .before .before .before .before in
+    let a = d .before .before .before .before in
+    let e = a .before in
     let s = e .before .before .before in
-    refused (turns-seen-asked (s .pre .0) (s .pre .1)) (d .before .before .loop-test .taken)
+    refused (turns-seen-asked (s .pre .0) (s .pre .1)) (omega (arith, d .before .before .loop-test .taken, a .asked-corners .ensures .0))
     (sym (turns-away (s .pre .0) (s .pre .1) _ (e .before .before .point-at .ensures)
     (e .before .wrapped .ensures .0) (e .point-at2 .ensures) (d .before .wrapped2 .ensures .0) (d .point-at3 .ensures)
     (c .before .turn-along .ensures) (search (comparisons, <→≤)))) refl
@@ -68,17 +72,19 @@ returns c =
 loop-again : tie.Need-loop-again Inv-loop μ-loop
 loop-again c =
     let d = c .before .before in
-    let e = d .before .before .before .before in
+    let a = d .before .before .before .before in
+    let e = a .before in
     let s = e .before .before .before in
-    one-passed (d .before .before .before .loop .inv) (d .before .before .loop-test .taken)
+    one-passed (d .before .before .before .loop .inv) (omega (arith, d .before .before .loop-test .taken, a .asked-corners .ensures .0))
     (sym (turns-in (s .pre .0) (s .pre .1) _ (e .before .before .point-at .ensures)
     (e .before .wrapped .ensures .0) (e .point-at2 .ensures) (d .before .wrapped2 .ensures .0) (d .point-at3 .ensures)
     (c .before .turn-along .ensures) (search comparisons))) refl
 
 returns-2 : tie.Need-returns-2 Inv-loop μ-loop
 returns-2 c =
-    let s = c .before .before .before .before .before in
-    accepted (turns-seen-asked (s .pre .0) (s .pre .1)) (c .before .loop .inv) (c .loop-test .left)
+    let a = c .before .before in
+    let s = a .before .before .before .before in
+    accepted (turns-seen-asked (s .pre .0) (s .pre .1)) (c .before .loop .inv) (omega (arith, c .loop-test .left, a .asked-corners .ensures .0))
 
 pub turns-at-edge-spec : {M : Type 1} → statement M
 turns-at-edge-spec =
@@ -90,7 +96,7 @@ turns-at-edge-spec =
     add-wrapped
     wrapped-requires
     point-at-requires-2
-    sub-others
+    asked-corners-requires
     loop-holds
     add-wrapped-2
     add-wrapped-3
