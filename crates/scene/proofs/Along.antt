@@ -21,7 +21,7 @@ use Rattle.format.specs.Patch.{cornerOf, patchOf}
 use Rattle.scene.specs.Bounds.{VecWithin, PatchBounded}
 use Rattle.scene.specs.Tests.{wrap}
 use Rattle.scene.specs.Seen.{Seen, seenAt, SeenWithin, ViewBounded, turnsSeen, convexSeen}
-use Rattle.scene.specs.declared.convexity.View.{View}
+use Rattle.scene.specs.declared.view.View.{View}
 use Rattle.scene.proofs.Loops.{each, agree}
 use Rattle.scene.proofs.OffOneLine.{zero-word}
 use Rattle.scene.proofs.Edges.{wrap-below}

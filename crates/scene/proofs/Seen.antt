@@ -8,8 +8,8 @@ use lib.Signed.{ltZ, _<ℤ_, _≤ℤ_}
 use Rattle.integer.proofs.Identity.{ring, reify}
 use Rattle.integer.proofs.Order.{lt-ltZ, le-ltZ}
 use Rattle.geometry.specs.Machine.{NumberIs}
-use Rattle.scene.specs.declared.convexity.Point.{Point}
-use Rattle.scene.specs.declared.convexity.View.{View}
+use Rattle.scene.specs.declared.view.Point.{Point}
+use Rattle.scene.specs.declared.view.View.{View}
 use Rattle.scene.specs.Tests.{wrap}
 use Rattle.scene.specs.Seen.{Seen, seen, seenOf, seenAt, SeenWithin, ViewBounded, turnPart, asked, turnsSeen, turnsSeenAt, convexSeen}
 use Rattle.scene.proofs.Loops.{IsEvery, every-entry}

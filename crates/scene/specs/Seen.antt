@@ -8,8 +8,8 @@ use lib.ListN.{getD}
 use lib.Signed.{ltZ}
 use Rattle.integer.specs.Magnitude.{Within}
 use Rattle.model.specs.Lists.{every, range}
-use Rattle.scene.specs.declared.convexity.Point.{Point}
-use Rattle.scene.specs.declared.convexity.View.{View}
+use Rattle.scene.specs.declared.view.Point.{Point}
+use Rattle.scene.specs.declared.view.View.{View}
 use Rattle.scene.specs.Tests.{wrap}
 
 pub record Seen : Type 0 where

@@ -3,8 +3,8 @@ use mir.Syntax.{w16}
 use mir.ValLaws.{toZ-ofZ}
 use borrow.Author.Needs.{needs}
 use Rattle.scene.proofs.Seen.{seen-made}
-use Rattle.scene.proofs.convexity.point_at.Statement.{statement}
-use Rattle.scene.proofs.convexity.point_at.Tie as tie
+use Rattle.scene.proofs.view.point_at.Statement.{statement}
+use Rattle.scene.proofs.view.point_at.Tie as tie
 
 returns : tie.Need-returns
 returns c =

@@ -2,8 +2,8 @@ use mathlib.Core.Path.{refl}
 use mir.Syntax.{w64}
 use Rattle.integer.proofs.Machine.{machine, result, room}
 use Rattle.geometry.proofs.Results.{number}
-use Rattle.scene.proofs.convexity.turn_part.Statement.{statement}
-use Rattle.scene.proofs.convexity.turn_part.Tie as tie
+use Rattle.scene.proofs.view.turn_part.Statement.{statement}
+use Rattle.scene.proofs.view.turn_part.Tie as tie
 
 pub turn-part-spec : {M : Type 1} → statement M
 turn-part-spec =

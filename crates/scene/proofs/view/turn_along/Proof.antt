@@ -4,8 +4,8 @@ use lib.IntN.{_*ℤ_}
 use borrow.Author.Needs.{needs}
 use Rattle.integer.proofs.Machine.{machine, result, room}
 use Rattle.geometry.proofs.Results.{number}
-use Rattle.scene.proofs.convexity.turn_along.Statement.{statement}
-use Rattle.scene.proofs.convexity.turn_along.Tie as tie
+use Rattle.scene.proofs.view.turn_along.Statement.{statement}
+use Rattle.scene.proofs.view.turn_along.Tie as tie
 
 pub turn-along-spec : {M : Type 1} → statement M
 turn-along-spec =

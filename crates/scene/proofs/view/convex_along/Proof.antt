@@ -4,8 +4,8 @@ use borrow.Author.Tests.{not-true, not-false}
 use Rattle.scene.specs.Seen.{turnsSeenAt}
 use Rattle.scene.proofs.Loops.{Passed, none-passed, one-passed, refused, accepted}
 use Rattle.scene.proofs.Seen.{convex-seen-asked}
-use Rattle.scene.proofs.convexity.convex_along.Statement.{statement}
-use Rattle.scene.proofs.convexity.convex_along.Tie as tie
+use Rattle.scene.proofs.view.convex_along.Statement.{statement}
+use Rattle.scene.proofs.view.convex_along.Tie as tie
 
 abbrev Inv-loop : tie.InvT-loop
 Inv-loop view u v count k₀ k = Passed (view .count) (turnsSeenAt view u v) k

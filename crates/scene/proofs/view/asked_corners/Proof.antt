@@ -1,8 +1,8 @@
 use native.Mathlib.Omega.{arith}
 use borrow.Author.Needs.{needs}
 use Rattle.scene.proofs.Asked.{next-asked, all-asked}
-use Rattle.scene.proofs.convexity.asked_corners.Statement.{statement}
-use Rattle.scene.proofs.convexity.asked_corners.Tie as tie
+use Rattle.scene.proofs.view.asked_corners.Statement.{statement}
+use Rattle.scene.proofs.view.asked_corners.Tie as tie
 
 returns : tie.Need-returns
 returns c = (next-asked (c .if1 .taken), omega (arith, c .before .pre))

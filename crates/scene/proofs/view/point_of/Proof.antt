@@ -2,8 +2,8 @@ use mathlib.Core.Path.{refl}
 use mir.Syntax.{w64}
 use Rattle.integer.proofs.Machine.{machine, casts, no-overflow, exact}
 use Rattle.scene.proofs.Seen.{seen-made}
-use Rattle.scene.proofs.convexity.point_of.Statement.{statement}
-use Rattle.scene.proofs.convexity.point_of.Tie as tie
+use Rattle.scene.proofs.view.point_of.Statement.{statement}
+use Rattle.scene.proofs.view.point_of.Tie as tie
 
 returns : tie.Need-returns
 returns c =

@@ -7,8 +7,8 @@ use Rattle.integer.proofs.Comparison.{comparisons}
 use Rattle.scene.specs.Seen.{asked}
 use Rattle.scene.proofs.Loops.{Passed, none-passed, one-passed, refused, accepted}
 use Rattle.scene.proofs.Seen.{turnSeenAt, point-bounded, turns-seen-asked, turns-away, turns-in}
-use Rattle.scene.proofs.convexity.turns_at_edge.Statement.{statement}
-use Rattle.scene.proofs.convexity.turns_at_edge.Tie as tie
+use Rattle.scene.proofs.view.turns_at_edge.Statement.{statement}
+use Rattle.scene.proofs.view.turns_at_edge.Tie as tie
 
 abbrev Inv-loop : tie.InvT-loop
 Inv-loop view u v k count a b others j₀ j = Passed (asked (view .count)) (turnSeenAt view u v k) j
