@@ -1,18 +1,16 @@
 -- A flat patch in hand is strictly convex exactly if it is seen to be, along an axis that shows its plane.
 use mathlib.Core.Path.{_≡_, refl, sym, ap, _∙_, subst}
-use mathlib.Core.Logic.{_≢_}
 use mathlib.Core.Bool.{Bool, true, true≢false}
 use mathlib.Core.List.{List}
 use Prim.Native.Nat.{ℕ, zero, suc, _+_, _-_, _<_}
 use native.Mathlib.Omega.{arith}
 use lib.Dec.{lit<}
 use lib.IntN.{ℤ, pos, negsuc, ℤ-discrete}
-use lib.Signed.{ltZ}
 use mir.Syntax.{w64}
 use mir.Val.{toZ, ofZ}
 use Rattle.integer.specs.Magnitude.{Within}
 use Rattle.integer.proofs.Magnitude.{within-stored}
-use Rattle.model.specs.Vector.{Vec, origin, isZero, side}
+use Rattle.model.specs.Vector.{Vec, isZero, side}
 use Rattle.model.specs.Patch.{patchPlane, normal, flat, strictlyConvex}
 use Rattle.geometry.specs.declared.Vector.{Vector}
 use Rattle.geometry.specs.Machine.{vecOf, Bounded, VectorIs}
@@ -31,12 +29,12 @@ use Rattle.scene.proofs.Asked.{asked-others, all-others}
 use Rattle.scene.proofs.Axes.{Axis, x-axis, y-axis, z-axis, along, across, Shown, slanted, no-plane, turns-as-seen}
 
 -- ---- the coordinates across an axis
-abbrev pub firsts : Axis → Patch → List ℤ
+abbrev firsts : Axis → Patch → List ℤ
 firsts x-axis p = p .y
 firsts y-axis p = p .z
 firsts z-axis p = p .x
 
-abbrev pub seconds : Axis → Patch → List ℤ
+abbrev seconds : Axis → Patch → List ℤ
 seconds x-axis p = p .z
 seconds y-axis p = p .x
 seconds z-axis p = p .y
@@ -66,7 +64,7 @@ zero-only (pos (suc n)) t = absurd (true≢false (sym t))
 zero-only (negsuc n) t = absurd (true≢false (sym t))
 
 -- what the code looks at, seen along the axis
-abbrev pub viewed : Axis → Patch → Vector → View
+abbrev viewed : Axis → Patch → Vector → View
 viewed a p n = record { part = toZ w64 (ofZ w64 (along a (vecOf n))); count = p .count }
 
 module _ {p : Patch} {n : Vector} (b : PatchBounded p) (en : VectorIs 800000000 (normal (patchOf p)) n) where
