@@ -73,15 +73,6 @@ pub fn edge_vector(eye: Vector, v: Vector, w: Vector) -> Vector
     plane_normal(eye, v, w)
 }
 
-// n · ((w − v) × (q − v))
-pub fn turn(normal: Vector, v: Vector, w: Vector, q: Vector) -> i64
-    requires { ⌜ Bounded 800000000 normal × Bounded 10000 v × Bounded 10000 w × Bounded 10000 q ⌝ }
-    ensures { λ r. ⌜ NumberIs 1920000000000000000
-        (dot (vecOf normal) (cross (minus (vecOf w) (vecOf v)) (minus (vecOf q) (vecOf v)))) r ⌝ }
-{
-    dot_product(normal, plane_normal(v, w, q))
-}
-
 // direction · edge
 pub fn edge_number(direction: Vector, edge: Vector) -> i64
     requires { ⌜ Bounded 563000 direction × Bounded 800000000 edge ⌝ }

@@ -1,17 +1,16 @@
 -- Question 8 by the corners of a patch in hand.
 use mathlib.Core.Path.{_≡_, refl, sym, ap, _∙_, subst}
 use mathlib.Core.Bool.{Bool, true, false}
-use mathlib.Core.List.{map}
-use Prim.Native.Nat.{ℕ, _+_, _-_, _<_}
+use mathlib.Core.List.{[], _∷_, map}
+use Prim.Native.Nat.{ℕ, zero, suc, _+_, _-_, _<_}
 use native.Mathlib.Omega.{arith}
 use lib.IntN.{ℤ, pos}
 use lib.ListN.{length}
-use lib.Signed.{ltZ, _<ℤ_, _≤ℤ_}
 use mir.Syntax.{w64}
 use mir.Val.{ofZ}
-use Rattle.integer.proofs.Order.{lt-ltZ, le-ltZ}
+use Rattle.integer.proofs.Identity.{ring, reify}
 use Rattle.model.specs.Lists.{range, every}
-use Rattle.model.specs.Vector.{Vec, origin, minus, dot, cross, isZero, planeNormal, side}
+use Rattle.model.specs.Vector.{Vec, origin, minus, dot, isZero, planeNormal, side}
 use Rattle.model.specs.Patch as model
 use Rattle.model.specs.Patch.{Edge, corner, patchPlane, normal, round, firstEdge, edges, flat, turnsTowards, strictlyConvex}
 use Rattle.geometry.specs.declared.Vector.{Vector}
@@ -22,10 +21,24 @@ use Rattle.format.specs.Patch.{cornerOf, patchOf}
 use Rattle.format.proofs.Tables.{length-table, table-at}
 use Rattle.scene.specs.Bounds.{VecWithin, PatchBounded}
 use Rattle.scene.specs.Tests.{wrap, turnsAtEdge, patchProper}
-use Rattle.scene.proofs.Loops.{IsBoth, IsEvery, every-entry}
+use Rattle.scene.proofs.Loops.{IsBoth, IsEvery, every-entry, Passed}
 use Rattle.scene.proofs.InRange.{bounded}
 use Rattle.scene.proofs.OffOneLine.{zero-word, other-word}
 use Rattle.scene.proofs.Edges.{edge, edge-at}
+
+-- ---- the three points of a plane are on it
+module _ (a b c : Vec) where
+  first-on-plane : side (record { a = a; b = b; c = c }) a ≡ pos 0
+  first-on-plane =
+      ring (a .x ∷ a .y ∷ a .z ∷ b .x ∷ b .y ∷ b .z ∷ c .x ∷ c .y ∷ c .z ∷ []) (search reify depth 40 fits 200000, tt)
+
+  second-on-plane : side (record { a = a; b = b; c = c }) b ≡ pos 0
+  second-on-plane =
+      ring (a .x ∷ a .y ∷ a .z ∷ b .x ∷ b .y ∷ b .z ∷ c .x ∷ c .y ∷ c .z ∷ []) (search reify depth 40 fits 200000, tt)
+
+  third-on-plane : side (record { a = a; b = b; c = c }) c ≡ pos 0
+  third-on-plane =
+      ring (a .x ∷ a .y ∷ a .z ∷ b .x ∷ b .y ∷ b .z ∷ c .x ∷ c .y ∷ c .z ∷ []) (search reify depth 40 fits 200000, tt)
 
 module _ (p : Patch) where
   corner-in : (k : ℕ) → k < p .count → corner (patchOf p) k ≡ cornerOf p k
@@ -40,9 +53,11 @@ turnAt p k j =
     turnsTowards (normal (patchOf p)) (edge (cornerOf p) (p .count) k) (cornerOf p (wrap (p .count) (k + 2 + j)))
 
 module _ {p : Patch} (b : PatchBounded p) where
+  pub corner-within-in : (k : ℕ) → k < p .count → VecWithin 10000 (cornerOf p k)
+  corner-within-in k h = subst (VecWithin 10000) (corner-in p k h) (b .within .corner-within k (omega (arith, count-in p)))
+
   pub corner-bounded : {k : ℕ} {r : Vector} → k < p .count → vecOf r ≡ cornerOf p k → Bounded 10000 r
-  corner-bounded {k} h e =
-      bounded e (subst (VecWithin 10000) (corner-in p k h) (b .within .corner-within k (omega (arith, count-in p))))
+  corner-bounded {k} h e = bounded e (corner-within-in k h)
 
   -- ---- the normal
   plane-in :
@@ -66,6 +81,20 @@ module _ {p : Patch} (b : PatchBounded p) where
   pub flat-asked : IsEvery (p .count) (λ (k : ℕ). isZero (side (patchPlane (patchOf p)) (cornerOf p k))) (flat (patchOf p))
   unfolding flat
   flat-asked = every-entry (λ (q : Vec). isZero (side (patchPlane (patchOf p)) q)) (cornerOf p) (p .count) refl
+
+  -- the first three corners are on their plane
+  pub three-passed : Passed (p .count) (λ (k : ℕ). isZero (side (patchPlane (patchOf p)) (cornerOf p k))) 3
+  three-passed = record { most = b .three; passed = on-own-plane }
+    where
+      found : (k : ℕ) → k < 3 → side (patchPlane (patchOf p)) (corner (patchOf p) k) ≡ pos 0
+      found zero h = first-on-plane (corner (patchOf p) 0) (corner (patchOf p) 1) (corner (patchOf p) 2)
+      found (suc zero) h = second-on-plane (corner (patchOf p) 0) (corner (patchOf p) 1) (corner (patchOf p) 2)
+      found (suc (suc zero)) h = third-on-plane (corner (patchOf p) 0) (corner (patchOf p) 1) (corner (patchOf p) 2)
+      found (suc (suc (suc k))) h = absurd (omega arith)
+
+      on-own-plane : (k : ℕ) → k < 3 → isZero (side (patchPlane (patchOf p)) (cornerOf p k)) ≡ true
+      on-own-plane k h =
+          ap (λ (q : Vec). isZero (side (patchPlane (patchOf p)) q)) (sym (corner-in p k (omega (arith, b .three)))) ∙ ap isZero (found k h)
 
   module _ (k : ℕ) {n a q : Vector} {r : ℤ} (en : VectorIs 800000000 (normal (patchOf p)) n) (ea : vecOf a ≡ cornerOf p 0)
       (eq : vecOf q ≡ cornerOf p k)
@@ -96,25 +125,6 @@ module _ {p : Patch} (b : PatchBounded p) where
         every-entry (turnsTowards (normal (patchOf p)) (edge (cornerOf p) (p .count) k))
         (λ (j : ℕ). cornerOf p (wrap (p .count) (k + 2 + j))) (p .count - 2)
         (ap (λ (e : Edge). every (turnsTowards (normal (patchOf p)) e) (e .others)) (edge-at (cornerOf p) (p .count) k h (b .three)))
-
-    -- the end of the edge and the other corner were read at places i and o
-    module _ (j : ℕ) {n v w q : Vector} {i o : ℕ} {r : ℤ} (en : VectorIs 800000000 (normal (patchOf p)) n) (ev : vecOf v ≡ cornerOf p k)
-        (ei : i ≡ wrap (p .count) (k + 1)) (ew : vecOf w ≡ cornerOf p i) (eo : o ≡ wrap (p .count) (k + 2 + j))
-        (eq : vecOf q ≡ cornerOf p o)
-        (is : NumberIs 1920000000000000000 (dot (vecOf n) (cross (minus (vecOf w) (vecOf v)) (minus (vecOf q) (vecOf v)))) r) where
-      turn-found :
-          r
-          ≡ dot (normal (patchOf p)) (cross (minus (cornerOf p (wrap (p .count) (k + 1))) (cornerOf p k)) (minus (cornerOf p (wrap (p .count) (k + 2 + j))) (cornerOf p k)))
-      turn-found =
-          let fw : vecOf w ≡ cornerOf p (wrap (p .count) (k + 1)) = ew ∙ ap (cornerOf p) ei in
-          let fq : vecOf q ≡ cornerOf p (wrap (p .count) (k + 2 + j)) = eq ∙ ap (cornerOf p) eo in
-          is .value ∙ (λ t. dot (en .value t) (cross (minus (fw t) (ev t)) (minus (fq t) (ev t))))
-
-      pub turns-away : r ≤ℤ pos 0 → turnAt p k j ≡ false
-      turns-away f = ap (ltZ (pos 0)) (sym turn-found) ∙ le-ltZ f
-
-      pub turns-in : pos 0 <ℤ r → turnAt p k j ≡ true
-      turns-in f = ap (ltZ (pos 0)) (sym turn-found) ∙ lt-ltZ f
 
 pub proper-patch-both : (p : model.Patch) → IsBoth (flat p) (strictlyConvex p) (patchProper p)
 proper-patch-both p = record { both-tests = refl }

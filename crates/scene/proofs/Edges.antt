@@ -1,12 +1,14 @@
 -- The edges of a table of corners: the corners read round from a place are a table too.
-use mathlib.Core.Path.{_≡_, sym, ap, ap₂, _∙_}
+use mathlib.Core.Path.{_≡_, refl, sym, ap, ap₂, _∙_}
+use mathlib.Core.Bool.{Bool, true, false, cond}
 use mathlib.Core.List.{List, _∷_, _++_, map}
 use Prim.Native.Nat.{ℕ, zero, suc, _+_, _-_, _≤_, _<_}
 use native.Mathlib.Nat.{zero-add, add-zero}
 use native.Mathlib.Omega.{arith}
+use lib.Dec.{ltb}
 use lib.ListN.{take, drop, length-drop}
 use lib.Seq.{take-all}
-use borrow.Author.Tests.{lt-ltb, le-ltb}
+use borrow.Author.Tests.{ltb-true, ltb-false, lt-ltb, le-ltb}
 use Rattle.model.specs.Lists.{range}
 use Rattle.model.specs.Vector.{Vec}
 use Rattle.model.specs.Patch.{Edge, round, firstEdge}
@@ -19,6 +21,13 @@ wrap-low {n} {i} h = rw (lt-ltb i n h)
 
 pub wrap-high : {n i : ℕ} → n ≤ i → i - n ≡ wrap n i
 wrap-high {n} {i} h = rw (le-ltb i n h)
+
+pub wrap-below : {n i : ℕ} → i < n + n → wrap n i < n
+wrap-below {n} {i} h = go (ltb i n) refl
+  where
+    go : (t : Bool) → ltb i n ≡ t → cond t i (i - n) < n
+    go true e = ltb-true i n e
+    go false e = omega (arith, ltb-false i n e)
 
 tables-join : {A : Type 0} (f : ℕ → A) (i m n : ℕ) → map f (range i m) ++ map f (range (i + m) n) ≡ map f (range i (m + n))
 tables-join f i zero n = rw (add-zero i, zero-add n)

@@ -10,3 +10,7 @@ pub mod Edges
 pub mod Corners
 pub mod PatchTables
 pub mod Answers
+pub mod Seen
+pub mod Asked
+pub mod Axes
+pub mod Along

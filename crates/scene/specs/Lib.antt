@@ -3,3 +3,4 @@ pub mod Tests
 pub mod Bounds
 pub mod Children
 pub mod Gate
+pub mod Seen

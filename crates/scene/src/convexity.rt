@@ -1,4 +1,6 @@
 // Question 8: each patch is flat and strictly convex.
+use crate::view::View;
+use crate::view::convex_along;
 use format::layout::Layout;
 use format::patch::Patch;
 use format::patch::corner_of;
@@ -6,10 +8,8 @@ use format::patch::read_patch;
 use geometry::Vector;
 use geometry::plane_normal;
 use geometry::side;
-use geometry::turn;
 ghost use mathlib.Core.Path.{_≡_};
 ghost use mathlib.Core.Bool.{true};
-ghost use Prim.Native.Nat.{_+_, _<_};
 ghost use Rattle.geometry.specs.Machine.{VectorIs};
 ghost use Rattle.format.specs.Layout.{LaidOut, RunsInside};
 ghost use Rattle.format.specs.Patch.{patchOf};
@@ -17,7 +17,7 @@ ghost use Rattle.model.specs.Patch.{normal, flat, strictlyConvex};
 ghost use Rattle.model.specs.Format.{decode};
 ghost use Rattle.model.specs.Questions.{coordinatesInRange, patchesProper};
 ghost use Rattle.scene.specs.Bounds.{PatchBounded};
-ghost use Rattle.scene.specs.Tests.{wrap, turnsAtEdge, patchProper};
+ghost use Rattle.scene.specs.Tests.{patchProper};
 
 pub fn patch_normal(p: Patch) -> Vector
     requires { ⌜ PatchBounded p ⌝ }
@@ -32,7 +32,8 @@ fn is_flat(p: Patch, n: Vector) -> bool
 {
     let count = p.count;
     let a = corner_of(p, 0);
-    let mut k = 0;
+    // the first three are on their plane
+    let mut k = 3;
     while k < count {
         if side(n, a, corner_of(p, k)) != 0 {
             return false;
@@ -42,50 +43,19 @@ fn is_flat(p: Patch, n: Vector) -> bool
     true
 }
 
-// a place of the corners, read round
-fn wrapped(count: usize, place: usize) -> usize
-    requires { ⌜ place < count + count ⌝ }
-    ensures { λ r. ⌜ (r ≡ wrap count place) × (r < count) ⌝ }
-{
-    if place < count {
-        return place;
-    }
-    place - count
-}
-
-// every other corner is on the inner side of the edge from corner k
-fn turns_at_edge(p: Patch, n: Vector, k: usize) -> bool
-    requires { ⌜ PatchBounded p × VectorIs 800000000 (normal (patchOf p)) n × (k < p .count) ⌝ }
-    ensures { λ r. ⌜ r ≡ turnsAtEdge (patchOf p) k ⌝ }
-{
-    let count = p.count;
-    let v = corner_of(p, k);
-    let w = corner_of(p, wrapped(count, k + 1));
-    let others = count - 2;
-    let mut j = 0;
-    while j < others {
-        let q = corner_of(p, wrapped(count, k + 2 + j));
-        if turn(n, v, w, q) <= 0 {
-            return false;
-        }
-        j += 1;
-    }
-    true
-}
-
+// seen along the first axis that the plane is not parallel to
 fn strictly_convex(p: Patch, n: Vector) -> bool
-    requires { ⌜ PatchBounded p × VectorIs 800000000 (normal (patchOf p)) n ⌝ }
+    requires { ⌜ PatchBounded p × VectorIs 800000000 (normal (patchOf p)) n × (flat (patchOf p) ≡ true) ⌝ }
     ensures { λ r. ⌜ r ≡ strictlyConvex (patchOf p) ⌝ }
 {
     let count = p.count;
-    let mut k = 0;
-    while k < count {
-        if !turns_at_edge(p, n, k) {
-            return false;
-        }
-        k += 1;
+    if n.x != 0 {
+        return convex_along(View { part: n.x, count }, &p.y, &p.z);
     }
-    true
+    if n.y != 0 {
+        return convex_along(View { part: n.y, count }, &p.z, &p.x);
+    }
+    convex_along(View { part: n.z, count }, &p.x, &p.y)
 }
 
 fn patch_proper(p: Patch) -> bool

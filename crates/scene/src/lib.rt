@@ -6,3 +6,4 @@ pub mod gate;
 pub mod panels;
 pub mod planes;
 pub mod runs;
+mod view;

@@ -5,8 +5,8 @@ use borrow.Author.Needs.{needs}
 use Rattle.model.specs.Vector.{isZero, side}
 use Rattle.model.specs.Patch.{patchPlane}
 use Rattle.format.specs.Patch.{cornerOf, patchOf}
-use Rattle.scene.proofs.Loops.{Passed, none-passed, one-passed, refused, accepted}
-use Rattle.scene.proofs.Corners.{corner-bounded, flat-asked, off-plane, on-plane}
+use Rattle.scene.proofs.Loops.{Passed, one-passed, refused, accepted}
+use Rattle.scene.proofs.Corners.{corner-bounded, flat-asked, three-passed, off-plane, on-plane}
 use Rattle.scene.proofs.convexity.is_flat.Statement.{statement}
 use Rattle.scene.proofs.convexity.is_flat.Tie as tie
 
@@ -17,7 +17,7 @@ abbrev μ-loop : tie.MeasureT-loop
 μ-loop p n count a k₀ k = count - k
 
 loop-holds : tie.Need-loop-holds Inv-loop μ-loop
-loop-holds c = none-passed _ _
+loop-holds c = three-passed (c .before .pre .0)
 
 corner-of-requires-2 : tie.Need-corner-of-requires-2 Inv-loop μ-loop
 corner-of-requires-2 c κs = omega (arith, c .before .before .before .pre .0)

@@ -1,3 +1,4 @@
+use mathlib.Core.Path.{sym, _∙_}
 use Rattle.format.specs.Patch.{patchOf}
 use borrow.Author.Tests.{not-true, not-false}
 use Rattle.scene.proofs.Loops.{first-no, second-decides}
@@ -16,7 +17,15 @@ returns-2 c =
     second-decides (proper-patch-both (patchOf (c .before .before .before .before .args .p)))
     (c .before .before .is-flat .ensures) (not-false _ (c .before .if1 .left)) (c .strictly-convex .ensures)
 
+strictly-convex-requires : tie.Need-strictly-convex-requires
+strictly-convex-requires c κs =
+    let d = c .before .before in (
+      d .before .pre,
+      d .patch-normal .ensures,
+      sym (c .before .is-flat .ensures) ∙ not-false _ (c .if1 .left),
+    )
+
 pub patch-proper-spec : {M : Type 1} → statement M
 patch-proper-spec =
     tie.close
-    (tie.spec (λ c κs. search needs) (λ c κs. search needs) returns (λ c κs. search needs) returns-2)
+    (tie.spec (λ c κs. search needs) (λ c κs. search needs) returns strictly-convex-requires returns-2)

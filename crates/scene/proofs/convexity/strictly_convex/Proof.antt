@@ -1,46 +1,46 @@
-use Prim.Native.Nat.{_-_}
-use borrow.Author.Needs.{needs}
-use borrow.Author.Tests.{not-true, not-false}
-use Rattle.format.specs.Patch.{patchOf}
-use Rattle.scene.specs.Tests.{turnsAtEdge}
-use Rattle.scene.proofs.Loops.{Passed, none-passed, one-passed, refused, accepted}
-use Rattle.scene.proofs.Corners.{convex-asked}
+use mathlib.Core.Path.{_∙_}
+use Rattle.scene.proofs.Axes.{x-axis, y-axis, z-axis}
+use Rattle.scene.proofs.Along.{view-bounded, shown-by, shown-last, convex-as-seen}
 use Rattle.scene.proofs.convexity.strictly_convex.Statement.{statement}
 use Rattle.scene.proofs.convexity.strictly_convex.Tie as tie
 
-abbrev Inv-loop : tie.InvT-loop
-Inv-loop p n count k₀ k = Passed (p .count) (turnsAtEdge (patchOf p)) k
+convex-along-requires : tie.Need-convex-along-requires
+convex-along-requires c κs =
+    let s = c .before .before .before .before .before .before .before .pre in
+    view-bounded (s .0) (s .1) x-axis
 
-abbrev μ-loop : tie.MeasureT-loop
-μ-loop p n count k₀ k = count - k
-
-loop-holds : tie.Need-loop-holds Inv-loop μ-loop
-loop-holds c = none-passed _ _
-
-returns : tie.Need-returns Inv-loop μ-loop
+returns : tie.Need-returns
 returns c =
-    let d = c .before .before in
-    refused (convex-asked (d .before .before .pre .0)) (d .loop-test .taken) (c .before .turns-at-edge .ensures)
-    (not-true _ (c .if1 .taken))
+    let s = c .before .before .before .before .before .before .before .before .pre in
+    c .convex-along .ensures ∙ convex-as-seen (s .0) (s .1) x-axis (s .2) (shown-by (s .0) (s .1) x-axis (c .before .before .before .before .before .if1 .taken))
 
-loop-again : tie.Need-loop-again Inv-loop μ-loop
-loop-again c =
-    let d = c .before .before in
-    one-passed (d .before .loop .inv) (d .loop-test .taken) (c .before .turns-at-edge .ensures) (not-false _ (c .if1 .left))
+convex-along-requires-2 : tie.Need-convex-along-requires-2
+convex-along-requires-2 c κs =
+    let s = c .before .before .before .before .before .before .before .before .before .before .pre in
+    view-bounded (s .0) (s .1) y-axis
 
-returns-2 : tie.Need-returns-2 Inv-loop μ-loop
-returns-2 c = accepted (convex-asked (c .before .before .pre .0)) (c .before .loop .inv) (c .loop-test .left)
+returns-2 : tie.Need-returns-2
+returns-2 c =
+    let s = c .before .before .before .before .before .before .before .before .before .before .before .pre in
+    c .convex-along2 .ensures ∙ convex-as-seen (s .0) (s .1) y-axis (s .2) (shown-by (s .0) (s .1) y-axis (c .before .before .before .before .before .if2 .taken))
+
+convex-along-requires-3 : tie.Need-convex-along-requires-3
+convex-along-requires-3 c κs =
+    let s = c .before .before .before .before .before .before .before .before .before .before .pre in
+    view-bounded (s .0) (s .1) z-axis
+
+returns-3 : tie.Need-returns-3
+returns-3 c =
+    let s = c .before .before .before .before .before .before .before .before .before .before .before .pre in
+    c .convex-along3 .ensures ∙ convex-as-seen (s .0) (s .1) z-axis (s .2) (shown-last (s .0) (s .1) (c .before .before .before .before .before .before .before .before .if1 .left) (c .before .before .before .before .before .if2 .left))
 
 pub strictly-convex-spec : {M : Type 1} → statement M
 strictly-convex-spec =
     tie.close
     (tie.spec
-    Inv-loop
-    μ-loop
-    loop-holds
-    (λ c κs. search needs)
+    convex-along-requires
     returns
-    (λ c. search needs)
-    (λ c. search needs)
-    loop-again
-    returns-2)
+    convex-along-requires-2
+    returns-2
+    convex-along-requires-3
+    returns-3)

@@ -1,7 +1,7 @@
 use native.Mathlib.Omega.{arith}
 use Rattle.scene.proofs.Edges.{wrap-low, wrap-high}
-use Rattle.scene.proofs.convexity.wrapped.Statement.{statement}
-use Rattle.scene.proofs.convexity.wrapped.Tie as tie
+use Rattle.scene.proofs.view.wrapped.Statement.{statement}
+use Rattle.scene.proofs.view.wrapped.Tie as tie
 
 returns : tie.Need-returns
 returns c = (wrap-low (c .if1 .taken), c .if1 .taken)
