@@ -1,0 +1,23 @@
+-- `walk::beyond::all_in_front` meets its contract: the corner has the least side number of the box.
+use borrow.Author.Needs.{needs}
+use Rattle.integer.proofs.Comparison.{comparisons}
+use Rattle.walk.proofs.BoxSides.{corner-bounded, in-front, nothing-said}
+use Rattle.walk.proofs.beyond.all_in_front.Statement.{statement}
+use Rattle.walk.proofs.beyond.all_in_front.Tie as tie
+
+corner-by-requires : tie.Need-corner-by-requires
+corner-by-requires c κs = search needs
+
+side-requires : tie.Need-side-requires
+side-requires c κs =
+    let h = c .before .pre in
+    (h .1 .normal-bounded, h .1 .a-bounded, corner-bounded (c .corner-by .ensures) (h .0 .low-bounded) (h .0 .high-bounded))
+
+returns : tie.Need-returns
+returns c = in-front (c .before .before .before .args .plane) (c .before .side .ensures) (c .before .before .corner-by .ensures) (search comparisons)
+
+returns-2 : tie.Need-returns-2
+returns-2 c = record { says = nothing-said }
+
+pub all-in-front-spec : {M : Type 1} → statement M
+all-in-front-spec = tie.close (tie.spec corner-by-requires side-requires returns returns-2)
