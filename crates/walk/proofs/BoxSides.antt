@@ -2,8 +2,9 @@
 use mathlib.Core.Path.{_≡_, refl, sym, ap, ap₂, subst, _∙_}
 use mathlib.Core.Bool.{Bool, true, false, not, _&&_, _||_, Bool·beq, true≢false}
 use mathlib.Core.List.{List, [], _∷_, map, List·Memᴰ, List·Memᴰ·head, List·Memᴰ·tail}
-use Prim.Native.Nat.{ℕ, _<_}
+use Prim.Native.Nat.{ℕ, _≤_, _<_}
 use native.Mathlib.Omega.{arith}
+use native.Mathlib.Decide.{decLt}
 use lib.Dec.{lit<}
 use lib.IntN.{ℤ, pos, _+ℤ_, _-ℤ_, _*ℤ_}
 use lib.ListN.{length}
@@ -23,13 +24,14 @@ use Rattle.model.proofs.Ranges.{of-map}
 use Rattle.geometry.specs.Machine.{vecOf, Bounded, NumberIs}
 use Rattle.geometry.specs.declared.Vector.{Vector}
 use Rattle.format.specs.declared.layout.Layout.{Layout}
-use Rattle.walk.specs.Walked.{treeBelow}
+use Rattle.walk.specs.Walked.{Walkable, treeBelow}
 use Rattle.walk.specs.Division.{sideOf, onNegative, onPositive, held}
-use Rattle.walk.specs.Boxes.{AtMost, InBox, Encloses, EndBy, rising, falling, CornerBy, AllInFront, AllBehind, Beyond, boxAt, BoxesFrom}
+use Rattle.walk.specs.Boxes.{AtMost, InBox, Encloses, EndBy, rising, falling, CornerBy, AllInFront, AllBehind, Beyond, boxAt, BoxesFrom, Settled}
 use Rattle.walk.specs.declared.boxes.Bounds.{Bounds}
 use Rattle.walk.specs.declared.division.Plane.{Plane}
 use Rattle.walk.specs.declared.division.Sides.{Sides}
-use Rattle.walk.proofs.Branches.{patchesBelow}
+use Rattle.walk.proofs.SceneNodes.{no-node}
+use Rattle.walk.proofs.Branches.{patchesBelow, every-leaf}
 use Rattle.walk.proofs.BoxLaws.{stored, same}
 
 -- ---- the corner of a box that a normal chooses
@@ -148,20 +150,34 @@ module _ (s : Plane) (wanted : Sides) where
       held-by p (any-passes (onNegative s) (p .corners) (e .some) (λ c m. lt-ltZ (f c (e .corners-in c m))) ∙ sym n)
       (none-passes (onPositive s) (p .corners) (λ c m. le-ltZ (<→≤ (f c (e .corners-in c m)))) ∙ sym y)
 
--- a box that is beyond the plane answers for all patches at and below its node
-pub all-held :
-    {bytes : List ℕ} {l : Layout} {boxes : List ℤ} {k : ℕ} {b : Bounds} (s : Plane) (wanted : Sides) {r : Bool} →
-    BoxesFrom bytes l 0 boxes → k < l .nodes → b ≡ boxAt boxes k → Beyond b s wanted r → r ≡ true →
-    true ≡ every (held s wanted) (patchesBelow bytes k)
-all-held {bytes} {k = k} s wanted from h e beyond y =
-    sym
-    (every-passes (patchesBelow bytes k)
-    (of-map (λ (p : Patch). held s wanted p ≡ true) (patchNumbered (decode bytes)) (contents (treeBelow bytes k))
-    (λ j m. beyond .says y _ (subst (λ (c : Bounds). Encloses c (patchNumbered (decode bytes) j)) (sym e) (from .each k (omega arith) h .encloses j m)))))
-  where
-    every-passes : (l : List Patch) → ((p : Patch) → List·Memᴰ p l → held s wanted p ≡ true) → every (held s wanted) l ≡ true
-    every-passes [] f = refl
-    every-passes (p ∷ l) f = ap₂ _&&_ (f p (List·Memᴰ·head refl)) (every-passes l (λ q m. f q (List·Memᴰ·tail m)))
+-- ---- the patches at and below a node
+
+module _ {nodes k : ℕ} {boxes : List ℤ} (s : Plane) (wanted : Sides) where
+  pub settled-none : nodes ≤ k → Settled nodes k boxes s wanted true
+  settled-none h = record { a-node = λ e. absurd (true≢false e); says = λ e i. absurd (omega arith) }
+
+  pub settled-beyond : {b : Bounds} {r : Bool} → k < nodes → b ≡ boxAt boxes k → Beyond b s wanted r → Settled nodes k boxes s wanted r
+  settled-beyond h e beyond =
+      record {
+        a-node = λ n. h;
+        says = λ y i p f. beyond .says y p (subst (λ (c : Bounds). Encloses c p) (sym e) f);
+      }
+
+module _ {bytes : List ℕ} {l : Layout} (w : Walkable bytes l) {boxes : List ℤ} (from : BoxesFrom bytes l 0 boxes) {k : ℕ} (s : Plane) (wanted : Sides) where
+  pub settled-held : {r : Bool} → Settled (l .nodes) k boxes s wanted r → r ≡ true → true ≡ every (held s wanted) (patchesBelow bytes k)
+  settled-held settled y = go (decLt k (l .nodes))
+    where
+      every-passes : (l : List Patch) → ((p : Patch) → List·Memᴰ p l → held s wanted p ≡ true) → every (held s wanted) l ≡ true
+      every-passes [] f = refl
+      every-passes (p ∷ l) f = ap₂ _&&_ (f p (List·Memᴰ·head refl)) (every-passes l (λ q m. f q (List·Memᴰ·tail m)))
+
+      go : Dec (k < l .nodes) → true ≡ every (held s wanted) (patchesBelow bytes k)
+      go (yes h) =
+          sym
+          (every-passes (patchesBelow bytes k)
+          (of-map (λ (p : Patch). held s wanted p ≡ true) (patchNumbered (decode bytes)) (contents (treeBelow bytes k))
+          (λ j m. settled .says y h (patchNumbered (decode bytes) j) (from .each k (omega arith) h .encloses j m))))
+      go (no h) = every-leaf (held s wanted) bytes k (no-node bytes l w k (omega arith))
 
 -- two sides that differ
 pub opposite : (a b : Bool) → Bool·beq a b ≡ false → a ≡ not b

@@ -1,6 +1,6 @@
 -- Boxes that bound the corners of the patches at and below a node.
 use mathlib.Core.Path.{_≡_}
-use mathlib.Core.Bool.{Bool, true}
+use mathlib.Core.Bool.{Bool, true, false}
 use mathlib.Core.List.{List, List·Memᴰ, map}
 use Prim.Native.Nat.{ℕ, _+_, _*_, _≤_, _<_}
 use lib.IntN.{ℤ, pos}
@@ -153,3 +153,8 @@ pub record AllBehind (b : Bounds) (s : Plane) (r : Bool) : Type 0 where
 -- yes is said only where every patch in the box is held
 pub record Beyond (b : Bounds) (s : Plane) (wanted : Sides) (r : Bool) : Type 0 where
   pub says : r ≡ true → (p : Patch) → Encloses b p → held s wanted p ≡ true
+
+-- no is said only where there is a node k, and yes only where every patch in its box is held
+pub record Settled (nodes k : ℕ) (boxes : List ℤ) (s : Plane) (wanted : Sides) (r : Bool) : Type 0 where
+  pub a-node : r ≡ false → k < nodes
+  pub says : r ≡ true → k < nodes → (p : Patch) → Encloses (boxAt boxes k) p → held s wanted p ≡ true

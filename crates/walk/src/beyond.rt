@@ -1,12 +1,15 @@
 // A box that lies wholly on one side of a plane answers for all patches in it.
 use crate::boxes::Bounds;
+use crate::boxes::box_at;
 use crate::division::Plane;
 use crate::division::Sides;
 use geometry::Vector;
 use geometry::side;
+ghost use Prim.Native.Nat.{_*_, _≤_, _<_};
+ghost use lib.ListN.{length};
 ghost use Rattle.geometry.specs.Machine.{Bounded};
 ghost use Rattle.walk.specs.Division.{PlaneBounded};
-ghost use Rattle.walk.specs.Boxes.{BoxBounded, EndBy, CornerBy, AllInFront, AllBehind, Beyond};
+ghost use Rattle.walk.specs.Boxes.{BoxBounded, EndBy, CornerBy, AllInFront, AllBehind, Beyond, boxAt, Settled};
 
 // the end of an axis where n · c is least
 fn end_by(n: i64, low: i64, high: i64) -> i64
@@ -53,7 +56,7 @@ fn all_behind(b: Bounds, plane: Plane) -> bool
 }
 
 // all patches in the box have corners on just the side that is wanted
-pub fn beyond(b: Bounds, plane: Plane, wanted: Sides) -> bool
+fn beyond(b: Bounds, plane: Plane, wanted: Sides) -> bool
     requires { ⌜ BoxBounded b × PlaneBounded plane ⌝ }
     ensures { λ r. ⌜ Beyond b plane wanted r ⌝ }
 {
@@ -64,4 +67,15 @@ pub fn beyond(b: Bounds, plane: Plane, wanted: Sides) -> bool
         return all_in_front(b, plane);
     }
     all_behind(b, plane)
+}
+
+// nothing at and below node k is left to look at: there is no such node, or its box is beyond the plane
+pub fn settled(nodes: usize, k: usize, plane: Plane, wanted: Sides, boxes: &[i64]) -> bool
+    requires { ⌜ PlaneBounded plane × (6 * nodes ≤ length (now boxes)) × (k < nodes → BoxBounded (boxAt (now boxes) k)) ⌝ }
+    ensures { λ r. ⌜ Settled nodes k (now (boxes .entry)) plane wanted r ⌝ }
+{
+    if nodes <= k {
+        return true;
+    }
+    beyond(box_at(boxes, k), plane, wanted)
 }

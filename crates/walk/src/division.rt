@@ -1,6 +1,5 @@
 // Question 9: the planes divide the patches as the tree says.
-use crate::beyond::beyond;
-use crate::boxes::box_at;
+use crate::beyond::settled;
 use crate::boxes::fill_boxes;
 use crate::scene::corner_run;
 use crate::scene::tree_corner;
@@ -110,25 +109,42 @@ fn run_held(
     true
 }
 
-// every patch at and below node k is held
-fn below_held(bytes: &[u8], l: Layout, k: usize, plane: Plane, wanted: Sides, boxes: &[i64]) -> bool
-    requires { ⌜ Walkable (now bytes) l × PlaneBounded plane × BoxesFrom (now bytes) l 0 (now boxes) ⌝ }
+// every patch at and below node k is held; the child's test comes before its call, as most children are settled by it
+fn subtree_held(
+    bytes: &[u8],
+    l: Layout,
+    k: usize,
+    plane: Plane,
+    wanted: Sides,
+    boxes: &[i64],
+) -> bool
+    requires { ⌜ Walkable (now bytes) l × PlaneBounded plane × BoxesFrom (now bytes) l 0 (now boxes) × (k < l .nodes) ⌝ }
     ensures { λ r. ⌜ r ≡ every (held plane wanted) (map (patchNumbered (decode (now (bytes .entry)))) (contents (treeBelow (now (bytes .entry)) k))) ⌝ }
 {
-    if l.nodes <= k {
-        return true;
-    }
-    if beyond(box_at(boxes, k), plane, wanted) {
-        return true;
-    }
     let n = tree_node(bytes, l, k);
     if !run_held(bytes, l, n.patches.first, n.patches.count, plane, wanted) {
         return false;
     }
-    if !below_held(bytes, l, n.positive, plane, wanted, boxes) {
-        return false;
+    if !settled(l.nodes, n.positive, plane, wanted, boxes) {
+        if !subtree_held(bytes, l, n.positive, plane, wanted, boxes) {
+            return false;
+        }
     }
-    below_held(bytes, l, n.negative, plane, wanted, boxes)
+    if settled(l.nodes, n.negative, plane, wanted, boxes) {
+        return true;
+    }
+    subtree_held(bytes, l, n.negative, plane, wanted, boxes)
+}
+
+// every patch at and below node k, if there is one, is held
+fn below_held(bytes: &[u8], l: Layout, k: usize, plane: Plane, wanted: Sides, boxes: &[i64]) -> bool
+    requires { ⌜ Walkable (now bytes) l × PlaneBounded plane × BoxesFrom (now bytes) l 0 (now boxes) ⌝ }
+    ensures { λ r. ⌜ r ≡ every (held plane wanted) (map (patchNumbered (decode (now (bytes .entry)))) (contents (treeBelow (now (bytes .entry)) k))) ⌝ }
+{
+    if settled(l.nodes, k, plane, wanted, boxes) {
+        return true;
+    }
+    subtree_held(bytes, l, k, plane, wanted, boxes)
 }
 
 fn plane_of(n: Node) -> Plane
