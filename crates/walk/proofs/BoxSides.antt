@@ -1,33 +1,34 @@
--- A box on one side of a plane, and the patches in it.
+-- An extent on one side of a plane, and the patches in it.
 use mathlib.Core.Path.{_≡_, refl, sym, ap, ap₂, subst, _∙_}
+use mathlib.Core.Logic.{_⊎_, inl, inr}
 use mathlib.Core.Bool.{Bool, true, false, not, _&&_, _||_, Bool·beq, true≢false}
 use mathlib.Core.List.{List, [], _∷_, map, List·Memᴰ, List·Memᴰ·head, List·Memᴰ·tail}
 use Prim.Native.Nat.{ℕ, _≤_, _<_}
 use native.Mathlib.Omega.{arith}
 use native.Mathlib.Decide.{decLt}
-use lib.Dec.{lit<}
-use lib.IntN.{ℤ, pos, _+ℤ_, _-ℤ_, _*ℤ_}
-use lib.ListN.{length}
-use lib.Signed.{_<ℤ_, _≤ℤ_}
+use lib.Dec.{T, lit<}
+use lib.IntN.{ℤ, pos, negℤ, _+ℤ_, _-ℤ_, _*ℤ_}
+use lib.Signed.{_<ℤ_, _≤ℤ_, clashℤ}
 use mir.Syntax.{w64}
 use Rattle.integer.specs.Magnitude.{Within}
 use Rattle.integer.proofs.Magnitude.{within-stored}
 use Rattle.integer.proofs.Identity.{ring, reify}
-use Rattle.integer.proofs.Order.{<-by, ≤-by, ≤-diff, <-diff, +-pos-nonneg, lt-ltZ, le-ltZ, <→≤}
-use Rattle.integer.proofs.Products.{*-nonneg, *-nonpos-nonpos}
+use Rattle.integer.proofs.Order.{<-by, ≤-by, ≤-diff, <-diff, +-nonneg, +-pos-nonneg, +-nonneg-pos, ≤ℤ-<ℤ-trans, lt-ltZ, le-ltZ, <→≤}
+use Rattle.integer.proofs.Products.{neg-of-neg, neg-of-nonpos, *-nonneg, *-nonpos-nonpos, *-pos, *-neg-neg}
 use Rattle.model.specs.Lists.{every, any}
 use Rattle.model.specs.Vector.{Vec}
 use Rattle.model.specs.Patch.{Patch}
 use Rattle.model.specs.Tree.{contents}
 use Rattle.model.specs.Format.{decode, patchNumbered}
+use Rattle.model.proofs.Tests.{is-true, any-true}
 use Rattle.model.proofs.Ranges.{of-map}
 use Rattle.geometry.specs.Machine.{vecOf, Bounded, NumberIs}
 use Rattle.geometry.specs.declared.Vector.{Vector}
 use Rattle.format.specs.declared.layout.Layout.{Layout}
 use Rattle.walk.specs.Walked.{Walkable, treeBelow}
 use Rattle.walk.specs.Division.{sideOf, onNegative, onPositive, held}
-use Rattle.walk.specs.Boxes.{AtMost, InBox, Encloses, EndBy, rising, falling, CornerBy, AllInFront, AllBehind, Beyond, boxAt, BoxesFrom, Settled}
-use Rattle.walk.specs.declared.boxes.Bounds.{Bounds}
+use Rattle.walk.specs.Boxes.{Along, Encloses, extentAt, ExtentsFrom, EndBy, rising, falling, CornerBy, Free, FreeAxis, SomeFree, x-free, y-free, z-free, FreeSays, Beyond, AllInFront, AllBehind, AllHeld, Settled}
+use Rattle.walk.specs.declared.boxes.Extent.{Extent}
 use Rattle.walk.specs.declared.division.Plane.{Plane}
 use Rattle.walk.specs.declared.division.Sides.{Sides}
 use Rattle.walk.proofs.SceneNodes.{no-node}
@@ -77,49 +78,187 @@ module _ {n s t m : ℤ} (d : ℤ → ℤ) where
 short : {a b : ℤ} → a ≤ℤ b → (a -ℤ b) ≤ℤ pos 0
 short {a} {b} h = ≤-by (≤-diff h) (ring (a ∷ b ∷ []) (search reify depth 40 fits 200000, tt))
 
-module _ (s : Plane) {b : Bounds} {m : Vector} {n : ℕ} {z : ℤ} (is : NumberIs n (sideOf s (vecOf m)) z) where
-  -- the least side number in the box
-  pub in-front : CornerBy (s .normal) (b .low) (b .high) m → pos 0 <ℤ z → AllInFront b s true
-  in-front k h =
+lt-le : {a b c : ℤ} → a <ℤ b → b ≤ℤ c → a <ℤ c
+lt-le {a} {b} {c} h k = <-by (+-pos-nonneg (<-diff h) (≤-diff k)) (ring (a ∷ b ∷ c ∷ []) (search reify depth 40 fits 200000, tt))
+
+less : {a b : ℤ} → a <ℤ b → (a -ℤ b) <ℤ pos 0
+less {a} {b} h = <-by (<-diff h) (ring (a ∷ b ∷ []) (search reify depth 40 fits 200000, tt))
+
+-- where no patch lies in an end of the box, each has a corner off the end: to it, and from it
+module _ {n low high il ih m : ℤ} {axis : Vec → ℤ} {p : Patch} (free : Free n low high il ih) (along : Along axis il ih p) where
+  off-least : EndBy n low high m → (c : Vec) × List·Memᴰ c (p .corners) × (pos 0 <ℤ (n *ℤ (axis c -ℤ m)))
+  off-least (rising h e) = go (free .slanted)
+    where
+      go : (n <ℤ pos 0) ⊎ (pos 0 <ℤ n) → (c : Vec) × List·Memᴰ c (p .corners) × (pos 0 <ℤ (n *ℤ (axis c -ℤ m)))
+      go (inl l) = clashℤ l h
+      go (inr l) = (along .up .0, along .up .1, rw e (*-pos l (<-diff (lt-le (free .up) (along .up .2)))))
+  off-least (falling h e) = go (free .slanted)
+    where
+      go : (n <ℤ pos 0) ⊎ (pos 0 <ℤ n) → (c : Vec) × List·Memᴰ c (p .corners) × (pos 0 <ℤ (n *ℤ (axis c -ℤ m)))
+      go (inl l) = (along .down .0, along .down .1, rw e (*-neg-neg l (less (≤ℤ-<ℤ-trans (along .down .2) (free .down)))))
+      go (inr l) = clashℤ l h
+
+  off-greatest : EndBy n high low m → (c : Vec) × List·Memᴰ c (p .corners) × (pos 0 <ℤ (n *ℤ (m -ℤ axis c)))
+  off-greatest (rising h e) = go (free .slanted)
+    where
+      go : (n <ℤ pos 0) ⊎ (pos 0 <ℤ n) → (c : Vec) × List·Memᴰ c (p .corners) × (pos 0 <ℤ (n *ℤ (m -ℤ axis c)))
+      go (inl l) = clashℤ l h
+      go (inr l) = (along .down .0, along .down .1, rw e (*-pos l (<-diff (≤ℤ-<ℤ-trans (along .down .2) (free .down)))))
+  off-greatest (falling h e) = go (free .slanted)
+    where
+      go : (n <ℤ pos 0) ⊎ (pos 0 <ℤ n) → (c : Vec) × List·Memᴰ c (p .corners) × (pos 0 <ℤ (n *ℤ (m -ℤ axis c)))
+      go (inl l) = (along .up .0, along .up .1, rw e (*-neg-neg l (less (lt-le (free .up) (along .up .2)))))
+      go (inr l) = clashℤ l h
+
+-- the part of a corner's number that an axis gives is not negative, and positive for some corner where the axis is free
+record Part (p : Patch) (part : Vec → ℤ) (free : Type 0) : Type 0 where
+  none-below : (c : Vec) → List·Memᴰ c (p .corners) → pos 0 ≤ℤ part c
+  one-above : free → (c : Vec) × List·Memᴰ c (p .corners) × (pos 0 <ℤ part c)
+
+module _ (axis : Vec → ℤ) {n low high il ih m : ℤ} {p : Patch} (inside : (c : Vec) → List·Memᴰ c (p .corners) → (low ≤ℤ axis c) × (axis c ≤ℤ high))
+    (along : Along axis il ih p) where
+  front-part : EndBy n low high m → Part p (λ (c : Vec). n *ℤ (axis c -ℤ m)) (Free n low high il ih)
+  front-part k =
       record {
-        says =
-            λ e c i.
-            <-by
-            (+-pos-nonneg
-            (+-pos-nonneg
-            (+-pos-nonneg (subst (λ (y : ℤ). pos 0 <ℤ y) (is .value) h)
-            (end-first (λ (y : ℤ). c .x -ℤ y) (k .x-end) (≤-diff (i .low-most .x-most)) (short (i .high-least .x-most))))
-            (end-first (λ (y : ℤ). c .y -ℤ y) (k .y-end) (≤-diff (i .low-most .y-most)) (short (i .high-least .y-most))))
-            (end-first (λ (y : ℤ). c .z -ℤ y) (k .z-end) (≤-diff (i .low-most .z-most)) (short (i .high-least .z-most))))
-            (ring
-            (s .normal .x ∷ s .normal .y ∷ s .normal .z ∷ s .a .x ∷ s .a .y ∷ s .a .z ∷ m .x ∷ m .y ∷ m .z ∷ c .x ∷ c .y ∷ c .z ∷ [])
-            (search reify depth 40 fits 200000, tt));
+        none-below = λ c i. end-first (λ (z : ℤ). axis c -ℤ z) k (≤-diff (inside c i .0)) (short (inside c i .1));
+        one-above = λ f. off-least f along k;
       }
 
-  -- the greatest
-  pub behind : CornerBy (s .normal) (b .high) (b .low) m → z <ℤ pos 0 → AllBehind b s true
-  behind k h =
+  behind-part : EndBy n high low m → Part p (λ (c : Vec). n *ℤ (m -ℤ axis c)) (Free n low high il ih)
+  behind-part k =
       record {
-        says =
-            λ e c i.
-            <-by
-            (+-pos-nonneg
-            (+-pos-nonneg
-            (+-pos-nonneg (<-diff (subst (λ (y : ℤ). y <ℤ pos 0) (is .value) h))
-            (end-first (λ (y : ℤ). y -ℤ c .x) (k .x-end) (≤-diff (i .high-least .x-most)) (short (i .low-most .x-most))))
-            (end-first (λ (y : ℤ). y -ℤ c .y) (k .y-end) (≤-diff (i .high-least .y-most)) (short (i .low-most .y-most))))
-            (end-first (λ (y : ℤ). y -ℤ c .z) (k .z-end) (≤-diff (i .high-least .z-most)) (short (i .low-most .z-most))))
-            (ring
-            (s .normal .x ∷ s .normal .y ∷ s .normal .z ∷ s .a .x ∷ s .a .y ∷ s .a .z ∷ m .x ∷ m .y ∷ m .z ∷ c .x ∷ c .y ∷ c .z ∷ [])
-            (search reify depth 40 fits 200000, tt));
+        none-below = λ c i. end-first (λ (z : ℤ). z -ℤ axis c) k (≤-diff (inside c i .1)) (short (inside c i .0));
+        one-above = λ f. off-greatest f along k;
       }
 
--- ---- the patches in the box
+-- why a box's corner tells: it is beyond the plane, or on it with an axis free
+data Told (e : Extent) (normal : Vector) (base : ℤ) : Type 0 where
+  strictly : pos 0 <ℤ base → Told e normal base
+  touching : SomeFree e normal → pos 0 ≤ℤ base → Told e normal base
+
+-- a corner's number is that of the box's corner and a part for each axis
+module _ {e : Extent} {normal : Vector} {p : Patch} (number f g h : Vec → ℤ) {base : ℤ} (sum : (c : Vec) → base +ℤ f c +ℤ g c +ℤ h c ≡ number c)
+    (x : Part p f (Free (normal .x) (e .outer .low .x) (e .outer .high .x) (e .inner .low .x) (e .inner .high .x)))
+    (y : Part p g (Free (normal .y) (e .outer .low .y) (e .outer .high .y) (e .inner .low .y) (e .inner .high .y)))
+    (z : Part p h (Free (normal .z) (e .outer .low .z) (e .outer .high .z) (e .inner .low .z) (e .inner .high .z))) where
+  all-above : pos 0 ≤ℤ base → (c : Vec) → List·Memᴰ c (p .corners) → pos 0 ≤ℤ number c
+  all-above b c m =
+      subst (λ (v : ℤ). pos 0 ≤ℤ v) (sum c) (+-nonneg (+-nonneg (+-nonneg b (x .none-below c m)) (y .none-below c m)) (z .none-below c m))
+
+  told : (c : Vec) → List·Memᴰ c (p .corners) → Told e normal base → Beyond number p
+  told c m (strictly b) =
+      record {
+        none-below = all-above (<→≤ b);
+        one-above = (
+          c,
+          m,
+          subst (λ (v : ℤ). pos 0 <ℤ v) (sum c)
+              (+-pos-nonneg (+-pos-nonneg (+-pos-nonneg b (x .none-below c m)) (y .none-below c m)) (z .none-below c m)),
+        );
+      }
+  told w n (touching free b) = record { none-below = all-above b; one-above = go free }
+    where
+      go : SomeFree e normal → (c : Vec) × List·Memᴰ c (p .corners) × (pos 0 <ℤ number c)
+      go (x-free i) =
+          let o = x .one-above i in
+          let c = o .0 in
+          let m = o .1 in
+          (c, m, subst (λ (v : ℤ). pos 0 <ℤ v) (sum c) (+-pos-nonneg (+-pos-nonneg (+-nonneg-pos b (o .2)) (y .none-below c m)) (z .none-below c m)))
+      go (y-free i) =
+          let o = y .one-above i in
+          let c = o .0 in
+          let m = o .1 in
+          (c, m, subst (λ (v : ℤ). pos 0 <ℤ v) (sum c) (+-pos-nonneg (+-nonneg-pos (+-nonneg b (x .none-below c m)) (o .2)) (z .none-below c m)))
+      go (z-free i) =
+          let o = z .one-above i in
+          let c = o .0 in
+          let m = o .1 in
+          (c, m, subst (λ (v : ℤ). pos 0 <ℤ v) (sum c) (+-nonneg-pos (+-nonneg (+-nonneg b (x .none-below c m)) (y .none-below c m)) (o .2)))
+
+front-sum :
+    (s : Plane) (m c : Vec) →
+    sideOf s m +ℤ s .normal .x *ℤ (c .x -ℤ m .x) +ℤ s .normal .y *ℤ (c .y -ℤ m .y) +ℤ s .normal .z *ℤ (c .z -ℤ m .z) ≡ sideOf s c
+front-sum s m c =
+    ring
+    (s .normal .x ∷ s .normal .y ∷ s .normal .z ∷ s .a .x ∷ s .a .y ∷ s .a .z ∷ m .x ∷ m .y ∷ m .z ∷ c .x ∷ c .y ∷ c .z ∷ [])
+    (search reify depth 40 fits 200000, tt)
+
+behind-sum :
+    (s : Plane) (m c : Vec) →
+    negℤ (sideOf s m) +ℤ s .normal .x *ℤ (m .x -ℤ c .x) +ℤ s .normal .y *ℤ (m .y -ℤ c .y) +ℤ s .normal .z *ℤ (m .z -ℤ c .z) ≡ negℤ (sideOf s c)
+behind-sum s m c =
+    ring
+    (s .normal .x ∷ s .normal .y ∷ s .normal .z ∷ s .a .x ∷ s .a .y ∷ s .a .z ∷ m .x ∷ m .y ∷ m .z ∷ c .x ∷ c .y ∷ c .z ∷ [])
+    (search reify depth 40 fits 200000, tt)
+
+module _ {e : Extent} {p : Patch} (i : Encloses e p) where
+  x-in : (c : Vec) → List·Memᴰ c (p .corners) → (e .outer .low .x ≤ℤ c .x) × (c .x ≤ℤ e .outer .high .x)
+  x-in c j = let b = i .corners-in c j in (b .low-most .x-most, b .high-least .x-most)
+
+  y-in : (c : Vec) → List·Memᴰ c (p .corners) → (e .outer .low .y ≤ℤ c .y) × (c .y ≤ℤ e .outer .high .y)
+  y-in c j = let b = i .corners-in c j in (b .low-most .y-most, b .high-least .y-most)
+
+  z-in : (c : Vec) → List·Memᴰ c (p .corners) → (e .outer .low .z ≤ℤ c .z) × (c .z ≤ℤ e .outer .high .z)
+  z-in c j = let b = i .corners-in c j in (b .low-most .z-most, b .high-least .z-most)
+
+  front-beyond : (s : Plane) {m : Vector} → CornerBy (s .normal) (e .outer .low) (e .outer .high) m → Told e (s .normal) (sideOf s (vecOf m)) → Beyond (sideOf s) p
+  front-beyond s {m} k =
+      told (sideOf s) _ _ _ (front-sum s (vecOf m)) (front-part (λ (c : Vec). c .x) x-in (i .x-along) (k .x-end))
+      (front-part (λ (c : Vec). c .y) y-in (i .y-along) (k .y-end))
+      (front-part (λ (c : Vec). c .z) z-in (i .z-along) (k .z-end))
+      (i .x-along .up .0)
+      (i .x-along .up .1)
+
+  behind-beyond :
+      (s : Plane) {m : Vector} → CornerBy (s .normal) (e .outer .high) (e .outer .low) m → Told e (s .normal) (negℤ (sideOf s (vecOf m))) →
+      Beyond (λ (c : Vec). negℤ (sideOf s c)) p
+  behind-beyond s {m} k =
+      told (λ (c : Vec). negℤ (sideOf s c)) _ _ _ (behind-sum s (vecOf m)) (behind-part (λ (c : Vec). c .x) x-in (i .x-along) (k .x-end))
+      (behind-part (λ (c : Vec). c .y) y-in (i .y-along) (k .y-end))
+      (behind-part (λ (c : Vec). c .z) z-in (i .z-along) (k .z-end))
+      (i .x-along .up .0)
+      (i .x-along .up .1)
+
+-- ---- what the tests tell
+
+module _ (s : Plane) {e : Extent} {m : Vector} {n : ℕ} {z : ℤ} (is : NumberIs n (sideOf s (vecOf m)) z) where
+  module _ (k : CornerBy (s .normal) (e .outer .low) (e .outer .high) m) where
+    pub in-front : pos 0 <ℤ z → AllInFront e s true
+    in-front h = record { says = λ y p i. front-beyond i s k (strictly (subst (λ (v : ℤ). pos 0 <ℤ v) (is .value) h)) }
+
+    pub touches-front : {r : Bool} → pos 0 ≤ℤ z → FreeSays e (s .normal) r → AllInFront e s r
+    touches-front h f =
+        record { says = λ y p i. front-beyond i s k (touching (f .says y) (subst (λ (v : ℤ). pos 0 ≤ℤ v) (is .value) h)) }
+
+  module _ (k : CornerBy (s .normal) (e .outer .high) (e .outer .low) m) where
+    pub behind : z <ℤ pos 0 → AllBehind e s true
+    behind h = record { says = λ y p i. behind-beyond i s k (strictly (neg-of-neg (subst (λ (v : ℤ). v <ℤ pos 0) (is .value) h))) }
+
+    pub touches-behind : {r : Bool} → z ≤ℤ pos 0 → FreeSays e (s .normal) r → AllBehind e s r
+    touches-behind h f =
+        record { says = λ y p i. behind-beyond i s k (touching (f .says y) (neg-of-nonpos (subst (λ (v : ℤ). v ≤ℤ pos 0) (is .value) h))) }
+
+-- an axis is free, where each number passed through a word
+pub free-stored :
+    {n low high il ih : ℤ} {r : Bool} → Within 800000000 n → Within 10000 low → Within 10000 high → Within 10000 il → Within 10000 ih →
+    FreeAxis (stored n) (stored low) (stored high) (stored il) (stored ih) r → r ≡ true → Free n low high il ih
+free-stored {n} {low} {high} {il} {ih} a b c d e f y =
+    let g = f .says y in
+    record {
+      slanted = subst (λ (z : ℤ). (z <ℤ pos 0) ⊎ (pos 0 <ℤ z)) (within-stored w64 a (lit< tt)) (g .slanted);
+      up = subst (λ (z : ℤ). low <ℤ z) (same e) (subst (λ (z : ℤ). z <ℤ stored ih) (same b) (g .up));
+      down = subst (λ (z : ℤ). il <ℤ z) (same c) (subst (λ (z : ℤ). z <ℤ stored high) (same d) (g .down));
+    }
+
+-- ---- a patch held
 
 module _ {A : Type 0} (test : A → Bool) where
-  any-passes : (l : List A) → 0 < length l → ((a : A) → List·Memᴰ a l → test a ≡ true) → any test l ≡ true
-  any-passes [] h f = absurd (omega arith)
-  any-passes (a ∷ l) h f = ap (λ (b : Bool). b || any test l) (f a (List·Memᴰ·head refl))
+  any-passes : (l : List A) {a : A} → List·Memᴰ a l → test a ≡ true → any test l ≡ true
+  any-passes l m e = true-of (any test l) (any-true test l .1 (_, m, is-true e))
+    where
+      true-of : (b : Bool) → T b → b ≡ true
+      true-of true t = refl
+      true-of false t = absurd t
 
   none-passes : (l : List A) → ((a : A) → List·Memᴰ a l → test a ≡ false) → any test l ≡ false
   none-passes [] f = refl
@@ -130,25 +269,37 @@ module _ (s : Plane) (wanted : Sides) where
       (p : Patch) → any (onNegative s) (p .corners) ≡ wanted .negative → any (onPositive s) (p .corners) ≡ wanted .positive →
       held s wanted p ≡ true
   unfolding held
-  held-by p h k = rw (h, k) (ap₂ _&&_ (same (wanted .negative)) (same (wanted .positive)))
+  held-by p h k = rw (h, k) (ap₂ _&&_ (same-bit (wanted .negative)) (same-bit (wanted .positive)))
     where
-      same : (b : Bool) → Bool·beq b b ≡ true
-      same true = refl
-      same false = refl
+      same-bit : (b : Bool) → Bool·beq b b ≡ true
+      same-bit true = refl
+      same-bit false = refl
 
   pub held-in-front :
-      {b : Bounds} → wanted .negative ≡ false → wanted .positive ≡ true → ((c : Vec) → InBox b c → pos 0 <ℤ sideOf s c) →
-      (p : Patch) → Encloses b p → held s wanted p ≡ true
-  held-in-front n y f p e =
-      held-by p (none-passes (onNegative s) (p .corners) (λ c m. le-ltZ (<→≤ (f c (e .corners-in c m)))) ∙ sym n)
-      (any-passes (onPositive s) (p .corners) (e .some) (λ c m. lt-ltZ (f c (e .corners-in c m))) ∙ sym y)
+      {e : Extent} {r : Bool} → wanted .negative ≡ false → wanted .positive ≡ true → AllInFront e s r → AllHeld e s wanted r
+  held-in-front n y f =
+      record {
+        says = λ t p i.
+            let b = f .says t p i in
+            held-by p (none-passes (onNegative s) (p .corners) (λ c m. le-ltZ (b .none-below c m)) ∙ sym n)
+            (any-passes (onPositive s) (p .corners) (b .one-above .1) (lt-ltZ (b .one-above .2)) ∙ sym y);
+      }
 
   pub held-behind :
-      {b : Bounds} → wanted .negative ≡ true → wanted .positive ≡ false → ((c : Vec) → InBox b c → sideOf s c <ℤ pos 0) →
-      (p : Patch) → Encloses b p → held s wanted p ≡ true
-  held-behind n y f p e =
-      held-by p (any-passes (onNegative s) (p .corners) (e .some) (λ c m. lt-ltZ (f c (e .corners-in c m))) ∙ sym n)
-      (none-passes (onPositive s) (p .corners) (λ c m. le-ltZ (<→≤ (f c (e .corners-in c m)))) ∙ sym y)
+      {e : Extent} {r : Bool} → wanted .negative ≡ true → wanted .positive ≡ false → AllBehind e s r → AllHeld e s wanted r
+  held-behind n y f =
+      record {
+        says = λ t p i.
+            let b = f .says t p i in
+            held-by p (any-passes (onNegative s) (p .corners) (b .one-above .1) (lt-ltZ (turned-< (sideOf s (b .one-above .0)) (b .one-above .2))) ∙ sym n)
+            (none-passes (onPositive s) (p .corners) (λ c m. le-ltZ (turned-≤ (sideOf s c) (b .none-below c m))) ∙ sym y);
+      }
+    where
+      turned-< : (z : ℤ) → pos 0 <ℤ negℤ z → z <ℤ pos 0
+      turned-< z h = <-by h (ring (z ∷ []) (search reify depth 40 fits 200000, tt))
+
+      turned-≤ : (z : ℤ) → pos 0 ≤ℤ negℤ z → z ≤ℤ pos 0
+      turned-≤ z h = ≤-by h (ring (z ∷ []) (search reify depth 40 fits 200000, tt))
 
 -- ---- the patches at and below a node
 
@@ -156,14 +307,14 @@ module _ {nodes k : ℕ} {boxes : List ℤ} (s : Plane) (wanted : Sides) where
   pub settled-none : nodes ≤ k → Settled nodes k boxes s wanted true
   settled-none h = record { a-node = λ e. absurd (true≢false e); says = λ e i. absurd (omega arith) }
 
-  pub settled-beyond : {b : Bounds} {r : Bool} → k < nodes → b ≡ boxAt boxes k → Beyond b s wanted r → Settled nodes k boxes s wanted r
-  settled-beyond h e beyond =
+  pub settled-by : {e : Extent} {r : Bool} → k < nodes → e ≡ extentAt boxes k → AllHeld e s wanted r → Settled nodes k boxes s wanted r
+  settled-by h e held =
       record {
         a-node = λ n. h;
-        says = λ y i p f. beyond .says y p (subst (λ (c : Bounds). Encloses c p) (sym e) f);
+        says = λ y i p f. held .says y p (subst (λ (c : Extent). Encloses c p) (sym e) f);
       }
 
-module _ {bytes : List ℕ} {l : Layout} (w : Walkable bytes l) {boxes : List ℤ} (from : BoxesFrom bytes l 0 boxes) {k : ℕ} (s : Plane) (wanted : Sides) where
+module _ {bytes : List ℕ} {l : Layout} (w : Walkable bytes l) {boxes : List ℤ} (from : ExtentsFrom bytes l 0 boxes) {k : ℕ} (s : Plane) (wanted : Sides) where
   pub settled-held : {r : Bool} → Settled (l .nodes) k boxes s wanted r → r ≡ true → true ≡ every (held s wanted) (patchesBelow bytes k)
   settled-held settled y = go (decLt k (l .nodes))
     where

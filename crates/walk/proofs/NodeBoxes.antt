@@ -1,4 +1,4 @@
--- The boxes of the nodes, from the last one down.
+-- The extents of the nodes, from the last one down.
 use mathlib.Core.Path.{_≡_, refl, sym, subst, _∙_}
 use mathlib.Core.Logic.{_⊎_, inl, inr}
 use mathlib.Core.List.{List, List·Memᴰ, List·Memᴰ·not-nil}
@@ -18,38 +18,39 @@ use Rattle.model.proofs.Ranges.{of-range}
 use Rattle.format.specs.declared.layout.Layout.{Layout}
 use Rattle.format.specs.declared.records.Node.{Node}
 use Rattle.walk.specs.Walked.{Walkable, treeBelow, NodeIs}
-use Rattle.walk.specs.Boxes.{Covers, BoxBounded, Joined, Widened, Encloses, takesPatch, boxAt, BoxOf, BoxStored, BoxesFrom, ChildJoined}
+use Rattle.walk.specs.Boxes.{BoxBounded, Joined, Met, Widened, Encloses, Wider, ExtentBounded, takesPatch, boxAt, extentAt, ExtentOf, BoxStored, ExtentStored, ExtentsFrom, ChildJoined}
 use Rattle.walk.specs.declared.boxes.Bounds.{Bounds}
+use Rattle.walk.specs.declared.boxes.Extent.{Extent}
 use Rattle.walk.proofs.SceneNodes.{no-node}
-use Rattle.walk.proofs.BoxLaws.{stored, same, covers-refl, covers-trans, encloses-wider}
+use Rattle.walk.proofs.BoxLaws.{stored, same, wider-refl, wider-trans, encloses-wider, extent-first, extent-second, extent-bounded}
 
--- every patch of a list of numbers is in the box
-abbrev AllIn : List ℕ → Bounds → List ℕ → Type 0
-AllIn bytes b numbers = (j : ℕ) → List·Memᴰ j numbers → Encloses b (patchNumbered (decode bytes) j)
+-- every patch of a list of numbers is enclosed
+abbrev AllIn : List ℕ → Extent → List ℕ → Type 0
+AllIn bytes e numbers = (j : ℕ) → List·Memᴰ j numbers → Encloses e (patchNumbered (decode bytes) j)
 
-module _ {bytes : List ℕ} {l : Layout} {first : ℕ} {boxes : List ℤ} (from : BoxesFrom bytes l first boxes) where
-  pub child-bounded : {k : ℕ} → first ≤ k → k < l .nodes → BoxBounded (boxAt boxes k)
+module _ {bytes : List ℕ} {l : Layout} {first : ℕ} {boxes : List ℤ} (from : ExtentsFrom bytes l first boxes) where
+  pub child-bounded : {k : ℕ} → first ≤ k → k < l .nodes → ExtentBounded (extentAt boxes k)
   child-bounded {k} h i = from .each k h i .bounded
 
-  child-in : (w : Walkable bytes l) {k : ℕ} {b r : Bounds} → first ≤ k → ChildJoined (l .nodes) k boxes b r → AllIn bytes r (contents (treeBelow bytes k))
+  child-in : (w : Walkable bytes l) {k : ℕ} {e r : Extent} → first ≤ k → ChildJoined (l .nodes) k boxes e r → AllIn bytes r (contents (treeBelow bytes k))
   unfolding contents
   child-in w {k} {r = r} h c = go (decLt k (l .nodes))
     where
       go : Dec (k < l .nodes) → AllIn bytes r (contents (treeBelow bytes k))
-      go (yes i) = λ j m. encloses-wider (c .covers-child i) (from .each k h i .encloses j m)
+      go (yes i) = λ j m. encloses-wider (c .wider-child i) (from .each k h i .encloses j m)
       go (no i) = rw (no-node bytes l w k (omega arith)) (λ j m. absurd (List·Memᴰ·not-nil m))
 
-  -- the box of a node's own patches, joined with those of its children
-  pub node-boxed :
-      (w : Walkable bytes l) {k : ℕ} {n : Node} {none own front r : Bounds} →
+  -- the extent of a node's own patches, joined with those of its children
+  pub node-enclosed :
+      (w : Walkable bytes l) {k : ℕ} {n : Node} {none own front r : Extent} →
       first ≤ k + 1 →
       NodeIs bytes l k n →
-      Widened (takesPatch bytes (n .patches .first)) none own (n .patches .count) →
+      Widened Wider ExtentBounded (takesPatch bytes (n .patches .first)) none own (n .patches .count) →
       ChildJoined (l .nodes) (n .positive) boxes own front →
       ChildJoined (l .nodes) (n .negative) boxes front r →
-      BoxOf bytes k r
+      ExtentOf bytes k r
   unfolding contents
-  node-boxed w {k} {n} {r = r} h is o p q = record { bounded = q .bounded; encloses = rw (is .tree) (of-append Inside own-numbers own-in (of-append Inside front-numbers front-in back-in)) }
+  node-enclosed w {k} {n} {r = r} h is o p q = record { bounded = q .bounded; encloses = rw (is .tree) (of-append Inside own-numbers own-in (of-append Inside front-numbers front-in back-in)) }
     where
       Inside : ℕ → Type 0
       Inside j = Encloses r (patchNumbered (decode bytes) j)
@@ -61,10 +62,10 @@ module _ {bytes : List ℕ} {l : Layout} {first : ℕ} {boxes : List ℤ} (from 
       front-numbers = contents (treeBelow bytes (n .positive))
 
       own-in : AllIn bytes r own-numbers
-      own-in = of-range Inside (n .patches .first) (n .patches .count) (λ i l. encloses-wider (covers-trans (p .covers) (q .covers)) (o .each i l))
+      own-in = of-range Inside (n .patches .first) (n .patches .count) (λ i l. encloses-wider (wider-trans (p .wider) (q .wider)) (o .each i l))
 
       front-in : AllIn bytes r front-numbers
-      front-in j m = encloses-wider (q .covers) (child-in w (omega (arith, is .positive-above)) p j m)
+      front-in j m = encloses-wider (q .wider) (child-in w (omega (arith, is .positive-above)) p j m)
 
       back-in : AllIn bytes r (contents (treeBelow bytes (n .negative)))
       back-in = child-in w (omega (arith, is .negative-above)) q
@@ -162,53 +163,73 @@ module _ (l : List ℤ) (k : ℕ) (b : Bounds) where
       high-z : getD put6 (6 * k + 5) (pos 0) ≡ b .high .z
       high-z = here put5 _ (simp length-set (omega arith)) (h .high-bounded .z-within)
 
--- ---- a child's box, if there is a child
+pub extent-stored :
+    {before mid after : List ℤ} {k : ℕ} {e : Extent} → BoxStored before mid (2 * k + 1) (e .inner) → BoxStored mid after (2 * k) (e .outer) →
+    ExtentStored before after k e
+extent-stored {k = k} i o =
+    record {
+      long = o .long ∙ i .long;
+      stands = λ t. record { outer = o .stands t; inner = (o .beside (2 * k + 1) (omega arith) ∙ i .stands) t };
+      beside = λ j h t.
+          record {
+            outer = (o .beside (2 * j) (omega arith) ∙ i .beside (2 * j) (omega arith)) t;
+            inner = (o .beside (2 * j + 1) (omega arith) ∙ i .beside (2 * j + 1) (omega arith)) t;
+          };
+    }
 
-module _ {nodes k : ℕ} {boxes : List ℤ} {b : Bounds} where
-  pub no-child : nodes ≤ k → BoxBounded b → ChildJoined nodes k boxes b b
-  no-child h i = record { covers = covers-refl b; covers-child = λ j. absurd (omega arith); bounded = i }
+-- ---- a child's extent, if there is a child
 
-  pub child-joined : {c r : Bounds} → c ≡ boxAt boxes k → Joined b c r → ChildJoined nodes k boxes b r
-  child-joined {r = r} e j =
-      record { covers = j .covers-first; covers-child = λ h. subst (λ (c : Bounds). Covers c r) e (j .covers-second); bounded = j .bounded }
+module _ {nodes k : ℕ} {boxes : List ℤ} {e : Extent} where
+  pub no-child : nodes ≤ k → ExtentBounded e → ChildJoined nodes k boxes e e
+  no-child h i = record { wider = wider-refl e; wider-child = λ j. absurd (omega arith); bounded = i }
+
+  pub child-joined :
+      {f : Extent} {o i : Bounds} → f ≡ extentAt boxes k → Joined (e .outer) (f .outer) o → Met (e .inner) (f .inner) i →
+      ChildJoined nodes k boxes e (record { outer = o; inner = i })
+  child-joined {f} {o} {i} eq j m =
+      record {
+        wider = extent-first j m;
+        wider-child = λ h. subst (λ (g : Extent). Wider g (record { outer = o; inner = i })) eq (extent-second j m);
+        bounded = extent-bounded j m;
+      }
 
 -- ---- filling the list
 
--- while the boxes are filled in: those from node k on stand there
+-- while the extents are filled in: those from node k on stand there
 pub record Filling (bytes : List ℕ) (l : Layout) (before after : List ℤ) (k : ℕ) : Type 0 where
   pub most : k ≤ l .nodes
   pub long : length after ≡ length before
-  pub from : BoxesFrom bytes l k after
+  pub from : ExtentsFrom bytes l k after
 
 module _ {bytes : List ℕ} {l : Layout} {before : List ℤ} where
-  pub filling-none : 6 * l .nodes ≤ length before → Filling bytes l before before (l .nodes)
+  pub filling-none : 12 * l .nodes ≤ length before → Filling bytes l before before (l .nodes)
   filling-none room =
       record { most = omega arith; long = refl; from = record { room = room; each = λ k h i. absurd (omega arith) } }
 
-  pub filling-from : {after : List ℤ} {k : ℕ} → Filling bytes l before after k → 0 < k → BoxesFrom bytes l (k - 1 + 1) after
+  pub filling-from : {after : List ℤ} {k : ℕ} → Filling bytes l before after k → 0 < k → ExtentsFrom bytes l (k - 1 + 1) after
   filling-from {after} {k} f h =
       let e : k ≡ k - 1 + 1 = omega arith in
-      subst (λ (n : ℕ). BoxesFrom bytes l n after) e (f .from)
+      subst (λ (n : ℕ). ExtentsFrom bytes l n after) e (f .from)
 
   pub filling-more :
-      {after next : List ℤ} {k : ℕ} {b : Bounds} →
+      {after next : List ℤ} {k : ℕ} {e : Extent} →
       Filling bytes l before after k →
       0 < k →
-      BoxOf bytes (k - 1) b →
-      BoxStored after next (k - 1) b →
+      ExtentOf bytes (k - 1) e →
+      ExtentStored after next (k - 1) e →
       Filling bytes l before next (k - 1)
-  filling-more {after} {next} {k} {b} f h of s =
+  filling-more {after} {next} {k} f h of s =
       record {
         most = omega (arith, f .most);
         long = s .long ∙ f .long;
         from = record { room = omega (arith, s .long, f .from .room); each = λ i h m. at i (eq-or-lt-of-le h) m };
       }
     where
-      at : (i : ℕ) → (k - 1 ≡ i) ⊎ (k - 1 < i) → i < l .nodes → BoxOf bytes i (boxAt next i)
-      at i (inl e) m = subst (λ (n : ℕ). BoxOf bytes n (boxAt next n)) e (subst (BoxOf bytes (k - 1)) (sym (s .stands)) of)
-      at i (inr h) m = subst (BoxOf bytes i) (sym (s .beside i h)) (f .from .each i (omega arith) m)
+      at : (i : ℕ) → (k - 1 ≡ i) ⊎ (k - 1 < i) → i < l .nodes → ExtentOf bytes i (extentAt next i)
+      at i (inl e) m = subst (λ (n : ℕ). ExtentOf bytes n (extentAt next n)) e (subst (ExtentOf bytes (k - 1)) (sym (s .stands)) of)
+      at i (inr h) m = subst (ExtentOf bytes i) (sym (s .beside i h)) (f .from .each i (omega arith) m)
 
-  pub filling-all : {after : List ℤ} {k : ℕ} → Filling bytes l before after k → k ≤ 0 → BoxesFrom bytes l 0 after
+  pub filling-all : {after : List ℤ} {k : ℕ} → Filling bytes l before after k → k ≤ 0 → ExtentsFrom bytes l 0 after
   filling-all {after} {k} f h =
       let e : k ≡ 0 = omega arith in
-      subst (λ (n : ℕ). BoxesFrom bytes l n after) e (f .from)
+      subst (λ (n : ℕ). ExtentsFrom bytes l n after) e (f .from)

@@ -49,7 +49,7 @@ module _ {bytes : List ℕ} {l : Layout} (w : Walkable bytes l) {k : ℕ} where
       CornersAre bytes l (patchNumbered (decode bytes) k) (r .corners)
   corners-are h {r} e =
       record {
-        some = subst (λ (q : format.PatchRecord). 0 < q .cornerRun .count) (sym e) (omega (arith, w .inside .three k h));
+        three = subst (λ (q : format.PatchRecord). 3 ≤ q .cornerRun .count) (sym e) (w .inside .three k h);
         run-inside =
             subst (λ (q : format.PatchRecord). q .cornerRun .first + q .cornerRun .count ≤ l .corners) (sym e)
             (w .inside .corners k h .inside);

@@ -1,9 +1,10 @@
--- Boxes that bound the corners of the patches at and below a node.
+-- The extents of the nodes: boxes that bound the corners of the patches at and below them.
 use mathlib.Core.Path.{_≡_}
+use mathlib.Core.Logic.{_⊎_}
 use mathlib.Core.Bool.{Bool, true, false}
 use mathlib.Core.List.{List, List·Memᴰ, map}
 use Prim.Native.Nat.{ℕ, _+_, _*_, _≤_, _<_}
-use lib.IntN.{ℤ, pos}
+use lib.IntN.{ℤ, pos, negℤ}
 use lib.Signed.{_<ℤ_, _≤ℤ_}
 use lib.ListN.{length, getD}
 use Rattle.integer.specs.Magnitude.{Within}
@@ -20,12 +21,13 @@ use Rattle.format.specs.declared.records.Run.{Run}
 use Rattle.walk.specs.Walked.{treeBelow}
 use Rattle.walk.specs.Division.{sideOf, held}
 use Rattle.walk.specs.declared.boxes.Bounds.{Bounds}
+use Rattle.walk.specs.declared.boxes.Extent.{Extent}
 use Rattle.walk.specs.declared.division.Plane.{Plane}
 use Rattle.walk.specs.declared.division.Sides.{Sides}
 
--- the corners of p are those of a run of the corner table, and there are some
+-- the corners of p are those of a run of the corner table, three or more
 pub record CornersAre (bytes : List ℕ) (l : Layout) (p : Patch) (r : Run) : Type 0 where
-  pub some : 0 < r .count
+  pub three : 3 ≤ r .count
   pub run-inside : r .first + r .count ≤ l .corners
   pub corners-are : p .corners ≡ map (cornerNumber bytes l) (range (r .first) (r .count))
 
@@ -53,83 +55,123 @@ pub record BoxBounded (b : Bounds) : Type 0 where
 
 -- ---- the box of two boxes
 
--- r is at most a and at most b
+-- r is one of a and b, and at most the other
 pub record Least (a b r : ℤ) : Type 0 where
   pub first-most : r ≤ℤ a
   pub second-most : r ≤ℤ b
+  pub one-of : (r ≡ a) ⊎ (r ≡ b)
   pub small : Within 10000 r
 
 pub record Greatest (a b r : ℤ) : Type 0 where
   pub first-least : a ≤ℤ r
   pub second-least : b ≤ℤ r
+  pub one-of : (r ≡ a) ⊎ (r ≡ b)
   pub small : Within 10000 r
 
+-- the same on each axis
 pub record LeastCorner (u v r : Vector) : Type 0 where
-  pub first-most : AtMost (vecOf r) (vecOf u)
-  pub second-most : AtMost (vecOf r) (vecOf v)
-  pub bounded : Bounded 10000 r
+  pub x-least : Least (u .x) (v .x) (r .x)
+  pub y-least : Least (u .y) (v .y) (r .y)
+  pub z-least : Least (u .z) (v .z) (r .z)
 
 pub record GreatestCorner (u v r : Vector) : Type 0 where
-  pub first-least : AtMost (vecOf u) (vecOf r)
-  pub second-least : AtMost (vecOf v) (vecOf r)
-  pub bounded : Bounded 10000 r
+  pub x-greatest : Greatest (u .x) (v .x) (r .x)
+  pub y-greatest : Greatest (u .y) (v .y) (r .y)
+  pub z-greatest : Greatest (u .z) (v .z) (r .z)
 
+-- the least box that holds both
 pub record Joined (b c r : Bounds) : Type 0 where
-  pub covers-first : Covers b r
-  pub covers-second : Covers c r
-  pub bounded : BoxBounded r
+  pub low-is : LeastCorner (b .low) (c .low) (r .low)
+  pub high-is : GreatestCorner (b .high) (c .high) (r .high)
 
--- ---- the box of a run
+-- the box that both hold; its low end may lie above its high end
+pub record Met (b c r : Bounds) : Type 0 where
+  pub low-is : GreatestCorner (b .low) (c .low) (r .low)
+  pub high-is : LeastCorner (b .high) (c .high) (r .high)
 
--- the box b widened to r, which takes in the first i things of a run
-pub record Widened (takes : Bounds → ℕ → Type 0) (b r : Bounds) (i : ℕ) : Type 0 where
-  pub covers : Covers b r
-  pub bounded : BoxBounded r
+-- ---- what a run of corners or patches takes up
+
+-- b widened to r, which takes in the first i things of a run
+pub record Widened {X : Type 0} (wider : X → X → Type 0) (good : X → Type 0) (takes : X → ℕ → Type 0) (b r : X) (i : ℕ) : Type 0 where
+  pub covers : wider b r
+  pub bounded : good r
   pub each : (j : ℕ) → j < i → takes r j
 
--- the patch has corners, and all lie in the box
-pub record Encloses (b : Bounds) (p : Patch) : Type 0 where
-  pub some : 0 < length (p .corners)
-  pub corners-in : (c : Vec) → List·Memᴰ c (p .corners) → InBox b c
-
--- the corners from `first` on, and the patches from `first` on
+-- the corners from `first` on
 abbrev pub takesCorner : List ℕ → Layout → ℕ → Bounds → ℕ → Type 0
 takesCorner bytes l first b j = InBox b (cornerNumber bytes l (first + j))
 
-abbrev pub takesPatch : List ℕ → ℕ → Bounds → ℕ → Type 0
-takesPatch bytes first b j = Encloses b (patchNumbered (decode bytes) (first + j))
+-- along an axis the patch reaches up to `high` and down to `low`
+pub record Along (axis : Vec → ℤ) (low high : ℤ) (p : Patch) : Type 0 where
+  pub up : (c : Vec) × List·Memᴰ c (p .corners) × (high ≤ℤ axis c)
+  pub down : (c : Vec) × List·Memᴰ c (p .corners) × (axis c ≤ℤ low)
 
--- ---- the boxes of all nodes
+-- all corners of the patch lie in the outer box, and along each axis it reaches the ends of the inner one
+pub record Encloses (e : Extent) (p : Patch) : Type 0 where
+  pub corners-in : (c : Vec) → List·Memᴰ c (p .corners) → InBox (e .outer) c
+  pub x-along : Along (λ (c : Vec). c .x) (e .inner .low .x) (e .inner .high .x) p
+  pub y-along : Along (λ (c : Vec). c .y) (e .inner .low .y) (e .inner .high .y) p
+  pub z-along : Along (λ (c : Vec). c .z) (e .inner .low .z) (e .inner .high .z) p
 
--- the box holds every corner of every patch at and below node k
-pub record BoxOf (bytes : List ℕ) (k : ℕ) (b : Bounds) : Type 0 where
-  pub bounded : BoxBounded b
-  pub encloses : (j : ℕ) → List·Memᴰ j (contents (treeBelow bytes k)) → Encloses b (patchNumbered (decode bytes) j)
+-- what e encloses r encloses
+pub record Wider (e r : Extent) : Type 0 where
+  pub outer-covers : Covers (e .outer) (r .outer)
+  pub inner-covers : Covers (r .inner) (e .inner)
 
--- the box of node k: six numbers of the list
+pub record ExtentBounded (e : Extent) : Type 0 where
+  pub outer-bounded : BoxBounded (e .outer)
+  pub inner-bounded : BoxBounded (e .inner)
+
+-- the patches from `first` on
+abbrev pub takesPatch : List ℕ → ℕ → Extent → ℕ → Type 0
+takesPatch bytes first e j = Encloses e (patchNumbered (decode bytes) (first + j))
+
+-- e widened to r, which encloses the patch
+pub record PatchTaken (e r : Extent) (p : Patch) : Type 0 where
+  pub wider : Wider e r
+  pub bounded : ExtentBounded r
+  pub encloses : Encloses r p
+
+-- ---- the extents of all nodes
+
+-- every patch at and below node k is enclosed
+pub record ExtentOf (bytes : List ℕ) (k : ℕ) (e : Extent) : Type 0 where
+  pub bounded : ExtentBounded e
+  pub encloses : (j : ℕ) → List·Memᴰ j (contents (treeBelow bytes k)) → Encloses e (patchNumbered (decode bytes) j)
+
+-- box number i: six numbers of the list
 abbrev pub boxAt : List ℤ → ℕ → Bounds
-boxAt boxes k =
+boxAt boxes i =
     record {
-      low = record { x = getD boxes (6 * k) (pos 0); y = getD boxes (6 * k + 1) (pos 0); z = getD boxes (6 * k + 2) (pos 0) };
-      high = record { x = getD boxes (6 * k + 3) (pos 0); y = getD boxes (6 * k + 4) (pos 0); z = getD boxes (6 * k + 5) (pos 0) };
+      low = record { x = getD boxes (6 * i) (pos 0); y = getD boxes (6 * i + 1) (pos 0); z = getD boxes (6 * i + 2) (pos 0) };
+      high = record { x = getD boxes (6 * i + 3) (pos 0); y = getD boxes (6 * i + 4) (pos 0); z = getD boxes (6 * i + 5) (pos 0) };
     }
 
--- the nodes from number `first` on have their boxes in the list
-pub record BoxesFrom (bytes : List ℕ) (l : Layout) (first : ℕ) (boxes : List ℤ) : Type 0 where
-  pub room : 6 * l .nodes ≤ length boxes
-  pub each : (k : ℕ) → first ≤ k → k < l .nodes → BoxOf bytes k (boxAt boxes k)
+-- the extent of node k: two boxes
+abbrev pub extentAt : List ℤ → ℕ → Extent
+extentAt boxes k = record { outer = boxAt boxes (2 * k); inner = boxAt boxes (2 * k + 1) }
 
--- the box b now stands at k, and the boxes after it are as they were
-pub record BoxStored (before after : List ℤ) (k : ℕ) (b : Bounds) : Type 0 where
+-- the nodes from number `first` on have their extents in the list
+pub record ExtentsFrom (bytes : List ℕ) (l : Layout) (first : ℕ) (boxes : List ℤ) : Type 0 where
+  pub room : 12 * l .nodes ≤ length boxes
+  pub each : (k : ℕ) → first ≤ k → k < l .nodes → ExtentOf bytes k (extentAt boxes k)
+
+-- the box b now stands at i, and the boxes after it are as they were
+pub record BoxStored (before after : List ℤ) (i : ℕ) (b : Bounds) : Type 0 where
   pub long : length after ≡ length before
-  pub stands : boxAt after k ≡ b
-  pub beside : (j : ℕ) → k < j → boxAt after j ≡ boxAt before j
+  pub stands : boxAt after i ≡ b
+  pub beside : (j : ℕ) → i < j → boxAt after j ≡ boxAt before j
 
--- the box b widened to r by the box of a child, where the child is a node
-pub record ChildJoined (nodes k : ℕ) (boxes : List ℤ) (b r : Bounds) : Type 0 where
-  pub covers : Covers b r
-  pub covers-child : k < nodes → Covers (boxAt boxes k) r
-  pub bounded : BoxBounded r
+pub record ExtentStored (before after : List ℤ) (k : ℕ) (e : Extent) : Type 0 where
+  pub long : length after ≡ length before
+  pub stands : extentAt after k ≡ e
+  pub beside : (j : ℕ) → k < j → extentAt after j ≡ extentAt before j
+
+-- e widened to r by the extent of a child, where the child is a node
+pub record ChildJoined (nodes k : ℕ) (boxes : List ℤ) (e r : Extent) : Type 0 where
+  pub wider : Wider e r
+  pub wider-child : k < nodes → Wider (extentAt boxes k) r
+  pub bounded : ExtentBounded r
 
 -- ---- a box and a plane
 
@@ -143,18 +185,41 @@ pub record CornerBy (normal low high r : Vector) : Type 0 where
   pub y-end : EndBy (normal .y) (low .y) (high .y) (r .y)
   pub z-end : EndBy (normal .z) (low .z) (high .z) (r .z)
 
--- yes is said only where every point of the box is on the side
-pub record AllInFront (b : Bounds) (s : Plane) (r : Bool) : Type 0 where
-  pub says : r ≡ true → (c : Vec) → InBox b c → pos 0 <ℤ sideOf s c
+-- along an axis that the normal is not square to, no patch lies in an end of the outer box
+pub record Free (n low high inner-low inner-high : ℤ) : Type 0 where
+  pub slanted : (n <ℤ pos 0) ⊎ (pos 0 <ℤ n)
+  pub up : low <ℤ inner-high
+  pub down : inner-low <ℤ high
 
-pub record AllBehind (b : Bounds) (s : Plane) (r : Bool) : Type 0 where
-  pub says : r ≡ true → (c : Vec) → InBox b c → sideOf s c <ℤ pos 0
+pub record FreeAxis (n low high inner-low inner-high : ℤ) (r : Bool) : Type 0 where
+  pub says : r ≡ true → Free n low high inner-low inner-high
 
--- yes is said only where every patch in the box is held
-pub record Beyond (b : Bounds) (s : Plane) (wanted : Sides) (r : Bool) : Type 0 where
-  pub says : r ≡ true → (p : Patch) → Encloses b p → held s wanted p ≡ true
+-- there is such an axis
+pub data SomeFree (e : Extent) (normal : Vector) : Type 0 where
+  x-free : Free (normal .x) (e .outer .low .x) (e .outer .high .x) (e .inner .low .x) (e .inner .high .x) → SomeFree e normal
+  y-free : Free (normal .y) (e .outer .low .y) (e .outer .high .y) (e .inner .low .y) (e .inner .high .y) → SomeFree e normal
+  z-free : Free (normal .z) (e .outer .low .z) (e .outer .high .z) (e .inner .low .z) (e .inner .high .z) → SomeFree e normal
 
--- no is said only where there is a node k, and yes only where every patch in its box is held
+pub record FreeSays (e : Extent) (normal : Vector) (r : Bool) : Type 0 where
+  pub says : r ≡ true → SomeFree e normal
+
+-- no corner has a negative number, and one has a positive one
+pub record Beyond (number : Vec → ℤ) (p : Patch) : Type 0 where
+  pub none-below : (c : Vec) → List·Memᴰ c (p .corners) → pos 0 ≤ℤ number c
+  pub one-above : (c : Vec) × List·Memᴰ c (p .corners) × (pos 0 <ℤ number c)
+
+-- yes is said only where every patch enclosed is in front of the plane, or behind it
+pub record AllInFront (e : Extent) (s : Plane) (r : Bool) : Type 0 where
+  pub says : r ≡ true → (p : Patch) → Encloses e p → Beyond (sideOf s) p
+
+pub record AllBehind (e : Extent) (s : Plane) (r : Bool) : Type 0 where
+  pub says : r ≡ true → (p : Patch) → Encloses e p → Beyond (λ (c : Vec). negℤ (sideOf s c)) p
+
+-- yes is said only where every patch enclosed is held
+pub record AllHeld (e : Extent) (s : Plane) (wanted : Sides) (r : Bool) : Type 0 where
+  pub says : r ≡ true → (p : Patch) → Encloses e p → held s wanted p ≡ true
+
+-- no is said only where there is a node k, and yes only where every patch in its extent is held
 pub record Settled (nodes k : ℕ) (boxes : List ℤ) (s : Plane) (wanted : Sides) (r : Bool) : Type 0 where
   pub a-node : r ≡ false → k < nodes
-  pub says : r ≡ true → k < nodes → (p : Patch) → Encloses (boxAt boxes k) p → held s wanted p ≡ true
+  pub says : r ≡ true → k < nodes → (p : Patch) → Encloses (extentAt boxes k) p → held s wanted p ≡ true

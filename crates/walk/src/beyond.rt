@@ -1,6 +1,6 @@
-// A box that lies wholly on one side of a plane answers for all patches in it.
-use crate::boxes::Bounds;
-use crate::boxes::box_at;
+// An extent that lies wholly on one side of a plane answers for all its patches.
+use crate::boxes::Extent;
+use crate::boxes::extent_at;
 use crate::division::Plane;
 use crate::division::Sides;
 use geometry::Vector;
@@ -9,7 +9,7 @@ ghost use Prim.Native.Nat.{_*_, _≤_, _<_};
 ghost use lib.ListN.{length};
 ghost use Rattle.geometry.specs.Machine.{Bounded};
 ghost use Rattle.walk.specs.Division.{PlaneBounded};
-ghost use Rattle.walk.specs.Boxes.{BoxBounded, EndBy, CornerBy, AllInFront, AllBehind, Beyond, boxAt, Settled};
+ghost use Rattle.walk.specs.Boxes.{ExtentBounded, extentAt, EndBy, CornerBy, FreeAxis, FreeSays, AllInFront, AllBehind, AllHeld, Settled};
 
 // the end of an axis where n · c is least
 fn end_by(n: i64, low: i64, high: i64) -> i64
@@ -33,49 +33,94 @@ fn corner_by(normal: Vector, low: Vector, high: Vector) -> Vector
     }
 }
 
-fn all_in_front(b: Bounds, plane: Plane) -> bool
-    requires { ⌜ BoxBounded b × PlaneBounded plane ⌝ }
-    ensures { λ r. ⌜ AllInFront b plane r ⌝ }
+// along this axis, which the normal is not square to, no patch lies in an end of the outer box: each reaches down and up from the ends
+fn free_axis(n: i64, low: i64, high: i64, down: i64, up: i64) -> bool
+    ensures { λ r. ⌜ FreeAxis n low high down up r ⌝ }
 {
+    if up <= low {
+        return false;
+    }
+    if high <= down {
+        return false;
+    }
+    if n < 0 {
+        return true;
+    }
+    if 0 < n {
+        return true;
+    }
+    false
+}
+
+// there is such an axis, so that no patch lies wholly in a plane that only touches the outer box
+fn some_free(e: Extent, normal: Vector) -> bool
+    requires { ⌜ ExtentBounded e × Bounded 800000000 normal ⌝ }
+    ensures { λ r. ⌜ FreeSays e normal r ⌝ }
+{
+    let o = e.outer;
+    let i = e.inner;
+    if free_axis(normal.x, o.low.x, o.high.x, i.low.x, i.high.x) {
+        return true;
+    }
+    if free_axis(normal.y, o.low.y, o.high.y, i.low.y, i.high.y) {
+        return true;
+    }
+    free_axis(normal.z, o.low.z, o.high.z, i.low.z, i.high.z)
+}
+
+fn all_in_front(e: Extent, plane: Plane) -> bool
+    requires { ⌜ ExtentBounded e × PlaneBounded plane ⌝ }
+    ensures { λ r. ⌜ AllInFront e plane r ⌝ }
+{
+    let b = e.outer;
     let c = corner_by(plane.normal, b.low, b.high);
-    if 0 < side(plane.normal, plane.a, c) {
+    let z = side(plane.normal, plane.a, c);
+    if 0 < z {
         return true;
     }
-    false
+    if z < 0 {
+        return false;
+    }
+    some_free(e, plane.normal)
 }
 
-fn all_behind(b: Bounds, plane: Plane) -> bool
-    requires { ⌜ BoxBounded b × PlaneBounded plane ⌝ }
-    ensures { λ r. ⌜ AllBehind b plane r ⌝ }
+fn all_behind(e: Extent, plane: Plane) -> bool
+    requires { ⌜ ExtentBounded e × PlaneBounded plane ⌝ }
+    ensures { λ r. ⌜ AllBehind e plane r ⌝ }
 {
+    let b = e.outer;
     let c = corner_by(plane.normal, b.high, b.low);
-    if side(plane.normal, plane.a, c) < 0 {
+    let z = side(plane.normal, plane.a, c);
+    if z < 0 {
         return true;
     }
-    false
+    if 0 < z {
+        return false;
+    }
+    some_free(e, plane.normal)
 }
 
-// all patches in the box have corners on just the side that is wanted
-fn beyond(b: Bounds, plane: Plane, wanted: Sides) -> bool
-    requires { ⌜ BoxBounded b × PlaneBounded plane ⌝ }
-    ensures { λ r. ⌜ Beyond b plane wanted r ⌝ }
+// all patches enclosed have corners on just the side that is wanted, or on that and the plane
+fn all_held(e: Extent, plane: Plane, wanted: Sides) -> bool
+    requires { ⌜ ExtentBounded e × PlaneBounded plane ⌝ }
+    ensures { λ r. ⌜ AllHeld e plane wanted r ⌝ }
 {
     if wanted.negative == wanted.positive {
         return false;
     }
     if wanted.positive {
-        return all_in_front(b, plane);
+        return all_in_front(e, plane);
     }
-    all_behind(b, plane)
+    all_behind(e, plane)
 }
 
-// nothing at and below node k is left to look at: there is no such node, or its box is beyond the plane
+// nothing at and below node k is left to look at: there is no such node, or its extent answers for all
 pub fn settled(nodes: usize, k: usize, plane: Plane, wanted: Sides, boxes: &[i64]) -> bool
-    requires { ⌜ PlaneBounded plane × (6 * nodes ≤ length (now boxes)) × (k < nodes → BoxBounded (boxAt (now boxes) k)) ⌝ }
+    requires { ⌜ PlaneBounded plane × (12 * nodes ≤ length (now boxes)) × (k < nodes → ExtentBounded (extentAt (now boxes) k)) ⌝ }
     ensures { λ r. ⌜ Settled nodes k (now (boxes .entry)) plane wanted r ⌝ }
 {
     if nodes <= k {
         return true;
     }
-    beyond(box_at(boxes, k), plane, wanted)
+    all_held(extent_at(boxes, k), plane, wanted)
 }

@@ -1,4 +1,4 @@
-// Boxes of the nodes: the least and the greatest coordinate on each axis of all corners at and below a node.
+// The extents of the nodes: boxes that bound all corners at and below them.
 use crate::scene::corner_run;
 use crate::scene::tree_corner;
 use crate::scene::tree_node;
@@ -8,13 +8,20 @@ ghost use mathlib.Core.Path.{_≡_};
 ghost use Prim.Native.Nat.{_+_, _*_, _≤_, _<_};
 ghost use lib.ListN.{length};
 ghost use Rattle.integer.specs.Magnitude.{Within};
+ghost use Rattle.model.specs.Format.{decode, patchNumbered};
 ghost use Rattle.geometry.specs.Machine.{Bounded};
 ghost use Rattle.walk.specs.Walked.{Walkable};
-ghost use Rattle.walk.specs.Boxes.{Least, Greatest, LeastCorner, GreatestCorner, BoxBounded, Joined, Widened, takesCorner, takesPatch, boxAt, BoxOf, BoxStored, BoxesFrom, ChildJoined};
+ghost use Rattle.walk.specs.Boxes.{Least, Greatest, LeastCorner, GreatestCorner, Covers, BoxBounded, Joined, Met, Widened, takesCorner, Wider, ExtentBounded, takesPatch, PatchTaken, boxAt, extentAt, ExtentOf, BoxStored, ExtentStored, ExtentsFrom, ChildJoined};
 
 pub struct Bounds {
     pub low: Vector,
     pub high: Vector,
+}
+
+// All corners of some patches lie in the outer box; along each axis each of the patches reaches both ends of the inner one.
+pub struct Extent {
+    pub outer: Bounds,
+    pub inner: Bounds,
 }
 
 // numbers of a box in the list of boxes
@@ -62,7 +69,7 @@ fn greatest_corner(u: Vector, v: Vector) -> Vector
     }
 }
 
-// the box of two boxes
+// the least box that holds both
 fn joined_box(b: Bounds, c: Bounds) -> Bounds
     requires { ⌜ BoxBounded b × BoxBounded c ⌝ }
     ensures { λ r. ⌜ Joined b c r ⌝ }
@@ -73,10 +80,21 @@ fn joined_box(b: Bounds, c: Bounds) -> Bounds
     }
 }
 
+// the box that both hold
+fn met_box(b: Bounds, c: Bounds) -> Bounds
+    requires { ⌜ BoxBounded b × BoxBounded c ⌝ }
+    ensures { λ r. ⌜ Met b c r ⌝ }
+{
+    Bounds {
+        low: greatest_corner(b.low, c.low),
+        high: least_corner(b.high, c.high),
+    }
+}
+
 // the box widened to the corners of a run
 fn corners_box(bytes: &[u8], l: Layout, first: usize, count: usize, b: Bounds) -> Bounds
     requires { ⌜ Walkable (now bytes) l × (first + count ≤ l .corners) × BoxBounded b ⌝ }
-    ensures { λ r. ⌜ Widened (takesCorner (now (bytes .entry)) l first) b r count ⌝ }
+    ensures { λ r. ⌜ Widened Covers BoxBounded (takesCorner (now (bytes .entry)) l first) b r count ⌝ }
 {
     let mut wide = b;
     let mut i = 0;
@@ -88,23 +106,36 @@ fn corners_box(bytes: &[u8], l: Layout, first: usize, count: usize, b: Bounds) -
     wide
 }
 
-// the box widened to the patches of a run
-fn patches_box(bytes: &[u8], l: Layout, first: usize, count: usize, b: Bounds) -> Bounds
-    requires { ⌜ Walkable (now bytes) l × (first + count ≤ l .patches) × BoxBounded b ⌝ }
-    ensures { λ r. ⌜ Widened (takesPatch (now (bytes .entry)) first) b r count ⌝ }
+// the extent widened to a patch, whose corners are a run; how far it reaches is seen by two of them
+fn patch_extent(bytes: &[u8], l: Layout, k: usize, e: Extent) -> Extent
+    requires { ⌜ Walkable (now bytes) l × (k < l .patches) × ExtentBounded e ⌝ }
+    ensures { λ r. ⌜ PatchTaken e r (patchNumbered (decode (now (bytes .entry))) k) ⌝ }
 {
-    let mut wide = b;
+    let run = corner_run(bytes, l, k);
+    let a = tree_corner(bytes, l, run.first);
+    let c = tree_corner(bytes, l, run.first + 2);
+    let both = joined_box(Bounds { low: a, high: a }, Bounds { low: c, high: c });
+    Extent {
+        outer: corners_box(bytes, l, run.first, run.count, e.outer),
+        inner: met_box(e.inner, both),
+    }
+}
+
+// the extent widened to the patches of a run
+fn patches_extent(bytes: &[u8], l: Layout, first: usize, count: usize, e: Extent) -> Extent
+    requires { ⌜ Walkable (now bytes) l × (first + count ≤ l .patches) × ExtentBounded e ⌝ }
+    ensures { λ r. ⌜ Widened Wider ExtentBounded (takesPatch (now (bytes .entry)) first) e r count ⌝ }
+{
+    let mut wide = e;
     let mut i = 0;
     while i < count {
-        let run = corner_run(bytes, l, first + i);
-        wide = corners_box(bytes, l, run.first, run.count, wide);
+        wide = patch_extent(bytes, l, first + i, wide);
         i += 1;
     }
     wide
 }
 
-// the box of node k
-pub fn box_at(boxes: &[i64], k: usize) -> Bounds
+fn box_at(boxes: &[i64], k: usize) -> Bounds
     requires { ⌜ (6 * k + 6 ≤ length (now boxes)) × BoxBounded (boxAt (now boxes) k) ⌝ }
     ensures { λ r. ⌜ r ≡ boxAt (now (boxes .entry)) k ⌝ }
 {
@@ -143,50 +174,86 @@ fn store_box(boxes: &mut [i64], k: usize, b: Bounds)
     boxes[at + 5] = high_z;
 }
 
-// the box widened to that of a child, if there is one
-fn with_child(b: Bounds, boxes: &[i64], nodes: usize, k: usize) -> Bounds
-    requires { ⌜ BoxBounded b × (6 * nodes ≤ length (now boxes)) × (k < nodes → BoxBounded (boxAt (now boxes) k)) ⌝ }
-    ensures { λ r. ⌜ ChildJoined nodes k (now (boxes .entry)) b r ⌝ }
+// the extent of node k
+pub fn extent_at(boxes: &[i64], k: usize) -> Extent
+    requires { ⌜ (12 * k + 12 ≤ length (now boxes)) × ExtentBounded (extentAt (now boxes) k) ⌝ }
+    ensures { λ r. ⌜ r ≡ extentAt (now (boxes .entry)) k ⌝ }
 {
-    if nodes <= k {
-        return b;
+    Extent {
+        outer: box_at(boxes, 2 * k),
+        inner: box_at(boxes, 2 * k + 1),
     }
-    joined_box(b, box_at(boxes, k))
 }
 
-// the box of node k, from its own patches and the boxes of its children
-fn node_box(bytes: &[u8], l: Layout, k: usize, boxes: &[i64]) -> Bounds
-    requires { ⌜ Walkable (now bytes) l × (k < l .nodes) × BoxesFrom (now bytes) l (k + 1) (now boxes) ⌝ }
-    ensures { λ r. ⌜ BoxOf (now (bytes .entry)) k r ⌝ }
+fn store_extent(boxes: &mut [i64], k: usize, e: Extent)
+    requires { ⌜ (12 * k + 12 ≤ length (now boxes)) × ExtentBounded e ⌝ }
+    ensures { λ r. ⌜ ExtentStored (now (boxes .entry)) (now (boxes .exit)) k e ⌝ }
+{
+    store_box(boxes, 2 * k + 1, e.inner);
+    store_box(boxes, 2 * k, e.outer);
+}
+
+// the extent widened to that of a child, if there is one
+fn with_child(e: Extent, boxes: &[i64], nodes: usize, k: usize) -> Extent
+    requires { ⌜ ExtentBounded e × (12 * nodes ≤ length (now boxes)) × (k < nodes → ExtentBounded (extentAt (now boxes) k)) ⌝ }
+    ensures { λ r. ⌜ ChildJoined nodes k (now (boxes .entry)) e r ⌝ }
+{
+    if nodes <= k {
+        return e;
+    }
+    let child = extent_at(boxes, k);
+    Extent {
+        outer: joined_box(e.outer, child.outer),
+        inner: met_box(e.inner, child.inner),
+    }
+}
+
+// the extent of no patch: joined to another it leaves that as it is
+fn no_extent() -> Extent
+    ensures { λ r. ⌜ ExtentBounded r ⌝ }
+{
+    let lowest = Vector {
+        x: -10000,
+        y: -10000,
+        z: -10000,
+    };
+    let highest = Vector {
+        x: 10000,
+        y: 10000,
+        z: 10000,
+    };
+    Extent {
+        outer: Bounds {
+            low: highest,
+            high: lowest,
+        },
+        inner: Bounds {
+            low: lowest,
+            high: highest,
+        },
+    }
+}
+
+// the extent of node k, from its own patches and the extents of its children
+fn node_extent(bytes: &[u8], l: Layout, k: usize, boxes: &[i64]) -> Extent
+    requires { ⌜ Walkable (now bytes) l × (k < l .nodes) × ExtentsFrom (now bytes) l (k + 1) (now boxes) ⌝ }
+    ensures { λ r. ⌜ ExtentOf (now (bytes .entry)) k r ⌝ }
 {
     let n = tree_node(bytes, l, k);
-    // joined to another box it leaves that as it is
-    let nothing = Bounds {
-        low: Vector {
-            x: 10000,
-            y: 10000,
-            z: 10000,
-        },
-        high: Vector {
-            x: -10000,
-            y: -10000,
-            z: -10000,
-        },
-    };
-    let own = patches_box(bytes, l, n.patches.first, n.patches.count, nothing);
+    let own = patches_extent(bytes, l, n.patches.first, n.patches.count, no_extent());
     let front = with_child(own, boxes, l.nodes, n.positive);
     with_child(front, boxes, l.nodes, n.negative)
 }
 
-// the boxes of all nodes, from the last one down: children have higher numbers than their parents
-pub fn fill_boxes(bytes: &[u8], l: Layout, boxes: &mut [i64])
-    requires { ⌜ Walkable (now bytes) l × (6 * l .nodes ≤ length (now boxes)) ⌝ }
-    ensures { λ r. ⌜ BoxesFrom (now (bytes .entry)) l 0 (now (boxes .exit)) ⌝ }
+// the extents of all nodes, from the last one down: children have higher numbers than their parents
+pub fn fill_extents(bytes: &[u8], l: Layout, boxes: &mut [i64])
+    requires { ⌜ Walkable (now bytes) l × (12 * l .nodes ≤ length (now boxes)) ⌝ }
+    ensures { λ r. ⌜ ExtentsFrom (now (bytes .entry)) l 0 (now (boxes .exit)) ⌝ }
 {
     let mut k = l.nodes;
     while 0 < k {
         k -= 1;
-        let b = node_box(bytes, l, k, boxes);
-        store_box(boxes, k, b);
+        let e = node_extent(bytes, l, k, boxes);
+        store_extent(boxes, k, e);
     }
 }

@@ -1,6 +1,6 @@
 // Question 9: the planes divide the patches as the tree says.
 use crate::beyond::settled;
-use crate::boxes::fill_boxes;
+use crate::boxes::fill_extents;
 use crate::scene::corner_run;
 use crate::scene::tree_corner;
 use crate::scene::tree_node;
@@ -21,7 +21,7 @@ ghost use Rattle.geometry.specs.Machine.{planeOf};
 ghost use Rattle.format.specs.Layout.{cornerNumber};
 ghost use Rattle.walk.specs.Walked.{Walkable, PointsBounded, treeBelow};
 ghost use Rattle.walk.specs.Division.{PlaneBounded, PlaneIs, SidesAre, Joins, held, nodeDivides};
-ghost use Rattle.walk.specs.Boxes.{BoxesFrom};
+ghost use Rattle.walk.specs.Boxes.{ExtentsFrom};
 
 // a plane by one of its points and its normal
 pub struct Plane {
@@ -118,7 +118,7 @@ fn subtree_held(
     wanted: Sides,
     boxes: &[i64],
 ) -> bool
-    requires { ⌜ Walkable (now bytes) l × PlaneBounded plane × BoxesFrom (now bytes) l 0 (now boxes) × (k < l .nodes) ⌝ }
+    requires { ⌜ Walkable (now bytes) l × PlaneBounded plane × ExtentsFrom (now bytes) l 0 (now boxes) × (k < l .nodes) ⌝ }
     ensures { λ r. ⌜ r ≡ every (held plane wanted) (map (patchNumbered (decode (now (bytes .entry)))) (contents (treeBelow (now (bytes .entry)) k))) ⌝ }
 {
     let n = tree_node(bytes, l, k);
@@ -138,7 +138,7 @@ fn subtree_held(
 
 // every patch at and below node k, if there is one, is held
 fn below_held(bytes: &[u8], l: Layout, k: usize, plane: Plane, wanted: Sides, boxes: &[i64]) -> bool
-    requires { ⌜ Walkable (now bytes) l × PlaneBounded plane × BoxesFrom (now bytes) l 0 (now boxes) ⌝ }
+    requires { ⌜ Walkable (now bytes) l × PlaneBounded plane × ExtentsFrom (now bytes) l 0 (now boxes) ⌝ }
     ensures { λ r. ⌜ r ≡ every (held plane wanted) (map (patchNumbered (decode (now (bytes .entry)))) (contents (treeBelow (now (bytes .entry)) k))) ⌝ }
 {
     if settled(l.nodes, k, plane, wanted, boxes) {
@@ -161,7 +161,7 @@ fn plane_of(n: Node) -> Plane
 // question 9 at one node
 fn node_divides(bytes: &[u8], l: Layout, n: Node, boxes: &[i64]) -> bool
     requires { ⌜ Walkable (now bytes) l × PointsBounded n × (n .patches .first + n .patches .count ≤ l .patches)
-        × BoxesFrom (now bytes) l 0 (now boxes) ⌝ }
+        × ExtentsFrom (now bytes) l 0 (now boxes) ⌝ }
     ensures { λ r. ⌜ r ≡ nodeDivides (now (bytes .entry)) n ⌝ }
 {
     let plane = plane_of(n);
@@ -188,7 +188,7 @@ fn node_divides(bytes: &[u8], l: Layout, n: Node, boxes: &[i64]) -> bool
 
 // question 9 at and below node k
 fn divides_below(bytes: &[u8], l: Layout, k: usize, boxes: &[i64]) -> bool
-    requires { ⌜ Walkable (now bytes) l × BoxesFrom (now bytes) l 0 (now boxes) ⌝ }
+    requires { ⌜ Walkable (now bytes) l × ExtentsFrom (now bytes) l 0 (now boxes) ⌝ }
     ensures { λ r. ⌜ r ≡ divides (mapTree (patchNumbered (decode (now (bytes .entry)))) (treeBelow (now (bytes .entry)) k)) ⌝ }
 {
     if l.nodes <= k {
@@ -209,7 +209,7 @@ pub fn planes_divide(bytes: &[u8], l: Layout) -> bool
     requires { ⌜ Walkable (now bytes) l ⌝ }
     ensures { λ r. ⌜ r ≡ planesDivide (decode (now (bytes .entry))) ⌝ }
 {
-    let mut boxes = [0i64; 6144];
-    fill_boxes(bytes, l, &mut boxes);
+    let mut boxes = [0i64; 12288];
+    fill_extents(bytes, l, &mut boxes);
     divides_below(bytes, l, 0, &boxes)
 }

@@ -1,19 +1,19 @@
 -- `walk::boxes::corners_box` meets its contract: while the loop runs, the box takes in the first i corners.
 use Prim.Native.Nat.{_-_, _≤_}
 use native.Mathlib.Omega.{arith}
-use Rattle.walk.specs.Boxes.{takesCorner}
-use Rattle.walk.proofs.BoxLaws.{Widening, widening-none, widening-all, corner-taken}
+use Rattle.walk.specs.Boxes.{Covers, BoxBounded, takesCorner}
+use Rattle.walk.proofs.BoxLaws.{covers-refl, Widening, widening-none, widening-all, corner-taken}
 use Rattle.walk.proofs.boxes.corners_box.Statement.{statement}
 use Rattle.walk.proofs.boxes.corners_box.Tie as tie
 
 abbrev Inv-loop : tie.InvT-loop
-Inv-loop bytes l first count wide₀ i₀ wide i = Widening (takesCorner bytes l first) count wide₀ wide i
+Inv-loop bytes l first count wide₀ i₀ wide i = Widening Covers BoxBounded (takesCorner bytes l first) count wide₀ wide i
 
 abbrev μ-loop : tie.MeasureT-loop
 μ-loop bytes l first count wide₀ i₀ wide i = count - i
 
 loop-holds : tie.Need-loop-holds Inv-loop μ-loop
-loop-holds c = widening-none (c .before .pre .2)
+loop-holds c = widening-none (covers-refl _) (c .before .pre .2)
 
 add-tree-corner : tie.Need-add-tree-corner Inv-loop μ-loop
 add-tree-corner c = omega arith

@@ -5,11 +5,11 @@ use Rattle.model.specs.Questions.{planesDivide}
 use Rattle.walk.proofs.division.planes_divide.Statement.{statement}
 use Rattle.walk.proofs.division.planes_divide.Tie as tie
 
-slice-aggregate-fill-boxes : tie.Need-slice-aggregate-fill-boxes
-slice-aggregate-fill-boxes c = search needs
+slice-aggregate-fill-extents : tie.Need-slice-aggregate-fill-extents
+slice-aggregate-fill-extents c = search needs
 
-fill-boxes-requires : tie.Need-fill-boxes-requires
-fill-boxes-requires c κs = search needs
+fill-extents-requires : tie.Need-fill-extents-requires
+fill-extents-requires c κs = search needs
 
 slice-aggregate-divides-below : tie.Need-slice-aggregate-divides-below
 slice-aggregate-divides-below c = search needs
@@ -25,8 +25,8 @@ pub planes-divide-spec : {M : Type 1} → statement M
 planes-divide-spec =
     tie.close
     (tie.spec
-    slice-aggregate-fill-boxes
-    fill-boxes-requires
+    slice-aggregate-fill-extents
+    fill-extents-requires
     slice-aggregate-divides-below
     divides-below-requires
     returns)
