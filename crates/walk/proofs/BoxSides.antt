@@ -7,14 +7,14 @@ use Prim.Native.Nat.{ℕ, _≤_, _<_}
 use native.Mathlib.Omega.{arith}
 use native.Mathlib.Decide.{decLt}
 use lib.Dec.{T, lit<}
-use lib.IntN.{ℤ, pos, negℤ, _+ℤ_, _-ℤ_, _*ℤ_}
+use lib.IntN.{ℤ, pos, negℤ, _+ℤ_, _-ℤ_, _*ℤ_, +ℤ-idl}
 use lib.Signed.{_<ℤ_, _≤ℤ_, clashℤ}
 use mir.Syntax.{w64}
 use Rattle.integer.specs.Magnitude.{Within}
 use Rattle.integer.proofs.Magnitude.{within-stored}
 use Rattle.integer.proofs.Identity.{ring, reify}
 use Rattle.integer.proofs.Order.{<-by, ≤-by, ≤-diff, <-diff, +-nonneg, +-pos-nonneg, +-nonneg-pos, ≤ℤ-<ℤ-trans, lt-ltZ, le-ltZ, <→≤}
-use Rattle.integer.proofs.Products.{neg-of-neg, neg-of-nonpos, *-nonneg, *-nonpos-nonpos, *-pos, *-neg-neg}
+use Rattle.integer.proofs.Products.{*-nonneg, *-nonpos-nonpos, *-pos, *-neg-neg}
 use Rattle.model.specs.Lists.{every, any}
 use Rattle.model.specs.Vector.{Vec}
 use Rattle.model.specs.Patch.{Patch}
@@ -27,7 +27,8 @@ use Rattle.geometry.specs.declared.Vector.{Vector}
 use Rattle.format.specs.declared.layout.Layout.{Layout}
 use Rattle.walk.specs.Walked.{Walkable, treeBelow}
 use Rattle.walk.specs.Division.{sideOf, onNegative, onPositive, held}
-use Rattle.walk.specs.Boxes.{Along, Encloses, extentAt, ExtentsFrom, EndBy, rising, falling, CornerBy, Free, FreeAxis, SomeFree, x-free, y-free, z-free, FreeSays, Beyond, AllInFront, AllBehind, AllHeld, Settled}
+use Rattle.walk.specs.Boxes.{Along, Encloses, extentAt, ExtentsFrom, EndBy, rising, falling, CornerBy, Free, FreeAxis, SomeFree, x-free, y-free, z-free, LeastNumber, AllHeld, Settled}
+use Rattle.walk.specs.declared.boxes.Bounds.{Bounds}
 use Rattle.walk.specs.declared.boxes.Extent.{Extent}
 use Rattle.walk.specs.declared.division.Plane.{Plane}
 use Rattle.walk.specs.declared.division.Sides.{Sides}
@@ -131,8 +132,13 @@ module _ (axis : Vec → ℤ) {n low high il ih m : ℤ} {p : Patch} (inside : (
         one-above = λ f. off-greatest f along k;
       }
 
+-- no corner has a negative number, and one has a positive one
+record Beyond (number : Vec → ℤ) (p : Patch) : Type 0 where
+  none-below : (c : Vec) → List·Memᴰ c (p .corners) → pos 0 ≤ℤ number c
+  one-above : (c : Vec) × List·Memᴰ c (p .corners) × (pos 0 <ℤ number c)
+
 -- why a box's corner tells: it is beyond the plane, or on it with an axis free
-data Told (e : Extent) (normal : Vector) (base : ℤ) : Type 0 where
+pub data Told (e : Extent) (normal : Vector) (base : ℤ) : Type 0 where
   strictly : pos 0 <ℤ base → Told e normal base
   touching : SomeFree e normal → pos 0 ≤ℤ base → Told e normal base
 
@@ -219,26 +225,23 @@ module _ {e : Extent} {p : Patch} (i : Encloses e p) where
       (i .x-along .up .0)
       (i .x-along .up .1)
 
--- ---- what the tests tell
+-- ---- what the machine finds, where each number passed through a word
 
-module _ (s : Plane) {e : Extent} {m : Vector} {n : ℕ} {z : ℤ} (is : NumberIs n (sideOf s (vecOf m)) z) where
-  module _ (k : CornerBy (s .normal) (e .outer .low) (e .outer .high) m) where
-    pub in-front : pos 0 <ℤ z → AllInFront e s true
-    in-front h = record { says = λ y p i. front-beyond i s k (strictly (subst (λ (v : ℤ). pos 0 <ℤ v) (is .value) h)) }
+module _ (s : Plane) (m : Vector) {z : ℤ} (is : NumberIs 48000000000000 (sideOf s (vecOf m)) z) where
+  value-is : stored z ≡ sideOf s (vecOf m)
+  value-is = within-stored w64 (is .bounded) (lit< tt) ∙ is .value
 
-    pub touches-front : {r : Bool} → pos 0 ≤ℤ z → FreeSays e (s .normal) r → AllInFront e s r
-    touches-front h f =
-        record { says = λ y p i. front-beyond i s k (touching (f .says y) (subst (λ (v : ℤ). pos 0 ≤ℤ v) (is .value) h)) }
+  pub least-in-front : {b : Bounds} {front : Bool} → front ≡ true → CornerBy (s .normal) (b .low) (b .high) m → LeastNumber b s front (stored z)
+  least-in-front y k = record { in-front = λ e. (m, k, sym value-is); behind = λ e. absurd (true≢false (sym y ∙ e)) }
 
-  module _ (k : CornerBy (s .normal) (e .outer .high) (e .outer .low) m) where
-    pub behind : z <ℤ pos 0 → AllBehind e s true
-    behind h = record { says = λ y p i. behind-beyond i s k (strictly (neg-of-neg (subst (λ (v : ℤ). v <ℤ pos 0) (is .value) h))) }
+  pub least-behind :
+      {b : Bounds} {front : Bool} {r : ℤ} → front ≡ false → CornerBy (s .normal) (b .high) (b .low) m → stored r ≡ r → r ≡ pos 0 -ℤ stored z → LeastNumber b s front (stored r)
+  least-behind n k e d =
+      record {
+        in-front = λ y. absurd (true≢false (sym y ∙ n));
+        behind = λ y. (m, k, sym (e ∙ d ∙ ap (λ (v : ℤ). pos 0 -ℤ v) value-is ∙ +ℤ-idl (negℤ (sideOf s (vecOf m)))));
+      }
 
-    pub touches-behind : {r : Bool} → z ≤ℤ pos 0 → FreeSays e (s .normal) r → AllBehind e s r
-    touches-behind h f =
-        record { says = λ y p i. behind-beyond i s k (touching (f .says y) (neg-of-nonpos (subst (λ (v : ℤ). v ≤ℤ pos 0) (is .value) h))) }
-
--- an axis is free, where each number passed through a word
 pub free-stored :
     {n low high il ih : ℤ} {r : Bool} → Within 800000000 n → Within 10000 low → Within 10000 high → Within 10000 il → Within 10000 ih →
     FreeAxis (stored n) (stored low) (stored high) (stored il) (stored ih) r → r ≡ true → Free n low high il ih
@@ -275,31 +278,32 @@ module _ (s : Plane) (wanted : Sides) where
       same-bit true = refl
       same-bit false = refl
 
-  pub held-in-front :
-      {e : Extent} {r : Bool} → wanted .negative ≡ false → wanted .positive ≡ true → AllInFront e s r → AllHeld e s wanted r
-  held-in-front n y f =
-      record {
-        says = λ t p i.
-            let b = f .says t p i in
-            held-by p (none-passes (onNegative s) (p .corners) (λ c m. le-ltZ (b .none-below c m)) ∙ sym n)
-            (any-passes (onPositive s) (p .corners) (b .one-above .1) (lt-ltZ (b .one-above .2)) ∙ sym y);
-      }
-
-  pub held-behind :
-      {e : Extent} {r : Bool} → wanted .negative ≡ true → wanted .positive ≡ false → AllBehind e s r → AllHeld e s wanted r
-  held-behind n y f =
-      record {
-        says = λ t p i.
-            let b = f .says t p i in
-            held-by p (any-passes (onNegative s) (p .corners) (b .one-above .1) (lt-ltZ (turned-< (sideOf s (b .one-above .0)) (b .one-above .2))) ∙ sym n)
-            (none-passes (onPositive s) (p .corners) (λ c m. le-ltZ (turned-≤ (sideOf s c) (b .none-below c m))) ∙ sym y);
-      }
+  -- the number tells of every patch enclosed
+  pub all-told : {e : Extent} {z : ℤ} {r : Bool} →
+      wanted .negative ≡ not (wanted .positive) →
+      LeastNumber (e .outer) s (wanted .positive) z →
+      (r ≡ true → Told e (s .normal) z) →
+      AllHeld e s wanted r
+  all-told {e} {z} n least t = record { says = λ y p i. go (wanted .positive) refl i (t y) }
     where
       turned-< : (z : ℤ) → pos 0 <ℤ negℤ z → z <ℤ pos 0
       turned-< z h = <-by h (ring (z ∷ []) (search reify depth 40 fits 200000, tt))
 
       turned-≤ : (z : ℤ) → pos 0 ≤ℤ negℤ z → z ≤ℤ pos 0
       turned-≤ z h = ≤-by h (ring (z ∷ []) (search reify depth 40 fits 200000, tt))
+
+      go : {p : Patch} (front : Bool) → wanted .positive ≡ front → Encloses e p → Told e (s .normal) z → held s wanted p ≡ true
+      go {p} true y i t =
+          let o = least .in-front y in
+          let b = front-beyond i s (o .1) (subst (Told e (s .normal)) (sym (o .2)) t) in
+          held-by p (none-passes (onNegative s) (p .corners) (λ c m. le-ltZ (b .none-below c m)) ∙ sym (n ∙ ap not y))
+          (any-passes (onPositive s) (p .corners) (b .one-above .1) (lt-ltZ (b .one-above .2)) ∙ sym y)
+      go {p} false y i t =
+          let o = least .behind y in
+          let b = behind-beyond i s (o .1) (subst (Told e (s .normal)) (sym (o .2)) t) in
+          held-by p
+          (any-passes (onNegative s) (p .corners) (b .one-above .1) (lt-ltZ (turned-< (sideOf s (b .one-above .0)) (b .one-above .2))) ∙ sym (n ∙ ap not y))
+          (none-passes (onPositive s) (p .corners) (λ c m. le-ltZ (turned-≤ (sideOf s c) (b .none-below c m))) ∙ sym y)
 
 -- ---- the patches at and below a node
 

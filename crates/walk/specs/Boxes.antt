@@ -203,17 +203,10 @@ pub data SomeFree (e : Extent) (normal : Vector) : Type 0 where
 pub record FreeSays (e : Extent) (normal : Vector) (r : Bool) : Type 0 where
   pub says : r ≡ true → SomeFree e normal
 
--- no corner has a negative number, and one has a positive one
-pub record Beyond (number : Vec → ℤ) (p : Patch) : Type 0 where
-  pub none-below : (c : Vec) → List·Memᴰ c (p .corners) → pos 0 ≤ℤ number c
-  pub one-above : (c : Vec) × List·Memᴰ c (p .corners) × (pos 0 <ℤ number c)
-
--- yes is said only where every patch enclosed is in front of the plane, or behind it
-pub record AllInFront (e : Extent) (s : Plane) (r : Bool) : Type 0 where
-  pub says : r ≡ true → (p : Patch) → Encloses e p → Beyond (sideOf s) p
-
-pub record AllBehind (e : Extent) (s : Plane) (r : Bool) : Type 0 where
-  pub says : r ≡ true → (p : Patch) → Encloses e p → Beyond (λ (c : Vec). negℤ (sideOf s c)) p
+-- r is the number of the box's corner that the normal chooses: its side number for the front, else the opposite
+pub record LeastNumber (b : Bounds) (s : Plane) (front : Bool) (r : ℤ) : Type 0 where
+  pub in-front : front ≡ true → (m : Vector) × CornerBy (s .normal) (b .low) (b .high) m × (sideOf s (vecOf m) ≡ r)
+  pub behind : front ≡ false → (m : Vector) × CornerBy (s .normal) (b .high) (b .low) m × (negℤ (sideOf s (vecOf m)) ≡ r)
 
 -- yes is said only where every patch enclosed is held
 pub record AllHeld (e : Extent) (s : Plane) (wanted : Sides) (r : Bool) : Type 0 where

@@ -1,4 +1,5 @@
 // An extent that lies wholly on one side of a plane answers for all its patches.
+use crate::boxes::Bounds;
 use crate::boxes::Extent;
 use crate::boxes::extent_at;
 use crate::division::Plane;
@@ -9,7 +10,7 @@ ghost use Prim.Native.Nat.{_*_, _≤_, _<_};
 ghost use lib.ListN.{length};
 ghost use Rattle.geometry.specs.Machine.{Bounded};
 ghost use Rattle.walk.specs.Division.{PlaneBounded};
-ghost use Rattle.walk.specs.Boxes.{ExtentBounded, extentAt, EndBy, CornerBy, FreeAxis, FreeSays, AllInFront, AllBehind, AllHeld, Settled};
+ghost use Rattle.walk.specs.Boxes.{BoxBounded, ExtentBounded, extentAt, EndBy, CornerBy, FreeAxis, FreeSays, LeastNumber, AllHeld, Settled};
 
 // the end of an axis where n · c is least
 fn end_by(n: i64, low: i64, high: i64) -> i64
@@ -68,36 +69,17 @@ fn some_free(e: Extent, normal: Vector) -> bool
     free_axis(normal.z, o.low.z, o.high.z, i.low.z, i.high.z)
 }
 
-fn all_in_front(e: Extent, plane: Plane) -> bool
-    requires { ⌜ ExtentBounded e × PlaneBounded plane ⌝ }
-    ensures { λ r. ⌜ AllInFront e plane r ⌝ }
+// the least number in a box: of the side numbers for the front, else of their opposites
+fn least_number(b: Bounds, plane: Plane, front: bool) -> i64
+    requires { ⌜ BoxBounded b × PlaneBounded plane ⌝ }
+    ensures { λ r. ⌜ LeastNumber b plane front r ⌝ }
 {
-    let b = e.outer;
-    let c = corner_by(plane.normal, b.low, b.high);
-    let z = side(plane.normal, plane.a, c);
-    if 0 < z {
-        return true;
+    if front {
+        let c = corner_by(plane.normal, b.low, b.high);
+        return side(plane.normal, plane.a, c);
     }
-    if z < 0 {
-        return false;
-    }
-    some_free(e, plane.normal)
-}
-
-fn all_behind(e: Extent, plane: Plane) -> bool
-    requires { ⌜ ExtentBounded e × PlaneBounded plane ⌝ }
-    ensures { λ r. ⌜ AllBehind e plane r ⌝ }
-{
-    let b = e.outer;
     let c = corner_by(plane.normal, b.high, b.low);
-    let z = side(plane.normal, plane.a, c);
-    if z < 0 {
-        return true;
-    }
-    if 0 < z {
-        return false;
-    }
-    some_free(e, plane.normal)
+    integer::difference(0, side(plane.normal, plane.a, c))
 }
 
 // all patches enclosed have corners on just the side that is wanted, or on that and the plane
@@ -108,10 +90,14 @@ fn all_held(e: Extent, plane: Plane, wanted: Sides) -> bool
     if wanted.negative == wanted.positive {
         return false;
     }
-    if wanted.positive {
-        return all_in_front(e, plane);
+    let z = least_number(e.outer, plane, wanted.positive);
+    if 0 < z {
+        return true;
     }
-    all_behind(e, plane)
+    if z < 0 {
+        return false;
+    }
+    some_free(e, plane.normal)
 }
 
 // nothing at and below node k is left to look at: there is no such node, or its extent answers for all
