@@ -3,24 +3,20 @@ use mathlib.Core.Path.{_≡_, refl, sym, ap, ap₂, subst, _∙_}
 use mathlib.Core.Bool.{Bool, true, false, _&&_, _||_, Bool·beq, or-true, or-false, or-assoc}
 use mathlib.Core.List.{List, [], _∷_, _++_, map, map-append}
 use Prim.Native.Nat.{ℕ, _+_, _≤_, _<_}
-use native.Mathlib.Nat.{zero-add}
 use native.Mathlib.Omega.{arith}
-use lib.Dec.{T}
 use lib.IntN.{ℤ, pos}
 use lib.Signed.{ltZ, _<ℤ_, _≤ℤ_}
 use Rattle.integer.proofs.Order.{lt-ltZ, le-ltZ, <→≤}
 use Rattle.model.specs.Lists.{any, range}
 use Rattle.model.specs.Vector.{Vec}
-use Rattle.model.specs.Patch as model
-use Rattle.model.specs.Questions.{pointInRange}
-use Rattle.geometry.specs.Machine.{vecOf, Bounded}
-use Rattle.geometry.specs.declared.Vector.{Vector}
-use Rattle.format.specs.Patch.{cornerOf, patchOf}
-use Rattle.format.specs.declared.patch.Patch.{Patch}
-use Rattle.walk.specs.Division.{CornersBounded, TreePatch, sideOf, onNegative, onPositive, SidesAre, Joins, held}
+use Rattle.model.specs.Patch.{Patch}
+use Rattle.format.specs.Layout.{cornerNumber}
+use Rattle.format.specs.declared.layout.Layout.{Layout}
+use Rattle.format.specs.declared.records.Run.{Run}
+use Rattle.walk.specs.Division.{sideOf, onNegative, onPositive, SidesAre, Joins, held}
+use Rattle.walk.specs.Boxes.{CornersAre}
 use Rattle.walk.specs.declared.division.Plane.{Plane}
 use Rattle.walk.specs.declared.division.Sides.{Sides}
-use Rattle.walk.proofs.SceneNodes.{point-bounded}
 use Rattle.walk.proofs.Counting.{range-append}
 
 -- ---- one corner more
@@ -50,56 +46,52 @@ any-append : {A : Type 0} (test : A → Bool) (s t : List A) → any test (s ++ 
 any-append test [] t = refl
 any-append test (a ∷ s) t = ap (λ (b : Bool). test a || b) (any-append test s t) ∙ sym (or-assoc (test a) (any test s) (any test t))
 
--- while the corners are looked at: on which sides the first k lie
-pub record Found (s : Plane) (p : Patch) (found : Sides) (k : ℕ) : Type 0 where
-  pub most : k ≤ p .count
-  pub sides : SidesAre s (map (cornerOf p) (range 0 k)) found
+-- while the corners of a run are looked at: on which sides the first k lie
+pub record Found (s : Plane) (corner : ℕ → Vec) (first count : ℕ) (found : Sides) (k : ℕ) : Type 0 where
+  pub most : k ≤ count
+  pub sides : SidesAre s (map corner (range first k)) found
 
 first-corners :
-    (p : Patch) (test : Vec → Bool) (k : ℕ) →
-    any test (map (cornerOf p) (range 0 (k + 1))) ≡ (any test (map (cornerOf p) (range 0 k)) || test (cornerOf p k))
-first-corners p test k =
-    ap (λ (l : List ℕ). any test (map (cornerOf p) l)) (range-append 0 k 1 ∙ ap (λ (n : ℕ). range 0 k ++ (n ∷ [])) (zero-add k))
-    ∙ ap (any test) (map-append (cornerOf p) (range 0 k) (k ∷ []))
-    ∙ any-append test (map (cornerOf p) (range 0 k)) (cornerOf p k ∷ [])
-    ∙ ap (λ (b : Bool). any test (map (cornerOf p) (range 0 k)) || b) (or-false (test (cornerOf p k)))
+    (corner : ℕ → Vec) (test : Vec → Bool) (first k : ℕ) →
+    any test (map corner (range first (k + 1))) ≡ (any test (map corner (range first k)) || test (corner (first + k)))
+first-corners corner test first k =
+    ap (λ (l : List ℕ). any test (map corner l)) (range-append first k 1)
+    ∙ ap (any test) (map-append corner (range first k) ((first + k) ∷ []))
+    ∙ any-append test (map corner (range first k)) (corner (first + k) ∷ [])
+    ∙ ap (λ (b : Bool). any test (map corner (range first k)) || b) (or-false (test (corner (first + k))))
 
-module _ {s : Plane} {p : Patch} where
-  pub found-none : Found s p (record { negative = false; positive = false }) 0
+module _ {s : Plane} {corner : ℕ → Vec} {first count : ℕ} where
+  pub found-none : Found s corner first count (record { negative = false; positive = false }) 0
   found-none = record { most = omega arith; sides = record { negative-is = refl; positive-is = refl } }
 
   pub found-more :
       {found r : Sides} {k : ℕ} {z : ℤ} →
-      Found s p found k →
-      k < p .count →
-      z ≡ sideOf s (cornerOf p k) →
+      Found s corner first count found k →
+      k < count →
+      z ≡ sideOf s (corner (first + k)) →
       Joins found z r →
-      Found s p r (k + 1)
+      Found s corner first count r (k + 1)
   found-more {found} {r} {k} {z} f h e j =
       record {
         most = omega arith;
         sides =
             record {
-              negative-is = j .negative-too ∙ ap₂ _||_ (f .sides .negative-is) (ap (λ (x : ℤ). ltZ x (pos 0)) e) ∙ sym (first-corners p (onNegative s) k);
-              positive-is = j .positive-too ∙ ap₂ _||_ (f .sides .positive-is) (ap (λ (x : ℤ). ltZ (pos 0) x) e) ∙ sym (first-corners p (onPositive s) k);
+              negative-is = j .negative-too ∙ ap₂ _||_ (f .sides .negative-is) (ap (λ (x : ℤ). ltZ x (pos 0)) e) ∙ sym (first-corners corner (onNegative s) first k);
+              positive-is = j .positive-too ∙ ap₂ _||_ (f .sides .positive-is) (ap (λ (x : ℤ). ltZ (pos 0) x) e) ∙ sym (first-corners corner (onPositive s) first k);
             };
       }
 
-  pub found-all : {found : Sides} {k : ℕ} → Found s p found k → p .count ≤ k → SidesAre s (patchOf p .corners) found
+  pub found-all : {found : Sides} {k : ℕ} → Found s corner first count found k → count ≤ k → SidesAre s (map corner (range first count)) found
   found-all {found} {k} f h =
-      let e : k ≡ p .count = omega (arith, f .most) in
-      subst (λ (n : ℕ). SidesAre s (map (cornerOf p) (range 0 n)) found) e (f .sides)
-
-pub corner-bounded : {p : Patch} {k : ℕ} {v : Vector} → CornersBounded p → k < p .count → vecOf v ≡ cornerOf p k → Bounded 10000 v
-corner-bounded {p} {k} {v} b h e = point-bounded v (subst (λ (c : Vec). T (pointInRange c)) (sym e) (b .in-range k h))
+      let e : k ≡ count = omega (arith, f .most) in
+      subst (λ (n : ℕ). SidesAre s (map corner (range first n)) found) e (f .sides)
 
 -- ---- a patch held to a plane
 
 pub held-found :
-    {s : Plane} {p : model.Patch} {r : Patch} {found : Sides} (wanted : Sides) {b : Bool} →
-    SidesAre s (patchOf r .corners) found → TreePatch p r →
+    {bytes : List ℕ} {l : Layout} {s : Plane} {p : Patch} {run : Run} {found : Sides} (wanted : Sides) {b : Bool} →
+    CornersAre bytes l p run → SidesAre s (map (cornerNumber bytes l) (range (run .first) (run .count))) found →
     b ≡ (Bool·beq (found .negative) (wanted .negative) && Bool·beq (found .positive) (wanted .positive)) →
     b ≡ held s wanted p
 unfolding held
-held-found {s} wanted sides is h =
-    h ∙ rw (sides .negative-is, sides .positive-is) (ap (held s wanted) (is .value))
+held-found wanted are sides h = h ∙ rw (sides .negative-is, sides .positive-is, are .corners-are)

@@ -12,7 +12,10 @@ pub mod NearSide
 pub mod Descents
 pub mod Seen
 pub mod Held
-pub mod ScenePatches
+pub mod SceneCorners
 pub mod Every
 pub mod Placed
 pub mod Branches
+pub mod BoxLaws
+pub mod NodeBoxes
+pub mod BoxSides

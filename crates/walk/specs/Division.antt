@@ -2,34 +2,20 @@
 use mathlib.Core.Path.{_≡_}
 use mathlib.Core.Bool.{Bool, _&&_, _||_, Bool·beq}
 use mathlib.Core.List.{List, map}
-use Prim.Native.Nat.{ℕ, _≤_, _<_}
-use lib.Dec.{T}
+use Prim.Native.Nat.{ℕ}
 use lib.IntN.{ℤ, pos}
 use lib.Signed.{ltZ}
 use Rattle.model.specs.Lists.{every, any, range}
 use Rattle.model.specs.Vector as model
 use Rattle.model.specs.Vector.{Vec, minus, dot, planeNormal, turnedOver}
-use Rattle.model.specs.Patch as model-patch
+use Rattle.model.specs.Patch.{Patch}
 use Rattle.model.specs.Tree.{contents, liesOn, inFront}
 use Rattle.model.specs.Format.{decode, patchNumbered}
-use Rattle.model.specs.Questions.{pointInRange}
 use Rattle.geometry.specs.Machine.{vecOf, planeOf, Bounded}
-use Rattle.format.specs.Patch.{cornerOf, patchOf}
-use Rattle.format.specs.declared.patch.Patch.{Patch}
 use Rattle.format.specs.declared.records.Node.{Node}
 use Rattle.walk.specs.Walked.{treeBelow}
 use Rattle.walk.specs.declared.division.Plane.{Plane}
 use Rattle.walk.specs.declared.division.Sides.{Sides}
-
--- the used corners are in range (question 3)
-pub record CornersBounded (r : Patch) : Type 0 where
-  pub eight : r .count ≤ 8
-  pub in-range : (k : ℕ) → k < r .count → T (pointInRange (cornerOf r k))
-
--- the machine's patch r is p, with its corners in range
-pub record TreePatch (p : model-patch.Patch) (r : Patch) : Type 0 where
-  pub value : patchOf r ≡ p
-  pub bounded : CornersBounded r
 
 pub record PlaneBounded (r : Plane) : Type 0 where
   pub a-bounded : Bounded 10000 (r .a)
@@ -62,7 +48,7 @@ pub record Joins (s : Sides) (z : ℤ) (r : Sides) : Type 0 where
   pub positive-too : r .positive ≡ (s .positive || ltZ (pos 0) z)
 
 -- the patch has corners on just the sides that are wanted
-unfoldable pub held : Plane → Sides → model-patch.Patch → Bool
+unfoldable pub held : Plane → Sides → Patch → Bool
 held s wanted p =
     Bool·beq (any (onNegative s) (p .corners)) (wanted .negative)
     && Bool·beq (any (onPositive s) (p .corners)) (wanted .positive)

@@ -3,3 +3,4 @@ pub mod Written
 pub mod Walked
 pub mod Near
 pub mod Division
+pub mod Boxes

@@ -17,15 +17,15 @@ use Rattle.walk.proofs.scene.tree_node.Reads as tree-node
 use Rattle.walk.proofs.division.+divides_below.{statement}
 use Rattle.walk.proofs.division.+divides_below.Tie.{close}
 
-abbrev μ : Measures 1 divides-below-kinds.ps ℕ
+abbrev μ : Measures 2 divides-below-kinds.ps ℕ
 μ κs a = a .1 .0 .nodes - a .1 .1 .0
 
 -- what `divides_below` is given at the measure t, and what a call of it asks below t
-abbrev given : ℕ → In 1 divides-below-kinds.ps
-given t = and 1 divides-below-kinds.ps (is 1 divides-below-kinds.ps μ t) divides-below.Pre
+abbrev given : ℕ → In 2 divides-below-kinds.ps
+given t = and 2 divides-below-kinds.ps (is 2 divides-below-kinds.ps μ t) divides-below.Pre
 
-abbrev below : ℕ → In 1 divides-below-kinds.ps
-below t = and 1 divides-below-kinds.ps (falls 1 divides-below-kinds.ps _<_ μ t) divides-below.Pre
+abbrev below : ℕ → In 2 divides-below-kinds.ps
+below t = and 2 divides-below-kinds.ps (falls 2 divides-below-kinds.ps _<_ μ t) divides-below.Pre
 
 abbrev calls : ℕ → lts.Claims
 calls t = (tree-node.Asked, tree-node.Learnt, node-divides.Asked, node-divides.Learnt, below t, divides-below.Post)
@@ -34,12 +34,12 @@ module _ (t : ℕ) where
   returns : lts.Need-returns (calls t) (given t) divides-below.Post
   returns c =
       let s = c .before .before .before in
-      divides-leaf _ (s .args .k) (no-node _ (s .args .l) (s .pre .1) (s .args .k) (c .if1 .taken))
+      divides-leaf _ (s .args .k) (no-node _ (s .args .l) (s .pre .1 .0) (s .args .k) (c .if1 .taken))
 
   tree-node-requires : lts.Need-tree-node-requires (calls t) (given t) divides-below.Post
   tree-node-requires c κs =
       let s = c .before .before .before in
-      (s .pre .1, c .if1 .left)
+      (s .pre .1 .0, c .if1 .left)
 
   node-divides-requires : lts.Need-node-divides-requires (calls t) (given t) divides-below.Post
   node-divides-requires c κs = search needs

@@ -4,18 +4,18 @@ use Rattle.walk.proofs.Held.{held-found}
 use Rattle.walk.proofs.division.patch_held.Statement.{statement}
 use Rattle.walk.proofs.division.patch_held.Tie as tie
 
-tree-patch-requires : tie.Need-tree-patch-requires
-tree-patch-requires c κs = search needs
+corner-run-requires : tie.Need-corner-run-requires
+corner-run-requires c κs = search needs
 
-sides-of-requires : tie.Need-sides-of-requires
-sides-of-requires c κs = search needs
+corner-sides-requires : tie.Need-corner-sides-requires
+corner-sides-requires c κs = search needs
 
 same-sides-requires : tie.Need-same-sides-requires
 same-sides-requires c κs = search needs
 
 returns : tie.Need-returns
-returns c = held-found _ (c .before .sides-of .ensures) (c .before .before .tree-patch .ensures) (c .same-sides .ensures)
+returns c = held-found _ (c .before .before .corner-run .ensures) (c .before .corner-sides .ensures) (c .same-sides .ensures)
 
 pub patch-held-spec : {M : Type 1} → statement M
 patch-held-spec =
-    tie.close (tie.spec tree-patch-requires sides-of-requires same-sides-requires returns)
+    tie.close (tie.spec corner-run-requires corner-sides-requires same-sides-requires returns)

@@ -1,0 +1,235 @@
+-- The extents of the nodes, from the last one down.
+use mathlib.Core.Path.{_≡_, refl, sym, subst, _∙_}
+use mathlib.Core.Logic.{_⊎_, inl, inr}
+use mathlib.Core.List.{List, List·Memᴰ, List·Memᴰ·not-nil}
+use Prim.Native.Nat.{ℕ, _+_, _-_, _*_, _≤_, _<_}
+use native.Mathlib.Nat.{eq-or-lt-of-le}
+use native.Mathlib.Omega.{arith}
+use native.Mathlib.Decide.{decLt}
+use lib.IntN.{ℤ, pos}
+use lib.ListN.{length, getD, set, length-set}
+use lib.Seq.{getD-set-same, getD-set-other}
+use Rattle.integer.specs.Magnitude.{Within}
+use Rattle.model.specs.Lists.{range}
+use Rattle.model.specs.Tree.{Tree, contents}
+use Rattle.model.specs.Format.{decode, patchNumbered}
+use Rattle.model.proofs.Tests.{of-append}
+use Rattle.model.proofs.Ranges.{of-range}
+use Rattle.format.specs.declared.layout.Layout.{Layout}
+use Rattle.format.specs.declared.records.Node.{Node}
+use Rattle.walk.specs.Walked.{Walkable, treeBelow, NodeIs}
+use Rattle.walk.specs.Boxes.{BoxBounded, Joined, Met, Widened, Encloses, Wider, ExtentBounded, takesPatch, boxAt, extentAt, ExtentOf, BoxStored, ExtentStored, ExtentsFrom, ChildJoined}
+use Rattle.walk.specs.declared.boxes.Bounds.{Bounds}
+use Rattle.walk.specs.declared.boxes.Extent.{Extent}
+use Rattle.walk.proofs.SceneNodes.{no-node}
+use Rattle.walk.proofs.BoxLaws.{stored, same, wider-refl, wider-trans, encloses-wider, extent-first, extent-second, extent-bounded}
+
+-- every patch of a list of numbers is enclosed
+abbrev AllIn : List ℕ → Extent → List ℕ → Type 0
+AllIn bytes e numbers = (j : ℕ) → List·Memᴰ j numbers → Encloses e (patchNumbered (decode bytes) j)
+
+module _ {bytes : List ℕ} {l : Layout} {first : ℕ} {boxes : List ℤ} (from : ExtentsFrom bytes l first boxes) where
+  pub child-bounded : {k : ℕ} → first ≤ k → k < l .nodes → ExtentBounded (extentAt boxes k)
+  child-bounded {k} h i = from .each k h i .bounded
+
+  child-in : (w : Walkable bytes l) {k : ℕ} {e r : Extent} → first ≤ k → ChildJoined (l .nodes) k boxes e r → AllIn bytes r (contents (treeBelow bytes k))
+  unfolding contents
+  child-in w {k} {r = r} h c = go (decLt k (l .nodes))
+    where
+      go : Dec (k < l .nodes) → AllIn bytes r (contents (treeBelow bytes k))
+      go (yes i) = λ j m. encloses-wider (c .wider-child i) (from .each k h i .encloses j m)
+      go (no i) = rw (no-node bytes l w k (omega arith)) (λ j m. absurd (List·Memᴰ·not-nil m))
+
+  -- the extent of a node's own patches, joined with those of its children
+  pub node-enclosed :
+      (w : Walkable bytes l) {k : ℕ} {n : Node} {none own front r : Extent} →
+      first ≤ k + 1 →
+      NodeIs bytes l k n →
+      Widened Wider ExtentBounded (takesPatch bytes (n .patches .first)) none own (n .patches .count) →
+      ChildJoined (l .nodes) (n .positive) boxes own front →
+      ChildJoined (l .nodes) (n .negative) boxes front r →
+      ExtentOf bytes k r
+  unfolding contents
+  node-enclosed w {k} {n} {r = r} h is o p q = record { bounded = q .bounded; encloses = rw (is .tree) (of-append Inside own-numbers own-in (of-append Inside front-numbers front-in back-in)) }
+    where
+      Inside : ℕ → Type 0
+      Inside j = Encloses r (patchNumbered (decode bytes) j)
+
+      own-numbers : List ℕ
+      own-numbers = range (n .patches .first) (n .patches .count)
+
+      front-numbers : List ℕ
+      front-numbers = contents (treeBelow bytes (n .positive))
+
+      own-in : AllIn bytes r own-numbers
+      own-in = of-range Inside (n .patches .first) (n .patches .count) (λ i l. encloses-wider (wider-trans (p .wider) (q .wider)) (o .each i l))
+
+      front-in : AllIn bytes r front-numbers
+      front-in j m = encloses-wider (q .wider) (child-in w (omega (arith, is .positive-above)) p j m)
+
+      back-in : AllIn bytes r (contents (treeBelow bytes (n .negative)))
+      back-in = child-in w (omega (arith, is .negative-above)) q
+
+-- ---- storing a box
+
+module _ (l : List ℤ) where
+  earlier : {i : ℕ} (j : ℕ) (v : ℤ) → i < j → getD (set l j v) i (pos 0) ≡ getD l i (pos 0)
+  earlier {i} j v h = getD-set-other l j i v (pos 0) (λ e. absurd (omega arith))
+
+  later : {i : ℕ} (j : ℕ) (v : ℤ) → j < i → getD (set l j v) i (pos 0) ≡ getD l i (pos 0)
+  later {i} j v h = getD-set-other l j i v (pos 0) (λ e. absurd (omega arith))
+
+module _ (l : List ℤ) (k : ℕ) (b : Bounds) where
+  abbrev put1 : List ℤ
+  put1 = set l (6 * k) (stored (b .low .x))
+
+  abbrev put2 : List ℤ
+  put2 = set put1 (6 * k + 1) (stored (b .low .y))
+
+  abbrev put3 : List ℤ
+  put3 = set put2 (6 * k + 2) (stored (b .low .z))
+
+  abbrev put4 : List ℤ
+  put4 = set put3 (6 * k + 3) (stored (b .high .x))
+
+  abbrev put5 : List ℤ
+  put5 = set put4 (6 * k + 4) (stored (b .high .y))
+
+  abbrev pub put6 : List ℤ
+  put6 = set put5 (6 * k + 5) (stored (b .high .z))
+
+  pub put-long : length put6 ≡ length l
+  put-long = simp length-set
+
+  beyond-box : (i : ℕ) → 6 * k + 5 < i → getD put6 i (pos 0) ≡ getD l i (pos 0)
+  beyond-box i h =
+      later put5 _ _ h ∙ later put4 _ _ (omega arith) ∙ later put3 _ _ (omega arith) ∙ later put2 _ _ (omega arith)
+      ∙ later put1 _ _ (omega arith)
+      ∙ later l _ _ (omega arith)
+
+  pub box-stored : 6 * k + 6 ≤ length l → BoxBounded b → BoxStored l put6 k b
+  box-stored room h =
+      record {
+        long = put-long;
+        stands = λ t.
+            record {
+              low = record { x = low-x t; y = low-y t; z = low-z t };
+              high = record { x = high-x t; y = high-y t; z = high-z t };
+            };
+        beside = λ j m t.
+            record {
+              low =
+                  record {
+                    x = beyond-box (6 * j) (omega arith) t;
+                    y = beyond-box (6 * j + 1) (omega arith) t;
+                    z = beyond-box (6 * j + 2) (omega arith) t;
+                  };
+              high =
+                  record {
+                    x = beyond-box (6 * j + 3) (omega arith) t;
+                    y = beyond-box (6 * j + 4) (omega arith) t;
+                    z = beyond-box (6 * j + 5) (omega arith) t;
+                  };
+            };
+      }
+    where
+      here : (l : List ℤ) (i : ℕ) {z : ℤ} → i < length l → Within 10000 z → getD (set l i (stored z)) i (pos 0) ≡ z
+      here l i h w = getD-set-same l i _ (pos 0) h ∙ same w
+
+      low-x : getD put6 (6 * k) (pos 0) ≡ b .low .x
+      low-x =
+          earlier put5 _ _ (omega arith) ∙ earlier put4 _ _ (omega arith) ∙ earlier put3 _ _ (omega arith) ∙ earlier put2 _ _ (omega arith)
+          ∙ earlier put1 _ _ (omega arith)
+          ∙ here l _ (omega arith) (h .low-bounded .x-within)
+
+      low-y : getD put6 (6 * k + 1) (pos 0) ≡ b .low .y
+      low-y =
+          earlier put5 _ _ (omega arith) ∙ earlier put4 _ _ (omega arith) ∙ earlier put3 _ _ (omega arith) ∙ earlier put2 _ _ (omega arith)
+          ∙ here put1 _ (simp length-set (omega arith)) (h .low-bounded .y-within)
+
+      low-z : getD put6 (6 * k + 2) (pos 0) ≡ b .low .z
+      low-z =
+          earlier put5 _ _ (omega arith) ∙ earlier put4 _ _ (omega arith) ∙ earlier put3 _ _ (omega arith)
+          ∙ here put2 _ (simp length-set (omega arith)) (h .low-bounded .z-within)
+
+      high-x : getD put6 (6 * k + 3) (pos 0) ≡ b .high .x
+      high-x =
+          earlier put5 _ _ (omega arith) ∙ earlier put4 _ _ (omega arith)
+          ∙ here put3 _ (simp length-set (omega arith)) (h .high-bounded .x-within)
+
+      high-y : getD put6 (6 * k + 4) (pos 0) ≡ b .high .y
+      high-y = earlier put5 _ _ (omega arith) ∙ here put4 _ (simp length-set (omega arith)) (h .high-bounded .y-within)
+
+      high-z : getD put6 (6 * k + 5) (pos 0) ≡ b .high .z
+      high-z = here put5 _ (simp length-set (omega arith)) (h .high-bounded .z-within)
+
+pub extent-stored :
+    {before mid after : List ℤ} {k : ℕ} {e : Extent} → BoxStored before mid (2 * k + 1) (e .inner) → BoxStored mid after (2 * k) (e .outer) →
+    ExtentStored before after k e
+extent-stored {k = k} i o =
+    record {
+      long = o .long ∙ i .long;
+      stands = λ t. record { outer = o .stands t; inner = (o .beside (2 * k + 1) (omega arith) ∙ i .stands) t };
+      beside = λ j h t.
+          record {
+            outer = (o .beside (2 * j) (omega arith) ∙ i .beside (2 * j) (omega arith)) t;
+            inner = (o .beside (2 * j + 1) (omega arith) ∙ i .beside (2 * j + 1) (omega arith)) t;
+          };
+    }
+
+-- ---- a child's extent, if there is a child
+
+module _ {nodes k : ℕ} {boxes : List ℤ} {e : Extent} where
+  pub no-child : nodes ≤ k → ExtentBounded e → ChildJoined nodes k boxes e e
+  no-child h i = record { wider = wider-refl e; wider-child = λ j. absurd (omega arith); bounded = i }
+
+  pub child-joined :
+      {f : Extent} {o i : Bounds} → f ≡ extentAt boxes k → Joined (e .outer) (f .outer) o → Met (e .inner) (f .inner) i →
+      ChildJoined nodes k boxes e (record { outer = o; inner = i })
+  child-joined {f} {o} {i} eq j m =
+      record {
+        wider = extent-first j m;
+        wider-child = λ h. subst (λ (g : Extent). Wider g (record { outer = o; inner = i })) eq (extent-second j m);
+        bounded = extent-bounded j m;
+      }
+
+-- ---- filling the list
+
+-- while the extents are filled in: those from node k on stand there
+pub record Filling (bytes : List ℕ) (l : Layout) (before after : List ℤ) (k : ℕ) : Type 0 where
+  pub most : k ≤ l .nodes
+  pub long : length after ≡ length before
+  pub from : ExtentsFrom bytes l k after
+
+module _ {bytes : List ℕ} {l : Layout} {before : List ℤ} where
+  pub filling-none : 12 * l .nodes ≤ length before → Filling bytes l before before (l .nodes)
+  filling-none room =
+      record { most = omega arith; long = refl; from = record { room = room; each = λ k h i. absurd (omega arith) } }
+
+  pub filling-from : {after : List ℤ} {k : ℕ} → Filling bytes l before after k → 0 < k → ExtentsFrom bytes l (k - 1 + 1) after
+  filling-from {after} {k} f h =
+      let e : k ≡ k - 1 + 1 = omega arith in
+      subst (λ (n : ℕ). ExtentsFrom bytes l n after) e (f .from)
+
+  pub filling-more :
+      {after next : List ℤ} {k : ℕ} {e : Extent} →
+      Filling bytes l before after k →
+      0 < k →
+      ExtentOf bytes (k - 1) e →
+      ExtentStored after next (k - 1) e →
+      Filling bytes l before next (k - 1)
+  filling-more {after} {next} {k} f h of s =
+      record {
+        most = omega (arith, f .most);
+        long = s .long ∙ f .long;
+        from = record { room = omega (arith, s .long, f .from .room); each = λ i h m. at i (eq-or-lt-of-le h) m };
+      }
+    where
+      at : (i : ℕ) → (k - 1 ≡ i) ⊎ (k - 1 < i) → i < l .nodes → ExtentOf bytes i (extentAt next i)
+      at i (inl e) m = subst (λ (n : ℕ). ExtentOf bytes n (extentAt next n)) e (subst (ExtentOf bytes (k - 1)) (sym (s .stands)) of)
+      at i (inr h) m = subst (ExtentOf bytes i) (sym (s .beside i h)) (f .from .each i (omega arith) m)
+
+  pub filling-all : {after : List ℤ} {k : ℕ} → Filling bytes l before after k → k ≤ 0 → ExtentsFrom bytes l 0 after
+  filling-all {after} {k} f h =
+      let e : k ≡ 0 = omega arith in
+      subst (λ (n : ℕ). ExtentsFrom bytes l n after) e (f .from)

@@ -1,0 +1,51 @@
+-- `walk::boxes::patch_extent` meets its contract.
+use borrow.Author.Needs.{needs}
+use Rattle.walk.proofs.BoxLaws.{joined-bounded, patch-extent}
+use Rattle.walk.proofs.boxes.patch_extent.Statement.{statement}
+use Rattle.walk.proofs.boxes.patch_extent.Tie as tie
+
+corner-run-requires : tie.Need-corner-run-requires
+corner-run-requires c κs = search needs
+
+tree-corner-requires : tie.Need-tree-corner-requires
+tree-corner-requires c κs = search needs
+
+add-tree-corner : tie.Need-add-tree-corner
+add-tree-corner c = search needs
+
+tree-corner-requires-2 : tie.Need-tree-corner-requires-2
+tree-corner-requires-2 c κs = search needs
+
+joined-box-requires : tie.Need-joined-box-requires
+joined-box-requires c κs = search needs
+
+corners-box-requires : tie.Need-corners-box-requires
+corners-box-requires c κs =
+    let r = c .before .before .before .before in
+    let h = r .before .before .pre in
+    (h .0, r .corner-run .ensures .run-inside, h .2 .outer-bounded)
+
+met-box-requires : tie.Need-met-box-requires
+met-box-requires c κs =
+    (c .before .before .before .before .before .before .before .pre .2 .inner-bounded, joined-bounded (c .before .joined-box .ensures))
+
+returns : tie.Need-returns
+returns c =
+    let b = c .before .before in
+    let r = b .before .before .before .before in
+    let s = r .before .before in
+    patch-extent (s .args .bytes .now) (s .args .l) (r .corner-run .ensures) (b .before .before .before .tree-corner .ensures) (b .before .tree-corner2 .ensures)
+    (b .joined-box .ensures) (c .before .corners-box .ensures) (c .met-box .ensures)
+
+pub patch-extent-spec : {M : Type 1} → statement M
+patch-extent-spec =
+    tie.close
+    (tie.spec
+    corner-run-requires
+    tree-corner-requires
+    add-tree-corner
+    tree-corner-requires-2
+    joined-box-requires
+    corners-box-requires
+    met-box-requires
+    returns)
