@@ -13,71 +13,53 @@ use borrow.Author.Count.{below-none, below-more}
 use Rattle.model.specs.Lists.{every, range}
 use Rattle.model.specs.Vector.{Vec, origin}
 use Rattle.model.specs.Patch.{Patch}
-use Rattle.model.specs.Format.{Run, NodeRecord, PatchRecord, Scene, decode, inRun, patchNumbered, patchTable}
-use Rattle.model.specs.Questions.{pointInRange, planeInRange, coordinatesInRange, runsFollow, patchRunsFollow, cornerRunsFollow, runsProper}
+use Rattle.model.specs.Format.{Run, PatchRecord, Scene, decode, inRun, patchNumbered, patchTable}
+use Rattle.model.specs.Questions.{runsFollow, patchRunsFollow, cornerRunsFollow, runsProper}
 use Rattle.model.specs.Patch.{cornersCounted}
-use Rattle.model.proofs.Tests.{both, every-true}
-use Rattle.model.proofs.Ranges.{range-at, getD-member}
+use Rattle.model.proofs.Tests.{both}
+use Rattle.model.proofs.Ranges.{range-at}
 use Rattle.geometry.specs.declared.Vector.{Vector}
-use Rattle.geometry.specs.Machine.{vecOf, Bounded, VectorIs}
+use Rattle.geometry.specs.Machine.{vecOf, Bounded}
 use Rattle.format.specs.declared.layout.Layout.{Layout}
 use Rattle.format.specs.declared.records.PatchRecord as machine
 use Rattle.format.specs.Machine.{patchRecordOf}
 use Rattle.format.specs.Layout.{patchNumber, cornerNumber}
 use Rattle.format.proofs.Tables.{length-table}
-use Rattle.format.proofs.Decoded.{corner-count, corner-at, tablePatch, patch-numbered, patch-corners}
 use Rattle.walk.proofs.Runs.{runEnd}
-use Rattle.walk.proofs.SceneNodes.{point-bounded}
+use Rattle.walk.specs.Boxes.{CornersAre}
+use Rattle.walk.proofs.SceneCorners.{corner-is, corners-are}
 use Rattle.painting.specs.Painting.{EdgesAt, EdgesOf}
 use Rattle.walk.specs.Walked.{Walkable}
 use Rattle.painting.specs.EdgeVectors.{Room, Beside, EdgesWritten}
 
 -- ---- the corners of a patch
 module _ {bytes : List ℕ} {l : Layout} (readable : Walkable bytes l) where
-  corner-in-range : (m : ℕ) → m < l .corners → T (pointInRange (cornerNumber bytes l m))
-  unfolding coordinatesInRange
-  corner-in-range m h =
-      let s : Scene = decode bytes in
-      let t = both (every (λ (n : NodeRecord). planeInRange (n .plane)) (s .nodes)) (every pointInRange (s .corners)) .0 (readable .coordinates) .1 in
-      let inside : m < length (s .corners) = rw (corner-count (readable .laid)) h in
-      subst (λ (c : Vec). T (pointInRange c)) (corner-at (readable .laid) m origin h)
-      (every-true pointInRange (s .corners) .0 t _ (getD-member (s .corners) m origin inside))
-
-  pub corner-bounded : {m : ℕ} {v : Vector} → m < l .corners → vecOf v ≡ cornerNumber bytes l m → VectorIs 10000 (cornerNumber bytes l m) v
-  corner-bounded {m} {v} h e =
-      record { value = e; bounded = point-bounded v (subst (λ (c : Vec). T (pointInRange c)) (sym e) (corner-in-range m h)) }
-
   pub bounded-corner : {m : ℕ} {v : Vector} → m < l .corners → vecOf v ≡ cornerNumber bytes l m → Bounded 10000 v
-  bounded-corner h e = corner-bounded h e .bounded
+  bounded-corner h e = corner-is readable h e .bounded
 
   module _ {k : ℕ} (h : k < l .patches) {q : machine.PatchRecord} (e : patchRecordOf q ≡ patchNumber bytes l k) where
-    tabled : patchNumbered (decode bytes) k ≡ tablePatch bytes l (patchNumber bytes l k)
-    tabled = patch-numbered (readable .laid) k h ∙ patch-corners (readable .laid) k (readable .inside .corners k h)
+    standing : CornersAre bytes l (patchNumbered (decode bytes) k) (q .corners)
+    standing = corners-are readable h e
 
     -- the run that the machine reads
     pub run-is : _≡_ {A = Run} (record { first = q .corners .first; count = q .corners .count }) (patchNumber bytes l k .cornerRun)
     run-is = ap (λ (p : PatchRecord). p .cornerRun) e
 
     pub run-inside : q .corners .first + q .corners .count ≤ l .corners
-    run-inside = subst (λ (n : Run). n .first + n .count ≤ l .corners) (sym run-is) (readable .inside .corners k h .inside)
+    run-inside = standing .run-inside
 
     pub run-three : 3 ≤ q .corners .count
-    run-three = subst (λ (n : Run). 3 ≤ n .count) (sym run-is) (readable .inside .three k h)
+    run-three = standing .three
 
     pub run-eight : q .corners .count ≤ 8
     run-eight = subst (λ (n : Run). n .count ≤ 8) (sym run-is) (readable .inside .eight k h)
 
-    corners-are : patchNumbered (decode bytes) k .corners ≡ map (cornerNumber bytes l) (range (q .corners .first) (q .corners .count))
-    corners-are =
-        ap (λ (p : Patch). p .corners) tabled
-        ∙ ap (λ (n : Run). map (cornerNumber bytes l) (range (n .first) (n .count))) (sym run-is)
-
     pub run-count : length (patchNumbered (decode bytes) k .corners) ≡ q .corners .count
-    run-count = ap length corners-are ∙ length-table (cornerNumber bytes l) (q .corners .first) (q .corners .count)
+    run-count = ap length (standing .corners-are) ∙ length-table (cornerNumber bytes l) (q .corners .first) (q .corners .count)
 
     pub run-corner : (j : ℕ) → j < q .corners .count → cornerNumber bytes l (q .corners .first + j) ≡ getD (patchNumbered (decode bytes) k .corners) j origin
     run-corner j b =
-        sym (ap (λ (cs : List Vec). getD cs j origin) corners-are ∙ range-at (cornerNumber bytes l) (q .corners .first) (q .corners .count) j origin b)
+        sym (ap (λ (cs : List Vec). getD cs j origin) (standing .corners-are) ∙ range-at (cornerNumber bytes l) (q .corners .first) (q .corners .count) j origin b)
 
     pub first-corner : cornerNumber bytes l (q .corners .first) ≡ getD (patchNumbered (decode bytes) k .corners) 0 origin
     first-corner = ap (cornerNumber bytes l) (sym (add-zero (q .corners .first))) ∙ run-corner 0 (omega (arith, run-three))

@@ -1,26 +1,25 @@
 -- A walk without patches that a row does not meet shows the same in that row.
-use mathlib.Core.Path.{_≡_, refl, sym, _∙_, ap, ap₂}
+use mathlib.Core.Path.{_≡_, refl, sym, _∙_, ap}
 use mathlib.Core.Bool.{Bool, true, false, not, cond, _&&_, _||_}
 use mathlib.Core.List.{List, [], _∷_, map}
-use mathlib.Core.Option.{Option, some}
+use mathlib.Core.Option.{some}
 use Prim.Native.Nat.{ℕ, zero, suc, _+_, _≤_, _<_}
 use native.Mathlib.Omega.{arith}
 use lib.ListN.{length, getD, take}
 use lib.Seq.{length-take-le}
 use borrow.Author.Tests.{ltb-false}
 use lib.Dec.{ltb}
-use Rattle.model.specs.Lists.{any, range}
+use Rattle.model.specs.Lists.{any}
 use Rattle.model.specs.Vector.{Vec}
 use Rattle.model.specs.Patch.{Patch}
 use Rattle.model.specs.Ray.{met, panelOf, firstMet}
 use Rattle.model.specs.Window.{Window, direction}
 use Rattle.model.specs.Format.{decode, patchNumbered}
-use Rattle.model.specs.Row.{rowOf, rowLength}
+use Rattle.model.specs.Row.{rowLength}
 use Rattle.model.specs.Questions.{unlitAfter}
 use Rattle.format.specs.declared.layout.Layout.{Layout}
 use Rattle.format.proofs.Tables.{same-table}
 use Rattle.rows.proofs.Rows.{row-congr}
-use Rattle.spans.proofs.Tests.{lt-or-ge}
 use Rattle.reach.specs.Reach.{Reaches}
 use Rattle.reach.specs.Selection.{reached, reaching, chosen, Listed, Selected}
 use Rattle.painting.specs.Painting.{shownAfter}

@@ -13,14 +13,13 @@ use Rattle.model.specs.Lists.{range}
 use Rattle.model.specs.Vector.{Vec, vec}
 use Rattle.model.specs.Patch.{Patch}
 use Rattle.model.specs.Window.{Window, direction}
-use Rattle.model.specs.Row.{rowOf, rowLength}
-use Rattle.model.specs.Questions.{unlitAfter}
+use Rattle.model.specs.Row.{rowLength}
 use Rattle.model.proofs.Ranges.{rows-length}
 use Rattle.format.proofs.Tables.{length-table}
 use Rattle.rows.proofs.Rows.{row-length}
 use Rattle.spans.specs.Row.{along}
 use Rattle.spans.proofs.Orientation.{direction-along}
-use Rattle.painting.specs.Painting.{shownAfter, RowPainted, RowsPainted}
+use Rattle.painting.specs.Painting.{RowPainted, RowsPainted}
 use Rattle.painting.specs.Framing.{Framed, withRow, RowPlaced, rowsThen, cellsOf, unlitOf, RowsUpTo}
 use Rattle.painting.proofs.WalkPainted.{as-long}
 

@@ -1,25 +1,17 @@
 // The edge vectors of all patches. They depend on the eye alone, so that a survey computes them once for all its rows.
 use format::layout::Layout;
-use format::layout::corner;
 use format::layout::patch_record;
 use geometry::Vector;
+use walk::scene::tree_corner;
 ghost use mathlib.Core.Path.{_≡_};
 ghost use Prim.Native.Nat.{_+_, _<_};
 ghost use Rattle.model.specs.Format.{decode, patchNumbered};
-ghost use Rattle.geometry.specs.Machine.{vecOf, Bounded, VectorIs};
-ghost use Rattle.format.specs.Layout.{patchNumber, cornerNumber};
+ghost use Rattle.geometry.specs.Machine.{vecOf, Bounded};
+ghost use Rattle.format.specs.Layout.{patchNumber};
 ghost use Rattle.spans.specs.Row.{nextCorner};
 ghost use Rattle.painting.specs.Painting.{EdgesOf};
 ghost use Rattle.walk.specs.Walked.{Walkable};
 ghost use Rattle.painting.specs.EdgeVectors.{EyeSign, Room, EdgesWritten};
-
-// a corner of the scene's table
-fn scene_corner(bytes: &[u8], l: Layout, m: usize) -> Vector
-    requires { ⌜ Walkable (now bytes) l × (m < l .corners) ⌝ }
-    ensures { λ r. ⌜ VectorIs 10000 (cornerNumber (now (bytes .entry)) l m) r ⌝ }
-{
-    corner(bytes, l, m)
-}
 
 // the sign of patch k's eye product
 fn eye_sign(bytes: &[u8], l: Layout, k: usize, eye: Vector) -> i64
@@ -27,9 +19,9 @@ fn eye_sign(bytes: &[u8], l: Layout, k: usize, eye: Vector) -> i64
     ensures { λ r. ⌜ EyeSign (vecOf eye) (patchNumbered (decode (now (bytes .entry))) k) r ⌝ }
 {
     let first = patch_record(bytes, l, k).corners.first;
-    let a = scene_corner(bytes, l, first);
-    let b = scene_corner(bytes, l, first + 1);
-    let c = scene_corner(bytes, l, first + 2);
+    let a = tree_corner(bytes, l, first);
+    let b = tree_corner(bytes, l, first + 1);
+    let c = tree_corner(bytes, l, first + 2);
     let normal = geometry::plane_normal(a, b, c);
     integer::sign(geometry::eye_product(eye, a, normal))
 }
@@ -66,10 +58,10 @@ fn write_edges(
     let run = patch_record(bytes, l, k).corners;
     let first = run.first;
     let count = run.count;
-    let mut from = scene_corner(bytes, l, first);
+    let mut from = tree_corner(bytes, l, first);
     let mut i = 0;
     while i < count {
-        let to = scene_corner(bytes, l, first + next_place(count, i));
+        let to = tree_corner(bytes, l, first + next_place(count, i));
         let edge = spans::oriented_edge(eye, from, to, sign);
         // a slice takes a signed number from a whole local alone
         let x = edge.x;

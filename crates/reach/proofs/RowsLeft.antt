@@ -1,5 +1,5 @@
 -- What is left of a window's rows without those that lie beside a patch.
-use mathlib.Core.Path.{_≡_, refl, sym, _∙_, ap, subst}
+use mathlib.Core.Path.{_≡_, refl, sym, subst, subst₂}
 use mathlib.Core.Logic.{_⊎_, inl, inr, ⊎-elim}
 use mathlib.Core.Bool.{Bool, true, false}
 use mathlib.Core.List.{List, map}
@@ -48,32 +48,32 @@ nextNormal sign = vec (pos 0) (sign *ℤ negsuc 1) (pos 0)
 
 -- a row beside the patch does not meet it
 beside-missed :
-    {eye : Vec} (w : Window) {p : Patch} (sign : ℤ) {base : Vec} {s : Span} → Proper p → base ≡ firstNormal w sign →
-    Beside eye base (nextNormal sign) (p .corners) (w .height) s →
+    {eye : Vec} (w : Window) {p : Patch} (sign : ℤ) {corners : List Vec} {base : Vec} {s : Span} → Proper p → p .corners ≡ corners →
+    base ≡ firstNormal w sign → Beside eye base (nextNormal sign) corners (w .height) s →
     (j : ℕ) → T (covers s j) → (i : ℕ) → met eye (direction w i j) p ≡ false
-beside-missed {eye} w {p} sign proper e b j t i =
+beside-missed {eye} w {p} sign proper k e b j t i =
     subst (λ (d : Vec). met eye d p ≡ false) (direction-along w i j)
     (row-beside eye (window-normal w j sign) proper
-    (subst (λ (n : Vec). T (inside (along n (nextNormal sign) j) (map (λ (c : Vec). minus c eye) (p .corners)))) e (b .all j t)) i)
+    (subst₂ (λ (n : Vec) (cs : List Vec). T (inside (along n (nextNormal sign) j) (map (λ (c : Vec). minus c eye) cs))) e (sym k) (b .all j t)) i)
 
 pub reach-left :
-    {eye : Vec} (w : Window) {p : Patch} {down up : Vec} {below above rest r : Span} → Proper p →
-    down ≡ firstNormal w (pos 1) → Beside eye down (nextNormal (pos 1)) (p .corners) (w .height) below →
-    up ≡ firstNormal w (negsuc 0) → Beside eye up (nextNormal (negsuc 0)) (p .corners) (w .height) above →
+    {eye : Vec} (w : Window) {p : Patch} {corners : List Vec} {down up : Vec} {below above rest r : Span} → Proper p → p .corners ≡ corners →
+    down ≡ firstNormal w (pos 1) → Beside eye down (nextNormal (pos 1)) corners (w .height) below →
+    up ≡ firstNormal w (negsuc 0) → Beside eye up (nextNormal (negsuc 0)) corners (w .height) above →
     Without (record { first = 0; end = w .height }) below rest → Without rest above r →
     Reach eye w p (r .first) (r .end)
-reach-left {eye} w {p} {below = below} {above} {rest} {r} proper d b f a u v = record { missed = go }
+reach-left {eye} w {p} {below = below} {above} {rest} {r} proper k d b f a u v = record { missed = go }
   where
     go : (j : ℕ) → j < w .height → (r .first ≤ j → j < r .end → ⊥) → (i : ℕ) → met eye (direction w i j) p ≡ false
     go j h g i = first (covers below j) refl
       where
         second : (rest .first ≤ j) × (j < rest .end) → (c : Bool) → covers above j ≡ c → met eye (direction w i j) p ≡ false
-        second k true e = beside-missed w (negsuc 0) proper f a j (subst T (sym e) tt) i
-        second k false e =
-            let l = v .left j (k .0) (k .1) (λ x y. subst T e (covers-says above j .1 (x, y))) in absurd (g (l .0) (l .1))
+        second m true e = beside-missed w (negsuc 0) proper k f a j (subst T (sym e) tt) i
+        second m false e =
+            let l = v .left j (m .0) (m .1) (λ x y. subst T e (covers-says above j .1 (x, y))) in absurd (g (l .0) (l .1))
 
         first : (c : Bool) → covers below j ≡ c → met eye (direction w i j) p ≡ false
-        first true e = beside-missed w (pos 1) proper d b j (subst T (sym e) tt) i
+        first true e = beside-missed w (pos 1) proper k d b j (subst T (sym e) tt) i
         first false e =
             second (u .left j (omega arith) h (λ x y. subst T e (covers-says below j .1 (x, y)))) (covers above j) refl
 

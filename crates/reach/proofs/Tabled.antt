@@ -1,5 +1,5 @@
 -- The reach of one patch after another, put into two lists.
-use mathlib.Core.Path.{_≡_, refl, sym, _∙_, ap, subst}
+use mathlib.Core.Path.{_≡_, refl, _∙_}
 use mathlib.Core.Logic.{_≢_}
 use mathlib.Core.List.{List, [], List·Memᴰ}
 use Prim.Native.Nat.{ℕ, _+_, _≤_, _<_}
@@ -9,7 +9,7 @@ use lib.ListN.{length, getD, set, length-set, length-map}
 use lib.Seq.{getD-set-same, getD-set-other}
 use borrow.Author.Count.{below-none, below-more}
 use Rattle.model.specs.Vector.{Vec}
-use Rattle.model.specs.Patch.{Patch, flat, strictlyConvex}
+use Rattle.model.specs.Patch.{flat, strictlyConvex}
 use Rattle.model.specs.Window.{Window}
 use Rattle.model.specs.Format.{Scene, decode, patchOf, patchNumbered, patchTable}
 use Rattle.model.specs.Questions.{patchesProper, patchRunsFollow, cornerRunsFollow, runsProper}
@@ -55,10 +55,10 @@ tabled-none bytes eye height lens lows highs = record { each = below-none _; low
 
 module _ {bytes : List ℕ} {eye : Vec} {height lens : ℕ} {lows₀ highs₀ lows highs : List ℕ} {n : ℕ} (b : Tabled bytes eye height lens lows₀ highs₀ lows highs n) where
   pub tabled-more :
-      {p : Patch} {low high : ℕ} → n < length lows₀ → n < length highs₀ → p ≡ patchNumbered (decode bytes) n →
-      ((width : ℕ) → Reach eye (windowOf height lens width) p low high) →
+      {low high : ℕ} → n < length lows₀ → n < length highs₀ →
+      ((width : ℕ) → Reach eye (windowOf height lens width) (patchNumbered (decode bytes) n) low high) →
       Tabled bytes eye height lens lows₀ highs₀ (set lows n low) (set highs n high) (n + 1)
-  tabled-more {p} {low} {high} hl hh e r =
+  tabled-more {low} {high} hl hh r =
       record {
         each =
             below-more _ n
@@ -67,7 +67,7 @@ module _ {bytes : List ℕ} {eye : Vec} {height lens : ℕ} {lows₀ highs₀ lo
             rw (getD-set-other lows n k low 0 other, getD-set-other highs n k high 0 other) (b .each k h width))
             (λ width.
             rw (getD-set-same lows n low 0 (omega (arith, b .lows-long)), getD-set-same highs n high 0 (omega (arith, b .highs-long)))
-            (subst (λ (p : Patch). Reach eye (windowOf height lens width) p low high) e (r width)));
+            (r width));
         lows-long = length-set lows n low ∙ b .lows-long;
         highs-long = length-set highs n high ∙ b .highs-long;
       }

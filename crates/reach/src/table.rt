@@ -2,7 +2,6 @@
 use crate::rows::patch_rows;
 use format::layout::Layout;
 use geometry::Vector;
-use walk::scene::tree_patch;
 ghost use Prim.Native.Nat.{ℕ, _≤_};
 ghost use lib.Dec.{T};
 ghost use lib.ListN.{length};
@@ -30,7 +29,7 @@ pub fn all_rows(
     let n = l.patches;
     let mut k = 0;
     while k < n {
-        let reach = patch_rows(tree_patch(bytes, l, k), eye, height, lens);
+        let reach = patch_rows(bytes, l, k, eye, height, lens);
         lows[k] = reach.first as u16;
         highs[k] = reach.end as u16;
         k += 1;

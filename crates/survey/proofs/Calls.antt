@@ -1,9 +1,8 @@
 -- The survey call's contract: refused, or accepted and painted.
-use mathlib.Core.Path.{_≡_, refl, sym, _∙_, ap, subst}
+use mathlib.Core.Path.{_≡_, sym, _∙_, ap, subst}
 use mathlib.Core.Bool.{Bool, _&&_}
-use mathlib.Core.Logic.{_≢_}
 use mathlib.Core.List.{List}
-use Prim.Native.Nat.{ℕ, zero, suc, _+_, _*_, _≤_, _<_}
+use Prim.Native.Nat.{ℕ, _+_, _*_, _≤_, _<_}
 use native.Mathlib.Nat.{mul-le-mul}
 use native.Mathlib.Omega.{arith}
 use lib.Dec.{T, eqb, leb, leb→le, ltb→lt, eqb→eq}
@@ -13,7 +12,6 @@ use Rattle.model.specs.Window.{Window, direction}
 use Rattle.model.specs.Format.{decode, patchTable}
 use Rattle.model.specs.Row.{rowLength}
 use Rattle.model.specs.Picture.{counts, countEntries}
-use Rattle.model.specs.Call.{Call}
 use Rattle.model.specs.Questions.{within, pointInRange, viewInRange, lengthsFit, counterBelowEnd, surveyAnswer}
 use Rattle.model.specs.Survey.{callPicture, callCounts, callUnlit, callCounter}
 use Rattle.model.proofs.Tests.{both}

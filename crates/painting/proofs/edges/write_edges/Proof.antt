@@ -1,7 +1,7 @@
 -- `painting::edges::write_edges` meets its contract: while the loop runs, the vectors of the first i edges stand in the lists, and the next edge's corner is at
 -- hand.
 use mathlib.Core.Path.{sym, _∙_, ap}
-use Prim.Native.Nat.{ℕ, _+_, _-_}
+use Prim.Native.Nat.{_-_}
 use native.Mathlib.Nat.{add-zero}
 use native.Mathlib.Omega.{arith}
 use borrow.Author.Needs.{needs}
@@ -9,9 +9,8 @@ use Rattle.geometry.specs.Machine.{vecOf}
 use Rattle.geometry.proofs.Results.{vector-by}
 use Rattle.model.specs.Format.{decode, patchNumbered}
 use Rattle.format.specs.Layout.{cornerNumber}
-use Rattle.spans.specs.Row.{nextCorner}
-use Rattle.painting.proofs.EdgePlaces.{sign-small, sign-passed, edge-made, next-inside}
-use Rattle.painting.proofs.EdgeRuns.{bounded-corner, run-inside, run-three, run-eight, run-count, run-corner, run-room, run-written}
+use Rattle.painting.proofs.EdgePlaces.{sign-small, sign-passed, next-inside}
+use Rattle.painting.proofs.EdgeRuns.{bounded-corner, run-inside, run-three, run-eight, run-count, run-room, run-written}
 use Rattle.painting.proofs.EdgeWrites.{writing-none, writing-more, writing-all}
 use Rattle.painting.proofs.EdgeRounds.{Going, goes-on, edge-of}
 use Rattle.painting.proofs.edges.write_edges.Statement.{statement}
@@ -27,8 +26,8 @@ abbrev μ-loop : tie.MeasureT-loop
 patch-record-requires : tie.Need-patch-record-requires Inv-loop μ-loop
 patch-record-requires c κs = search needs
 
-scene-corner-requires : tie.Need-scene-corner-requires Inv-loop μ-loop
-scene-corner-requires c κs =
+tree-corner-requires : tie.Need-tree-corner-requires Inv-loop μ-loop
+tree-corner-requires c κs =
     let e = c .before .patch-record .ensures in
     (c .before .before .before .pre .0, omega (arith, run-inside (c .before .before .before .pre .0) (c .before .before .before .pre .1) e, run-three (c .before .before .before .pre .0) (c .before .before .before .pre .1) e))
 
@@ -36,14 +35,14 @@ loop-holds : tie.Need-loop-holds Inv-loop μ-loop
 loop-holds c =
     record {
       writing = writing-none _ _ _ _ _ _;
-      from-is = λ h. c .scene-corner .ensures .value ∙ ap (cornerNumber _ (c .before .before .before .before .args .l)) (sym (add-zero _));
+      from-is = λ h. c .tree-corner .ensures .value ∙ ap (cornerNumber _ (c .before .before .before .before .args .l)) (sym (add-zero _));
     }
 
 next-place-requires : tie.Need-next-place-requires Inv-loop μ-loop
 next-place-requires c κs = c .loop-test .taken
 
-add-scene-corner : tie.Need-add-scene-corner Inv-loop μ-loop
-add-scene-corner c =
+add-tree-corner : tie.Need-add-tree-corner Inv-loop μ-loop
+add-tree-corner c =
     omega (
       arith,
       c .next-place .ensures,
@@ -52,8 +51,8 @@ add-scene-corner c =
       c .before .before .before .before .before .before .before .pre .0 .laid .few-corners,
     )
 
-scene-corner-requires-2 : tie.Need-scene-corner-requires-2 Inv-loop μ-loop
-scene-corner-requires-2 c κs = (
+tree-corner-requires-2 : tie.Need-tree-corner-requires-2 Inv-loop μ-loop
+tree-corner-requires-2 c κs = (
   c .before .before .before .before .before .before .before .pre .0,
   omega (
     arith,
@@ -68,7 +67,7 @@ oriented-edge-requires c κs = (
   c .before .before .before .before .before .before .before .before .pre .2,
   bounded-corner (c .before .before .before .before .before .before .before .before .pre .0) (omega (arith, c .before .before .loop-test .taken, run-inside (c .before .before .before .before .before .before .before .before .pre .0) (c .before .before .before .before .before .before .before .before .pre .1) (c .before .before .before .before .before .before .patch-record .ensures)))
       (c .before .before .before .loop .inv .from-is (c .before .before .loop-test .taken)),
-  c .scene-corner2 .ensures .bounded,
+  c .tree-corner2 .ensures .bounded,
   sign-small (sign-passed (c .before .before .before .before .before .before .before .before .pre .3)),
 )
 
@@ -116,8 +115,8 @@ loop-again c =
       writing =
           writing-more (run-count r p e) (run-room r p e (c .before .before .before .before .before .before .before .before .before .before .before .before .pre .4)) (v .writing) h
           (vector-by (c .before .before .before .oriented-edge .ensures)
-          (edge-of (vecOf (c .before .before .before .before .before .before .before .before .before .before .before .before .args .eye)) r p e (sign-passed (c .before .before .before .before .before .before .before .before .before .before .before .before .pre .3)) h (v .from-is h) (c .before .before .before .before .before .next-place .ensures) (c .before .before .before .before .scene-corner2 .ensures .value)));
-      from-is = goes-on _ (c .before .before .before .before .before .before .before .before .before .before .before .before .args .l) _ _ _ _ (c .before .before .before .before .before .next-place .ensures) (c .before .before .before .before .scene-corner2 .ensures .value);
+          (edge-of (vecOf (c .before .before .before .before .before .before .before .before .before .before .before .before .args .eye)) r p e (sign-passed (c .before .before .before .before .before .before .before .before .before .before .before .before .pre .3)) h (v .from-is h) (c .before .before .before .before .before .next-place .ensures) (c .before .before .before .before .tree-corner2 .ensures .value)));
+      from-is = goes-on _ (c .before .before .before .before .before .before .before .before .before .before .before .before .args .l) _ _ _ _ (c .before .before .before .before .before .next-place .ensures) (c .before .before .before .before .tree-corner2 .ensures .value);
     }
 
 same-length : tie.Need-same-length Inv-loop μ-loop
@@ -143,11 +142,11 @@ write-edges-spec =
     Inv-loop
     μ-loop
     patch-record-requires
-    scene-corner-requires
+    tree-corner-requires
     loop-holds
     next-place-requires
-    add-scene-corner
-    scene-corner-requires-2
+    add-tree-corner
+    tree-corner-requires-2
     oriented-edge-requires
     add-x
     mul-x

@@ -2,7 +2,6 @@
 use borrow.Author.Tests.{le-ltb, lt-ltb}
 use borrow.Author.Needs.{needs}
 use mathlib.Core.Bool.{and-false}
-use native.Mathlib.Omega.{arith}
 use Rattle.reach.proofs.selection.next_place.Statement.{statement}
 use Rattle.reach.proofs.selection.next_place.Tie as tie
 

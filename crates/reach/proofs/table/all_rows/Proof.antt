@@ -1,10 +1,7 @@
 -- `reach::table::all_rows` meets its contract: while the loop runs, the reach of the first k patches stands in the lists.
-use mathlib.Core.Path.{sym, subst}
 use Prim.Native.Nat.{_-_}
 use native.Mathlib.Omega.{arith}
-use borrow.Author.Needs.{needs}
 use Rattle.geometry.specs.Machine.{vecOf}
-use Rattle.model.proofs.Patches.{Proper}
 use Rattle.reach.proofs.Tabled.{Tabled, numbered-proper, tabled-none, tabled-more, tabled-all}
 use Rattle.reach.proofs.table.all_rows.Statement.{statement}
 use Rattle.reach.proofs.table.all_rows.Tie as tie
@@ -18,45 +15,43 @@ abbrev μ-loop : tie.MeasureT-loop
 loop-holds : tie.Need-loop-holds Inv-loop μ-loop
 loop-holds c = tabled-none _ _ _ _ _ _
 
-tree-patch-requires : tie.Need-tree-patch-requires Inv-loop μ-loop
-tree-patch-requires c κs = (c .before .before .before .before .before .pre .0, c .loop-test .taken)
-
 patch-rows-requires : tie.Need-patch-rows-requires Inv-loop μ-loop
 patch-rows-requires c κs = (
-  c .tree-patch .ensures .bounded,
-  subst Proper (sym (c .tree-patch .ensures .value)) (numbered-proper (c .before .before .before .before .before .before .pre .0) (c .before .before .before .before .before .before .pre .1) (c .before .before .loop .k) (c .before .loop-test .taken)),
-  c .before .before .before .before .before .before .pre .2,
-  c .before .before .before .before .before .before .pre .3,
+  c .before .before .before .before .before .pre .0,
+  c .loop-test .taken,
+  numbered-proper (c .before .before .before .before .before .pre .0) (c .before .before .before .before .before .pre .1) (c .before .loop .k) (c .loop-test .taken),
+  c .before .before .before .before .before .pre .2,
+  c .before .before .before .before .before .pre .3,
 )
 
 cast-lows : tie.Need-cast-lows Inv-loop μ-loop
-cast-lows c = omega (arith, c .before .patch-rows .ensures .1 .first-limit, c .before .before .before .before .before .before .before .before .pre .3)
+cast-lows c = omega (arith, c .before .patch-rows .ensures .1 .first-limit, c .before .before .before .before .before .before .before .pre .3)
 
 mul-lows : tie.Need-mul-lows Inv-loop μ-loop
-mul-lows c = omega (arith, c .before .before .before .before .loop .inv .lows-long, c .before .before .before .loop-test .taken, c .before .before .before .before .before .before .before .before .pre .4)
+mul-lows c = omega (arith, c .before .before .before .loop .inv .lows-long, c .before .before .loop-test .taken, c .before .before .before .before .before .before .before .pre .4)
 
 slice-write-lows : tie.Need-slice-write-lows Inv-loop μ-loop
-slice-write-lows c = omega (arith, c .before .before .before .before .loop .inv .lows-long, c .before .before .before .loop-test .taken, c .before .before .before .before .before .before .before .before .pre .4)
+slice-write-lows c = omega (arith, c .before .before .before .loop .inv .lows-long, c .before .before .loop-test .taken, c .before .before .before .before .before .before .before .pre .4)
 
 cast-highs : tie.Need-cast-highs Inv-loop μ-loop
-cast-highs c = omega (arith, c .before .before .patch-rows .ensures .1 .end-limit, c .before .before .before .before .before .before .before .before .before .pre .3)
+cast-highs c = omega (arith, c .before .before .patch-rows .ensures .1 .end-limit, c .before .before .before .before .before .before .before .before .pre .3)
 
 mul-highs : tie.Need-mul-highs Inv-loop μ-loop
-mul-highs c = omega (arith, c .before .before .before .before .before .loop .inv .highs-long, c .before .before .before .before .loop-test .taken, c .before .before .before .before .before .before .before .before .before .pre .5)
+mul-highs c = omega (arith, c .before .before .before .before .loop .inv .highs-long, c .before .before .before .loop-test .taken, c .before .before .before .before .before .before .before .before .pre .5)
 
 slice-write-highs : tie.Need-slice-write-highs Inv-loop μ-loop
-slice-write-highs c = omega (arith, c .before .before .before .before .before .loop .inv .highs-long, c .before .before .before .before .loop-test .taken, c .before .before .before .before .before .before .before .before .before .pre .5)
+slice-write-highs c = omega (arith, c .before .before .before .before .loop .inv .highs-long, c .before .before .before .loop-test .taken, c .before .before .before .before .before .before .before .before .pre .5)
 
 add-k : tie.Need-add-k Inv-loop μ-loop
-add-k c = omega (arith, c .before .before .before .before .loop-test .taken, c .before .before .before .before .before .before .before .before .before .pre .0 .laid .few-patches)
+add-k c = omega (arith, c .before .before .before .loop-test .taken, c .before .before .before .before .before .before .before .before .pre .0 .laid .few-patches)
 
 loop-less : tie.Need-loop-less Inv-loop μ-loop
-loop-less c = omega (arith, c .before .before .before .before .loop-test .taken)
+loop-less c = omega (arith, c .before .before .before .loop-test .taken)
 
 loop-again : tie.Need-loop-again Inv-loop μ-loop
 loop-again c =
-    tabled-more (c .before .before .before .before .before .loop .inv) (omega (arith, c .before .before .before .before .loop-test .taken, c .before .before .before .before .before .before .before .before .before .pre .4)) (omega (arith, c .before .before .before .before .loop-test .taken, c .before .before .before .before .before .before .before .before .before .pre .5))
-    (c .before .before .before .tree-patch .ensures .value) (c .before .before .patch-rows .ensures .0)
+    tabled-more (c .before .before .before .before .loop .inv) (omega (arith, c .before .before .before .loop-test .taken, c .before .before .before .before .before .before .before .before .pre .4)) (omega (arith, c .before .before .before .loop-test .taken, c .before .before .before .before .before .before .before .before .pre .5))
+    (c .before .before .patch-rows .ensures .0)
 
 same-length : tie.Need-same-length Inv-loop μ-loop
 same-length c = c .before .loop .inv .lows-long
@@ -74,7 +69,6 @@ all-rows-spec =
     Inv-loop
     μ-loop
     loop-holds
-    tree-patch-requires
     patch-rows-requires
     cast-lows
     mul-lows
