@@ -17,5 +17,8 @@ pub mod Every
 pub mod Placed
 pub mod Branches
 pub mod BoxLaws
+pub mod ExtentLaws
+pub mod BoxStores
 pub mod NodeBoxes
+pub mod BoxCorners
 pub mod BoxSides

@@ -1,7 +1,8 @@
 -- `walk::beyond::all_held` meets its contract.
 use borrow.Author.Needs.{needs}
 use Rattle.integer.proofs.Comparison.{comparisons}
-use Rattle.walk.proofs.BoxSides.{strictly, touching, all-told, opposite, nothing-said}
+use Rattle.walk.proofs.BoxCorners.{strictly, touching}
+use Rattle.walk.proofs.BoxSides.{all-told, opposite, nothing-said}
 use Rattle.walk.proofs.beyond.all_held.Statement.{statement}
 use Rattle.walk.proofs.beyond.all_held.Tie as tie
 

@@ -1,5 +1,5 @@
 -- `walk::beyond::corner_by` meets its contract, axis by axis.
-use Rattle.walk.proofs.BoxSides.{corner-by}
+use Rattle.walk.proofs.BoxCorners.{corner-by}
 use Rattle.walk.proofs.beyond.corner_by.Statement.{statement}
 use Rattle.walk.proofs.beyond.corner_by.Tie as tie
 

@@ -4,7 +4,8 @@ use mir.Syntax.{w64}
 use mir.ValLaws.{toZ-ofZ}
 use Rattle.integer.specs.Magnitude.{Within}
 use Rattle.integer.proofs.Machine.{machine, room}
-use Rattle.walk.proofs.BoxSides.{corner-bounded, least-in-front, least-behind}
+use Rattle.walk.proofs.BoxCorners.{corner-bounded}
+use Rattle.walk.proofs.BoxSides.{least-in-front, least-behind}
 use Rattle.walk.proofs.beyond.least_number.Statement.{statement}
 use Rattle.walk.proofs.beyond.least_number.Tie as tie
 

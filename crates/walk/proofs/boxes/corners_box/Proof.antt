@@ -1,8 +1,9 @@
 -- `walk::boxes::corners_box` meets its contract: while the loop runs, the box takes in the first i corners.
-use Prim.Native.Nat.{_-_, _≤_}
+use Prim.Native.Nat.{_-_}
 use native.Mathlib.Omega.{arith}
 use Rattle.walk.specs.Boxes.{Covers, BoxBounded, takesCorner}
-use Rattle.walk.proofs.BoxLaws.{covers-refl, Widening, widening-none, widening-all, corner-taken}
+use Rattle.walk.proofs.BoxLaws.{covers-refl}
+use Rattle.walk.proofs.ExtentLaws.{Widening, widening-none, widening-all, corner-taken}
 use Rattle.walk.proofs.boxes.corners_box.Statement.{statement}
 use Rattle.walk.proofs.boxes.corners_box.Tie as tie
 

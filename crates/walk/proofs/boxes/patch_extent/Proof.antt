@@ -1,6 +1,7 @@
 -- `walk::boxes::patch_extent` meets its contract.
 use borrow.Author.Needs.{needs}
-use Rattle.walk.proofs.BoxLaws.{joined-bounded, patch-extent}
+use Rattle.walk.proofs.BoxLaws.{joined-bounded}
+use Rattle.walk.proofs.ExtentLaws.{patch-extent}
 use Rattle.walk.proofs.boxes.patch_extent.Statement.{statement}
 use Rattle.walk.proofs.boxes.patch_extent.Tie as tie
 

@@ -1,8 +1,8 @@
 -- `walk::boxes::patches_extent` meets its contract: while the loop runs, the extent takes in the first i patches.
-use Prim.Native.Nat.{_-_, _≤_}
+use Prim.Native.Nat.{_-_}
 use native.Mathlib.Omega.{arith}
 use Rattle.walk.specs.Boxes.{Wider, ExtentBounded, takesPatch}
-use Rattle.walk.proofs.BoxLaws.{wider-refl, Widening, widening-none, widening-all, patch-taken}
+use Rattle.walk.proofs.ExtentLaws.{wider-refl, Widening, widening-none, widening-all, patch-taken}
 use Rattle.walk.proofs.boxes.patches_extent.Statement.{statement}
 use Rattle.walk.proofs.boxes.patches_extent.Tie as tie
 

@@ -2,7 +2,7 @@
 use native.Mathlib.Omega.{arith}
 use lib.ListN.{length-set}
 use borrow.Author.Needs.{needs}
-use Rattle.walk.proofs.NodeBoxes.{put-long, box-stored}
+use Rattle.walk.proofs.BoxStores.{put-long, box-stored}
 use Rattle.walk.proofs.boxes.store_box.Statement.{statement}
 use Rattle.walk.proofs.boxes.store_box.Tie as tie
 

@@ -1,6 +1,6 @@
 -- `walk::boxes::store_extent` meets its contract: the inner box, which is stored first, stands after the outer one.
 use borrow.Author.Needs.{needs}
-use Rattle.walk.proofs.NodeBoxes.{extent-stored}
+use Rattle.walk.proofs.BoxStores.{extent-stored}
 use Rattle.walk.proofs.boxes.store_extent.Statement.{statement}
 use Rattle.walk.proofs.boxes.store_extent.Tie as tie
 
