@@ -13,6 +13,9 @@
  * not be null; picture, counts, unlit and counter must not overlap one another or the scene.
  * Whatever the numbers, the scene's bytes and the lengths are, a call ends: with RING_DONE and a
  * full survey, or with one refusal and nothing changed.
+ *
+ * The stack. A call takes no memory but the caller's stack: a quarter of a megabyte, and half a
+ * megabyte for a tree that is one chain of 1,024 nodes. Call from a thread that has a megabyte free.
  */
 #ifndef RING_H
 #define RING_H
