@@ -4,5 +4,4 @@ pub mod HalfLine
 pub mod Clipping
 pub mod Rows
 pub mod Orientation
-pub mod EdgeTables
 pub mod RowPlanes

@@ -8,7 +8,7 @@ use lib.IntN.{ℤ, pos, negsuc, negℤ, _+ℤ_, _-ℤ_, _*ℤ_}
 use lib.Signed.{_<ℤ_, ltZ-yes, <ℤ-irrefl}
 use Rattle.integer.proofs.Identity.{ring, reify, combine₂}
 use Rattle.integer.proofs.Order.{<→≤}
-use Rattle.model.specs.Vector.{Vec, vec, minus, plus, times, dot, cross}
+use Rattle.model.specs.Vector.{Vec, vec, minus, plus, times, dot}
 use Rattle.model.specs.Patch.{Patch, corner}
 use Rattle.model.specs.Ray.{met}
 use Rattle.model.specs.Window.{Window, direction}
@@ -23,20 +23,6 @@ use Rattle.spans.proofs.Rows.{number-along}
 pub record RowNormal (base step N : Vec) : Type 0 where
   pub base-in : dot base N ≡ pos 0
   pub step-in : dot step N ≡ pos 0
-
--- base × step, times any number: it may point either way
-pub row-normal : (base step : Vec) (k : ℤ) → RowNormal base step (times k (cross base step))
-row-normal base step k =
-    record {
-      base-in =
-          ring
-          (base .x ∷ base .y ∷ base .z ∷ step .x ∷ step .y ∷ step .z ∷ k ∷ [])
-          (search reify depth 40 fits 200000, tt);
-      step-in =
-          ring
-          (base .x ∷ base .y ∷ base .z ∷ step .x ∷ step .y ∷ step .z ∷ k ∷ [])
-          (search reify depth 40 fits 200000, tt);
-    }
 
 pub row-missed :
     (eye : Vec) {base step N : Vec} {p : Patch} →

@@ -9,8 +9,8 @@ use native.Mathlib.Omega.{arith}
 use borrow.Author.Tests.{lt-leb, le-ltb}
 use lib.Dec.{leb, ltb, leb·zero}
 use lib.IntN.{ℤ, pos}
-use lib.ListN.{length, getD, take, drop, length-take, length-drop}
-use lib.Seq.{drop-cons, drop-length, getD-take, getD-drop}
+use lib.ListN.{length, getD, drop}
+use lib.Seq.{drop-cons, drop-length}
 use lib.Signed.{ltZ}
 use mir.Syntax.{w64}
 use mir.Val.{toZ, ofZ}
@@ -23,7 +23,7 @@ use Rattle.geometry.specs.Machine.{VectorIs, NumberIs}
 use Rattle.geometry.proofs.Results.{number, vector}
 use Rattle.spans.specs.declared.Span.{Span}
 use Rattle.spans.specs.Span.{covers, Shaped, numberAt, Clipped}
-use Rattle.spans.specs.Row.{along, vectors, vectorAt, inside, Each, EdgeParts, EdgeClipped, RowSpan}
+use Rattle.spans.specs.Row.{along, vectors, vectorAt, inside, EdgeParts, EdgeClipped, RowSpan}
 use Rattle.spans.proofs.Tests.{lt-or-ge}
 
 -- an edge number changes evenly along a row
@@ -54,17 +54,6 @@ pub record Narrowed (xs ys zs : List ℤ) (base step : Vec) (width k : ℕ) (s :
   pub seen : k ≤ length xs
   pub shaped : Shaped width s
   pub left : (i : ℕ) → (ltb i width && inside (along base step i) (vectors xs ys zs)) ≡ (covers s i && inside (along base step i) (rest xs ys zs k))
-
--- a part of a list of bounded numbers
-pub each-part : {n : ℕ} {xs : List ℤ} (a m : ℕ) → Each n xs → Each n (take m (drop a xs))
-each-part {n} {xs} a m h =
-    record {
-      within =
-          λ k l.
-          let e = simp (length-take, length-drop) at l in
-          let km : k < m = omega arith in
-          rw (getD-take m (drop a xs) k (pos 0) km, getD-drop a xs k (pos 0)) (h .within (a + k) (omega arith));
-    }
 
 -- the edge vector that the machine reads at k
 pub edge-read :

@@ -9,7 +9,7 @@ use lib.ListN.{length, getD}
 use lib.Signed.{ltZ}
 use Rattle.integer.specs.Magnitude.{Within, signOf}
 use Rattle.model.specs.Lists.{every}
-use Rattle.model.specs.Vector.{Vec, vec, origin, minus, plus, times, cross}
+use Rattle.model.specs.Vector.{Vec, vec, plus, times}
 use Rattle.model.specs.Patch.{Patch, Edge, edges}
 use Rattle.model.specs.Ray.{eyeProduct, edgeVector, edgeNumber}
 use Rattle.spans.specs.declared.Span.{Span}
@@ -62,14 +62,3 @@ orientedEdges eye p = map (λ (e : Edge). times (signOf (eyeProduct eye p)) (edg
 -- the corner after corner k of n
 abbrev pub nextCorner : ℕ → ℕ → ℕ
 nextCorner n k = cond (ltb (suc k) n) (suc k) 0
-
--- The three lists hold the edge vectors of a patch with the corners cs, times the sign, in the corners' order.
-pub record EdgeTable (eye : Vec) (sign : ℤ) (cs : List Vec) (xs ys zs : List ℤ) : Type 0 where
-  pub x-count : length xs ≡ length cs
-  pub y-count : length ys ≡ length cs
-  pub z-count : length zs ≡ length cs
-  pub entry :
-      (k : ℕ) →
-      k < length cs →
-      vectorAt xs ys zs k
-      ≡ times sign (cross (minus (getD cs k origin) eye) (minus (getD cs (nextCorner (length cs) k) origin) eye))
