@@ -63,8 +63,7 @@ pub fn quads(count: usize) -> Vec<Level> {
     let quad = |k: usize| {
         let y = 700.0 + (9 * k) as f64;
         let part = 0.3 + 0.65 * k as f64 / 1_023.0;
-        let (x, z) = (part * y, part * y / 2.0);
-        square(k, [0.0, y, 0.0], x, z)
+        level(k, [0.0, y, 0.0], [part * y, part * y / 2.0], &SQUARE)
     };
     (0..count).map(quad).collect()
 }
@@ -86,28 +85,23 @@ pub fn small(count: usize) -> Vec<Level> {
                 (1.0, 0.0),
                 (0.0, 1.0),
             ],
-            _ => &[(-1.0, -1.0), (1.0, -1.0), (1.0, 1.0), (-1.0, 1.0)],
+            _ => &SQUARE,
         };
-        let corner = |p: &(f64, f64)| point([x + size * p.0, y, z + size * p.1]);
-        Level {
-            y: y as i16,
-            patches: vec![Patch {
-                panel: k as u16 + 1,
-                corners: shape.iter().map(corner).collect(),
-            }],
-        }
+        level(k, [x, y, z], [size, size], shape)
     };
     (0..count).map(patch).collect()
 }
 
-fn square(k: usize, [x, y, z]: [f64; 3], wide: f64, high: f64) -> Level {
-    let corners = [(-1.0, -1.0), (1.0, -1.0), (1.0, 1.0), (-1.0, 1.0)];
+const SQUARE: [(f64, f64); 4] = [(-1.0, -1.0), (1.0, -1.0), (1.0, 1.0), (-1.0, 1.0)];
+
+/// One patch across the view: a shape around a middle, so many times as wide and high.
+fn level(k: usize, [x, y, z]: [f64; 3], [wide, high]: [f64; 2], shape: &[(f64, f64)]) -> Level {
     let corner = |p: &(f64, f64)| point([x + wide * p.0, y, z + high * p.1]);
     Level {
         y: y as i16,
         patches: vec![Patch {
             panel: k as u16 + 1,
-            corners: corners.iter().map(corner).collect(),
+            corners: shape.iter().map(corner).collect(),
         }],
     }
 }

@@ -21,22 +21,22 @@ use Rattle.format.specs.declared.layout.Layout.{Layout}
 use Rattle.format.proofs.Tables.{same-table}
 use Rattle.rows.proofs.Rows.{row-congr}
 use Rattle.reach.specs.Reach.{Reaches}
-use Rattle.reach.specs.Selection.{reached, reaching, chosen, Listed, Selected}
+use Rattle.reach.specs.Selection.{reached, reaching, passing, Listed, Selected}
 use Rattle.painting.specs.Painting.{shownAfter}
 use Rattle.painting.specs.Laying.{Numbers, walkOf}
 use Rattle.painting.specs.Framing.{withRow, RowPlaced}
 
--- what holds of every number holds of every chosen one
-chosen-all :
+-- what holds of every number holds of those that pass
+passing-all :
     (test : ℕ → Bool) (P : ℕ → Type 0) (ns : List ℕ) → ((k : ℕ) → k < length ns → P (getD ns k 0)) →
-    (k : ℕ) → k < length (chosen test ns) → P (getD (chosen test ns) k 0)
-unfolding chosen
-chosen-all test P [] f k h = absurd (omega arith)
-chosen-all test P (n ∷ ns) f k h = go (chosen-all test P ns (λ k h. f (suc k) (omega arith))) (test n) k h
+    (k : ℕ) → k < length (passing test ns) → P (getD (passing test ns) k 0)
+unfolding passing
+passing-all test P [] f k h = absurd (omega arith)
+passing-all test P (n ∷ ns) f k h = go (passing-all test P ns (λ k h. f (suc k) (omega arith))) (test n) k h
   where
     go :
-        ((k : ℕ) → k < length (chosen test ns) → P (getD (chosen test ns) k 0)) → (b : Bool) (k : ℕ) →
-        k < length (cond b (n ∷ chosen test ns) (chosen test ns)) → P (getD (cond b (n ∷ chosen test ns) (chosen test ns)) k 0)
+        ((k : ℕ) → k < length (passing test ns) → P (getD (passing test ns) k 0)) → (b : Bool) (k : ℕ) →
+        k < length (cond b (n ∷ passing test ns) (passing test ns)) → P (getD (cond b (n ∷ passing test ns) (passing test ns)) k 0)
     go others true zero h = f 0 (omega arith)
     go others true (suc k) h = others k (omega arith)
     go others false k h = others k h
@@ -46,23 +46,23 @@ abbrev Unmet : Vec → Vec → (ℕ → Patch) → (ℕ → Bool) → List ℕ �
 Unmet eye d patch test ns = (k : ℕ) → k < length ns → test (getD ns k 0) ≡ false → met eye d (patch (getD ns k 0)) ≡ false
 
 module _ (eye d : Vec) (patch : ℕ → Patch) (test : ℕ → Bool) where
-  chosen-first : (ns : List ℕ) → Unmet eye d patch test ns → firstMet eye d (map patch (chosen test ns)) ≡ firstMet eye d (map patch ns)
-  unfolding chosen firstMet
-  chosen-first [] f = refl
-  chosen-first (n ∷ ns) f = go (chosen-first ns (λ k h. f (suc k) (omega arith))) (test n) refl
+  passing-first : (ns : List ℕ) → Unmet eye d patch test ns → firstMet eye d (map patch (passing test ns)) ≡ firstMet eye d (map patch ns)
+  unfolding passing firstMet
+  passing-first [] f = refl
+  passing-first (n ∷ ns) f = go (passing-first ns (λ k h. f (suc k) (omega arith))) (test n) refl
     where
-      go : firstMet eye d (map patch (chosen test ns)) ≡ firstMet eye d (map patch ns) → (b : Bool) → test n ≡ b →
-          firstMet eye d (map patch (cond b (n ∷ chosen test ns) (chosen test ns))) ≡ cond (met eye d (patch n)) (some (patch n)) (firstMet eye d (map patch ns))
+      go : firstMet eye d (map patch (passing test ns)) ≡ firstMet eye d (map patch ns) → (b : Bool) → test n ≡ b →
+          firstMet eye d (map patch (cond b (n ∷ passing test ns) (passing test ns))) ≡ cond (met eye d (patch n)) (some (patch n)) (firstMet eye d (map patch ns))
       go rest true e = ap (cond (met eye d (patch n)) (some (patch n))) rest
       go rest false e = rw (f 0 (omega arith) e) rest
 
-  chosen-any : (ns : List ℕ) → Unmet eye d patch test ns → any (met eye d) (map patch (chosen test ns)) ≡ any (met eye d) (map patch ns)
-  unfolding chosen
-  chosen-any [] f = refl
-  chosen-any (n ∷ ns) f = go (chosen-any ns (λ k h. f (suc k) (omega arith))) (test n) refl
+  passing-any : (ns : List ℕ) → Unmet eye d patch test ns → any (met eye d) (map patch (passing test ns)) ≡ any (met eye d) (map patch ns)
+  unfolding passing
+  passing-any [] f = refl
+  passing-any (n ∷ ns) f = go (passing-any ns (λ k h. f (suc k) (omega arith))) (test n) refl
     where
-      go : any (met eye d) (map patch (chosen test ns)) ≡ any (met eye d) (map patch ns) → (b : Bool) → test n ≡ b →
-          any (met eye d) (map patch (cond b (n ∷ chosen test ns) (chosen test ns))) ≡ (met eye d (patch n) || any (met eye d) (map patch ns))
+      go : any (met eye d) (map patch (passing test ns)) ≡ any (met eye d) (map patch ns) → (b : Bool) → test n ≡ b →
+          any (met eye d) (map patch (cond b (n ∷ passing test ns) (passing test ns))) ≡ (met eye d (patch n) || any (met eye d) (map patch ns))
       go rest true e = ap (met eye d (patch n) ||_) rest
       go rest false e = rw (f 0 (omega arith) e) rest
 
@@ -81,7 +81,7 @@ module _ {l : Layout} {order : List ℕ} (numbers : Numbers l order) where
 
     pub near-numbers : Numbers l (take n near)
     near-numbers =
-        record { patch = rw (s .front) (chosen-all (reaching lows highs from to) (λ (k : ℕ). k < l .patches) order (numbers .patch)) }
+        record { patch = rw (s .front) (passing-all (reaching lows highs from to) (λ (k : ℕ). k < l .patches) order (numbers .patch)) }
 
     module _ {bytes : List ℕ} {eye : Vec} (w : Window) (r : Reaches bytes l eye w lows highs) {j : ℕ} (above : from ≤ j) (below : j < to) (h : j < w .height) where
       unmet : (i : ℕ) → Unmet eye (direction w i j) (patchNumbered (decode bytes)) (reaching lows highs from to) order
@@ -126,7 +126,7 @@ module _ {l : Layout} {order : List ℕ} (numbers : Numbers l order) where
           test = reaching lows highs from to
 
           first : (i : ℕ) → firstMet eye (direction w i j) (walkOf bytes (take n near)) ≡ firstMet eye (direction w i j) (walkOf bytes order)
-          first i = rw (s .front) (chosen-first eye (direction w i j) patch test order (unmet i))
+          first i = rw (s .front) (passing-first eye (direction w i j) patch test order (unmet i))
 
           some-met : (i : ℕ) → any (met eye (direction w i j)) (walkOf bytes (take n near)) ≡ any (met eye (direction w i j)) (walkOf bytes order)
-          some-met i = rw (s .front) (chosen-any eye (direction w i j) patch test order (unmet i))
+          some-met i = rw (s .front) (passing-any eye (direction w i j) patch test order (unmet i))

@@ -10,7 +10,7 @@ use Rattle.model.specs.Row.{rowOf, rowLength}
 use Rattle.model.specs.Questions.{unlitAfter}
 use Rattle.painting.specs.Painting.{shownAfter}
 
--- the lists have just the room for the rows
+-- a window of a size that rows and their reach are made for, and lists with just the room for its rows
 pub record Framed (width height : ℕ) (picture unlit : List ℕ) : Type 0 where
   pub narrow : width ≤ rowLength
   pub low : height ≤ 1024

@@ -3,4 +3,4 @@ pub mod Corners
 pub mod RowsLeft
 pub mod Tabled
 -- and the patches of a walk that can be met in some rows.
-pub mod Choosing
+pub mod Selecting

@@ -20,18 +20,19 @@ pub record Beside (eye base step : Vec) (corners : List Vec) (height : ℕ) (r :
   pub all : (j : ℕ) → T (covers r j) → T (inside (along base step j) (map (λ (c : Vec). minus c eye) corners))
   pub shaped : Shaped height r
 
--- r has the rows that are not in s
+-- no row is lost that is not in s; r begins and ends at an end of the rows or of s
 pub record Without (rows s r : Span) : Type 0 where
   pub left :
       (j : ℕ) → rows .first ≤ j → j < rows .end → (s .first ≤ j → j < s .end → ⊥) → (r .first ≤ j) × (j < r .end)
   pub first-limit : (n : ℕ) → rows .first ≤ n → s .end ≤ n → r .first ≤ n
   pub end-limit : (n : ℕ) → rows .end ≤ n → s .first ≤ n → r .end ≤ n
 
--- outside the rows from `low` up to below `high` no ray of the window meets the patch
+-- Outside the rows from `low` up to below `high` no ray of the window meets the patch. It need not be met in all of them: too wide a reach costs time alone.
 pub record Reach (eye : Vec) (w : Window) (p : Patch) (low high : ℕ) : Type 0 where
   pub missed :
       (j : ℕ) → j < w .height → (low ≤ j → j < high → ⊥) → (i : ℕ) → met eye (direction w i j) p ≡ false
 
+-- both ends are within the height
 pub record Limited (height : ℕ) (r : Span) : Type 0 where
   pub first-limit : r .first ≤ height
   pub end-limit : r .end ≤ height

@@ -11,9 +11,9 @@ abbrev pub reached : ℕ → ℕ → ℕ → ℕ → Bool
 reached low high from to = ltb low to && ltb from high
 
 -- the numbers that pass a test
-unfoldable pub chosen : (ℕ → Bool) → List ℕ → List ℕ
-chosen test [] = []
-chosen test (n ∷ ns) = cond (test n) (n ∷ chosen test ns) (chosen test ns)
+unfoldable pub passing : (ℕ → Bool) → List ℕ → List ℕ
+passing test [] = []
+passing test (n ∷ ns) = cond (test n) (n ∷ passing test ns) (passing test ns)
 
 -- patch n can be met in some row from `from` up to below `to`
 abbrev pub reaching : List ℕ → List ℕ → ℕ → ℕ → ℕ → Bool
@@ -26,6 +26,6 @@ pub record Listed (order lows highs : List ℕ) : Type 0 where
 
 -- the numbers of the walk whose patches reach the rows stand at the front, r of them
 pub record Selected (lows highs : List ℕ) (from to : ℕ) (order after : List ℕ) (r : ℕ) : Type 0 where
-  pub front : take r after ≡ chosen (reaching lows highs from to) order
+  pub front : take r after ≡ passing (reaching lows highs from to) order
   pub few : r ≤ length order
   pub inside : r ≤ length after

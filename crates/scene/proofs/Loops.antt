@@ -1,7 +1,7 @@
 -- Two tests one after the other; a test put to each of n entries, and the loop that stops at the first no.
-use mathlib.Core.Path.{_≡_, refl, sym, _∙_}
+use mathlib.Core.Path.{_≡_, refl, sym, _∙_, ap}
 use mathlib.Core.Bool.{Bool, true, false, _&&_}
-use mathlib.Core.List.{map}
+use mathlib.Core.List.{List, [], _∷_, map}
 use Prim.Native.Nat.{ℕ, _+_, _≤_, _<_}
 use native.Mathlib.Omega.{arith}
 use borrow.Author.Count.{below-none, below-more}
@@ -34,6 +34,14 @@ pub every-entry :
     IsEvery n (λ (k : ℕ). test (f k)) whole
 every-entry test f n e =
     record { one-no = λ k h t. e ∙ one-fails test f n k h t; all-yes = λ g. e ∙ all-pass test f n g }
+
+-- the test of the number of each entry
+pub every-number : (test : ℕ → Bool) (n : ℕ) → IsEvery n test (every test (range 0 n))
+every-number test n = every-entry (λ (b : Bool). b) test n (tested (range 0 n))
+  where
+    tested : (ks : List ℕ) → every test ks ≡ every (λ (b : Bool). b) (map test ks)
+    tested [] = refl
+    tested (k ∷ ks) = ap (test k &&_) (tested ks)
 
 -- after a yes each entry has passed
 pub each : {n : ℕ} {test : ℕ → Bool} {whole : Bool} → IsEvery n test whole → whole ≡ true → (k : ℕ) → k < n → test k ≡ true

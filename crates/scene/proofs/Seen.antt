@@ -12,7 +12,7 @@ use Rattle.scene.specs.declared.view.Point.{Point}
 use Rattle.scene.specs.declared.view.View.{View}
 use Rattle.scene.specs.Tests.{wrap}
 use Rattle.scene.specs.Seen.{Seen, seen, seenOf, seenAt, SeenWithin, ViewBounded, turnPart, asked, turnsSeen, turnsSeenAt, convexSeen}
-use Rattle.scene.proofs.Loops.{IsEvery, every-entry}
+use Rattle.scene.proofs.Loops.{IsEvery, every-entry, every-number}
 
 pub seen-made : {a b c d : ℤ} → a ≡ c → b ≡ d → seen a b ≡ seen c d
 seen-made e f = λ i. seen (e i) (f i)
@@ -34,7 +34,7 @@ module _ {view : View} {us vs : List ℤ} (b : ViewBounded view us vs) where
   point-bounded {k} h e = subst SeenWithin (sym e) (b .within k h)
 
   pub convex-seen-asked : IsEvery (view .count) (turnsSeenAt view us vs) (convexSeen view us vs)
-  convex-seen-asked = every-entry (λ (t : Bool). t) (turnsSeenAt view us vs) (view .count) refl
+  convex-seen-asked = every-number (turnsSeenAt view us vs) (view .count)
 
   module _ {k : ℕ} (h : k < view .count) where
     pub turns-seen-asked : IsEvery (asked (view .count)) (turnSeenAt view us vs k) (turnsSeenAt view us vs k)

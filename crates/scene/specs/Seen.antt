@@ -57,5 +57,6 @@ turnsSeenAt view us vs k =
     every (turnsSeen (view .part) (seenAt us vs k) (seenAt us vs (wrap (view .count) (k + 1))))
     (map (λ (j : ℕ). seenAt us vs (wrap (view .count) (k + 2 + j))) (range 0 (asked (view .count))))
 
+-- so does every edge
 abbrev pub convexSeen : View → List ℤ → List ℤ → Bool
-convexSeen view us vs = every (λ (t : Bool). t) (map (turnsSeenAt view us vs) (range 0 (view .count)))
+convexSeen view us vs = every (turnsSeenAt view us vs) (range 0 (view .count))

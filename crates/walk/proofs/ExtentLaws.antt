@@ -18,7 +18,7 @@ use Rattle.geometry.specs.declared.Vector.{Vector}
 use Rattle.format.specs.Layout.{cornerNumber}
 use Rattle.format.specs.declared.layout.Layout.{Layout}
 use Rattle.format.specs.declared.records.Run.{Run}
-use Rattle.walk.specs.Boxes.{CornersAre, InBox, Covers, BoxBounded, Least, Greatest, Joined, Met, Widened, takesCorner, Along, Encloses, Wider, ExtentBounded, takesPatch, PatchTaken}
+use Rattle.walk.specs.Boxes.{CornersAre, InBox, Covers, BoxBounded, Extreme, upward, downward, Joined, Met, Widened, takesCorner, Along, Encloses, Wider, ExtentBounded, takesPatch, PatchTaken}
 use Rattle.walk.specs.declared.boxes.Bounds.{Bounds}
 use Rattle.walk.specs.declared.boxes.Extent.{Extent}
 use Rattle.walk.proofs.Counting.{in-range}
@@ -112,7 +112,7 @@ module _ (bytes : List ℕ) (l : Layout) (first : ℕ) {count i : ℕ} where
 -- two corners show how far a patch reaches along an axis
 two-along :
     (axis : Vec → ℤ) {p : Patch} {u v : Vec} {low high low′ high′ : ℤ} → List·Memᴰ u (p .corners) → List·Memᴰ v (p .corners) →
-    Least (axis u) (axis v) low → Greatest (axis u) (axis v) high → low ≤ℤ low′ → high′ ≤ℤ high → Along axis low′ high′ p
+    Extreme upward (axis u) (axis v) low → Extreme downward (axis u) (axis v) high → low ≤ℤ low′ → high′ ≤ℤ high → Along axis low′ high′ p
 two-along axis {p} {u} {v} {low} {high} {low′} {high′} m n l g h k = record { up = rises (g .one-of); down = sinks (l .one-of) }
   where
     rises : (high ≡ axis u) ⊎ (high ≡ axis v) → (c : Vec) × List·Memᴰ c (p .corners) × (high′ ≤ℤ axis c)
@@ -139,9 +139,9 @@ patch-extent bytes l {e} {p} {run} {a} {c} {both} {outer} {inner} are ea ec j w 
                 rw (are .corners-are)
                 (of-map (InBox outer) (cornerNumber bytes l) (range (run .first) (run .count))
                 (of-range (λ (k : ℕ). InBox outer (cornerNumber bytes l k)) (run .first) (run .count) (w .each)));
-            x-along = two-along (λ (v : Vec). v .x) first third (j .low-is .x-least) (j .high-is .x-greatest) (s .low-most .x-most) (s .high-least .x-most);
-            y-along = two-along (λ (v : Vec). v .y) first third (j .low-is .y-least) (j .high-is .y-greatest) (s .low-most .y-most) (s .high-least .y-most);
-            z-along = two-along (λ (v : Vec). v .z) first third (j .low-is .z-least) (j .high-is .z-greatest) (s .low-most .z-most) (s .high-least .z-most);
+            x-along = two-along (λ (v : Vec). v .x) first third (j .low-is .x-extreme) (j .high-is .x-extreme) (s .low-most .x-most) (s .high-least .x-most);
+            y-along = two-along (λ (v : Vec). v .y) first third (j .low-is .y-extreme) (j .high-is .y-extreme) (s .low-most .y-most) (s .high-least .y-most);
+            z-along = two-along (λ (v : Vec). v .z) first third (j .low-is .z-extreme) (j .high-is .z-extreme) (s .low-most .z-most) (s .high-least .z-most);
           };
     }
   where

@@ -55,39 +55,35 @@ pub record BoxBounded (b : Bounds) : Type 0 where
 
 -- ---- the box of two boxes
 
--- r is one of a and b, and at most the other
-pub record Least (a b r : ℤ) : Type 0 where
-  pub first-most : r ≤ℤ a
-  pub second-most : r ≤ℤ b
-  pub one-of : (r ≡ a) ⊎ (r ≡ b)
-  pub small : Within 10000 r
-
-pub record Greatest (a b r : ℤ) : Type 0 where
-  pub first-least : a ≤ℤ r
-  pub second-least : b ≤ℤ r
+-- r is one of a and b, and in an order of numbers it stands after neither
+pub record Extreme (before : ℤ → ℤ → Type 0) (a b r : ℤ) : Type 0 where
+  pub to-first : before r a
+  pub to-second : before r b
   pub one-of : (r ≡ a) ⊎ (r ≡ b)
   pub small : Within 10000 r
 
 -- the same on each axis
-pub record LeastCorner (u v r : Vector) : Type 0 where
-  pub x-least : Least (u .x) (v .x) (r .x)
-  pub y-least : Least (u .y) (v .y) (r .y)
-  pub z-least : Least (u .z) (v .z) (r .z)
+pub record ExtremeCorner (before : ℤ → ℤ → Type 0) (u v r : Vector) : Type 0 where
+  pub x-extreme : Extreme before (u .x) (v .x) (r .x)
+  pub y-extreme : Extreme before (u .y) (v .y) (r .y)
+  pub z-extreme : Extreme before (u .z) (v .z) (r .z)
 
-pub record GreatestCorner (u v r : Vector) : Type 0 where
-  pub x-greatest : Greatest (u .x) (v .x) (r .x)
-  pub y-greatest : Greatest (u .y) (v .y) (r .y)
-  pub z-greatest : Greatest (u .z) (v .z) (r .z)
+-- upward it is the least, downward the greatest
+abbrev pub upward : ℤ → ℤ → Type 0
+upward m n = m ≤ℤ n
+
+abbrev pub downward : ℤ → ℤ → Type 0
+downward m n = n ≤ℤ m
 
 -- the least box that holds both
 pub record Joined (b c r : Bounds) : Type 0 where
-  pub low-is : LeastCorner (b .low) (c .low) (r .low)
-  pub high-is : GreatestCorner (b .high) (c .high) (r .high)
+  pub low-is : ExtremeCorner upward (b .low) (c .low) (r .low)
+  pub high-is : ExtremeCorner downward (b .high) (c .high) (r .high)
 
 -- the box that both hold; its low end may lie above its high end
 pub record Met (b c r : Bounds) : Type 0 where
-  pub low-is : GreatestCorner (b .low) (c .low) (r .low)
-  pub high-is : LeastCorner (b .high) (c .high) (r .high)
+  pub low-is : ExtremeCorner downward (b .low) (c .low) (r .low)
+  pub high-is : ExtremeCorner upward (b .high) (c .high) (r .high)
 
 -- ---- what a run of corners or patches takes up
 

@@ -11,7 +11,7 @@ ghost use Rattle.integer.specs.Magnitude.{Within};
 ghost use Rattle.model.specs.Format.{decode, patchNumbered};
 ghost use Rattle.geometry.specs.Machine.{Bounded};
 ghost use Rattle.walk.specs.Walked.{Walkable};
-ghost use Rattle.walk.specs.Boxes.{Least, Greatest, LeastCorner, GreatestCorner, Covers, BoxBounded, Joined, Met, Widened, takesCorner, Wider, ExtentBounded, takesPatch, PatchTaken, boxAt, extentAt, ExtentOf, BoxStored, ExtentStored, ExtentsFrom, ChildJoined};
+ghost use Rattle.walk.specs.Boxes.{Extreme, ExtremeCorner, upward, downward, Covers, BoxBounded, Joined, Met, Widened, takesCorner, Wider, ExtentBounded, takesPatch, PatchTaken, boxAt, extentAt, ExtentOf, BoxStored, ExtentStored, ExtentsFrom, ChildJoined};
 
 pub struct Bounds {
     pub low: Vector,
@@ -29,7 +29,7 @@ const BOX_SIZE: usize = 6;
 
 fn least(a: i64, b: i64) -> i64
     requires { ⌜ Within 10000 a × Within 10000 b ⌝ }
-    ensures { λ r. ⌜ Least a b r ⌝ }
+    ensures { λ r. ⌜ Extreme upward a b r ⌝ }
 {
     if b < a {
         return b;
@@ -39,7 +39,7 @@ fn least(a: i64, b: i64) -> i64
 
 fn greatest(a: i64, b: i64) -> i64
     requires { ⌜ Within 10000 a × Within 10000 b ⌝ }
-    ensures { λ r. ⌜ Greatest a b r ⌝ }
+    ensures { λ r. ⌜ Extreme downward a b r ⌝ }
 {
     if a < b {
         return b;
@@ -49,7 +49,7 @@ fn greatest(a: i64, b: i64) -> i64
 
 fn least_corner(u: Vector, v: Vector) -> Vector
     requires { ⌜ Bounded 10000 u × Bounded 10000 v ⌝ }
-    ensures { λ r. ⌜ LeastCorner u v r ⌝ }
+    ensures { λ r. ⌜ ExtremeCorner upward u v r ⌝ }
 {
     Vector {
         x: least(u.x, v.x),
@@ -60,7 +60,7 @@ fn least_corner(u: Vector, v: Vector) -> Vector
 
 fn greatest_corner(u: Vector, v: Vector) -> Vector
     requires { ⌜ Bounded 10000 u × Bounded 10000 v ⌝ }
-    ensures { λ r. ⌜ GreatestCorner u v r ⌝ }
+    ensures { λ r. ⌜ ExtremeCorner downward u v r ⌝ }
 {
     Vector {
         x: greatest(u.x, v.x),

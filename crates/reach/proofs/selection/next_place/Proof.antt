@@ -6,10 +6,10 @@ use Rattle.reach.proofs.selection.next_place.Statement.{statement}
 use Rattle.reach.proofs.selection.next_place.Tie as tie
 
 returns : tie.Need-returns
-returns c = rw (le-ltb _ _ (c .if1 .taken))
+returns c = rw (le-ltb (c .before .args .low) (c .before .args .to) (c .if1 .taken))
 
 returns-2 : tie.Need-returns-2
-returns-2 c = rw (le-ltb _ _ (c .if2 .taken), and-false)
+returns-2 c = rw (le-ltb (c .before .before .args .from) (c .before .before .args .high) (c .if2 .taken), and-false)
 
 returns-3 : tie.Need-returns-3
 returns-3 c = rw (lt-ltb _ _ (c .before .if1 .left), lt-ltb _ _ (c .if2 .left))

@@ -3,18 +3,18 @@ use Prim.Native.Nat.{_-_}
 use native.Mathlib.Omega.{arith}
 use lib.ListN.{length}
 use Rattle.reach.specs.Selection.{reaching}
-use Rattle.reach.proofs.Choosing.{Choosing, choosing-none, choosing-more, choosing-all}
+use Rattle.reach.proofs.Selecting.{Selecting, selecting-none, selecting-more, selecting-all}
 use Rattle.reach.proofs.selection.select.Statement.{statement}
 use Rattle.reach.proofs.selection.select.Tie as tie
 
 abbrev Inv-loop : tie.InvT-loop
-Inv-loop order lows highs from to out₀ n₀ k₀ out n k = Choosing (reaching lows highs from to) order out₀ out n k
+Inv-loop order lows highs from to out₀ n₀ k₀ out n k = Selecting (reaching lows highs from to) order out₀ out n k
 
 abbrev μ-loop : tie.MeasureT-loop
 μ-loop order lows highs from to out₀ n₀ k₀ out n k = length order - k
 
 loop-holds : tie.Need-loop-holds Inv-loop μ-loop
-loop-holds c = choosing-none _ _ _
+loop-holds c = selecting-none _ _ _
 
 mul-p : tie.Need-mul-p Inv-loop μ-loop
 mul-p c = omega arith
@@ -56,13 +56,13 @@ loop-less : tie.Need-loop-less Inv-loop μ-loop
 loop-less c = omega (arith, c .before .before .before .before .loop-test .taken)
 
 loop-again : tie.Need-loop-again Inv-loop μ-loop
-loop-again c = choosing-more (c .before .before .before .before .before .loop .inv) (c .before .before .before .before .before .before .before .before .before .before .pre .1) (c .before .before .before .before .loop-test .taken) (c .next-place .ensures)
+loop-again c = selecting-more (c .before .before .before .before .before .loop .inv) (c .before .before .before .before .before .before .before .before .before .before .pre .1) (c .before .before .before .before .loop-test .taken) (c .next-place .ensures)
 
 same-length : tie.Need-same-length Inv-loop μ-loop
 same-length c = c .before .loop .inv .long
 
 returns : tie.Need-returns Inv-loop μ-loop
-returns c = choosing-all (c .before .loop .inv) (c .before .before .before .before .before .before .pre .1) (c .loop-test .left)
+returns c = selecting-all (c .before .loop .inv) (c .before .before .before .before .before .before .pre .1) (c .loop-test .left)
 
 pub select-spec : {M : Type 1} → statement M
 select-spec =

@@ -1,6 +1,7 @@
 -- `walk::boxes::greatest_corner` meets its contract, axis by axis.
 use borrow.Author.Needs.{needs}
-use Rattle.walk.proofs.BoxLaws.{greatest-corner}
+use Rattle.walk.specs.Boxes.{downward}
+use Rattle.walk.proofs.BoxLaws.{extreme-corner}
 use Rattle.walk.proofs.boxes.greatest_corner.Statement.{statement}
 use Rattle.walk.proofs.boxes.greatest_corner.Tie as tie
 
@@ -17,7 +18,7 @@ returns : tie.Need-returns
 returns c =
     let x = c .before .before .before .before .before .before in
     let s = x .before .before .before in
-    greatest-corner (s .pre .0) (s .pre .1) (x .greatest .ensures) (c .before .before .before .greatest2 .ensures) (c .greatest3 .ensures)
+    extreme-corner downward (s .pre .0) (s .pre .1) (x .greatest .ensures) (c .before .before .before .greatest2 .ensures) (c .greatest3 .ensures)
 
 pub greatest-corner-spec : {M : Type 1} → statement M
 greatest-corner-spec = tie.close (tie.spec greatest-requires greatest-requires-2 greatest-requires-3 returns)

@@ -1,6 +1,7 @@
 -- `walk::boxes::least_corner` meets its contract, axis by axis.
 use borrow.Author.Needs.{needs}
-use Rattle.walk.proofs.BoxLaws.{least-corner}
+use Rattle.walk.specs.Boxes.{upward}
+use Rattle.walk.proofs.BoxLaws.{extreme-corner}
 use Rattle.walk.proofs.boxes.least_corner.Statement.{statement}
 use Rattle.walk.proofs.boxes.least_corner.Tie as tie
 
@@ -17,7 +18,7 @@ returns : tie.Need-returns
 returns c =
     let x = c .before .before .before .before .before .before in
     let s = x .before .before .before in
-    least-corner (s .pre .0) (s .pre .1) (x .least .ensures) (c .before .before .before .least2 .ensures) (c .least3 .ensures)
+    extreme-corner upward (s .pre .0) (s .pre .1) (x .least .ensures) (c .before .before .before .least2 .ensures) (c .least3 .ensures)
 
 pub least-corner-spec : {M : Type 1} → statement M
 least-corner-spec = tie.close (tie.spec least-requires least-requires-2 least-requires-3 returns)
