@@ -1,6 +1,6 @@
-//! The calls that are timed: three scenes, and curves over patches, cells and nodes.
+//! The calls that are timed: scenes, and curves over patches, cells and nodes.
 
-use crate::plant::Maker;
+use crate::plant::{Level, Maker};
 use crate::scenes;
 use outside::call::Call;
 
@@ -22,13 +22,25 @@ fn job(name: impl Into<String>, call: Call) -> Job {
 pub fn jobs() -> Vec<Job> {
     let wide = scenes::WIDE;
     let tunnel = scenes::tunnel();
-    let quads = Maker::balanced(&scenes::quads(1_024));
-    let small = |count| scenes::call(&Maker::balanced(&scenes::small(count)), wide);
+    let balanced = |levels: &[Level]| scenes::call(&Maker::balanced(levels), wide);
+    let small = |count| balanced(&scenes::small(count));
     let mut jobs = vec![
         job("tunnel of 960 panels", scenes::call(&tunnel, wide)),
-        job("1,024 large quads", scenes::call(&quads, wide)),
+        job("1,024 large quads", balanced(&scenes::quads(1_024))),
         job("1,000 small patches", small(1_000)),
     ];
+    jobs.extend([512, 1_024].map(|count| {
+        let levels = scenes::covering(count);
+        job(format!("covering quads: {count}"), balanced(&levels))
+    }));
+    jobs.push(job(
+        "1,024 covering quads, a chain",
+        scenes::call(&Maker::chain(&scenes::covering(1_024)), wide),
+    ));
+    jobs.extend([512, 1_024].map(|count| {
+        let levels = scenes::stairs(count);
+        job(format!("quads in stairs: {count}"), balanced(&levels))
+    }));
     let counts = [64, 128, 256, 512, 1_024];
     jobs.extend(counts.map(|count| job(format!("small patches: {count}"), small(count))));
     jobs.extend([16, 32, 64, 128, 256].map(|width| {

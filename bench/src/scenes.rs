@@ -68,6 +68,27 @@ pub fn quads(count: usize) -> Vec<Level> {
     (0..count).map(quad).collect()
 }
 
+/// Large quads across the view, each of which covers all of it: every row is
+/// full after the first.
+pub fn covering(count: usize) -> Vec<Level> {
+    let quad = |k: usize| {
+        let y = 300.0 + (9 * k) as f64;
+        level(k, [0.0, y, 0.0], [1.02 * y, 0.52 * y], &SQUARE)
+    };
+    (0..count).map(quad).collect()
+}
+
+/// Quads of half the view's width and height, each behind the last and a step
+/// down to the right of it: every row shows many.
+pub fn stairs(count: usize) -> Vec<Level> {
+    let quad = |k: usize| {
+        let y = 300.0 + (9 * k) as f64;
+        let step = y * (k as f64 / (count - 1) as f64 - 0.5);
+        level(k, [step, y, -step / 2.0], [y / 2.0, y / 4.0], &SQUARE)
+    };
+    (0..count).map(quad).collect()
+}
+
 /// Patches of three to five corners over the whole view, about 4 cells wide.
 pub fn small(count: usize) -> Vec<Level> {
     let mut rng = Random::new(7, count as u64);

@@ -29,10 +29,6 @@ module _ {bytes : List ℕ} {l : Layout} (laid : LaidOut bytes l) where
   pub node-at : (k : ℕ) (d : NodeRecord) → k < l .nodes → getD (decode bytes .nodes) k d ≡ nodeNumber bytes k
   node-at k d h = ap (λ (ns : List NodeRecord). getD ns k d) (laid .nodes) ∙ table-at (nodeNumber bytes) (l .nodes) k d h
 
-  pub patch-at : (k : ℕ) (d : PatchRecord) → k < l .patches → getD (decode bytes .patches) k d ≡ patchNumber bytes l k
-  patch-at k d h =
-      ap (λ (ps : List PatchRecord). getD ps k d) (laid .patches) ∙ table-at (patchNumber bytes l) (l .patches) k d h
-
   pub corner-at : (k : ℕ) (d : Vec) → k < l .corners → getD (decode bytes .corners) k d ≡ cornerNumber bytes l k
   corner-at k d h =
       ap (λ (cs : List Vec). getD cs k d) (laid .corners) ∙ table-at (cornerNumber bytes l) (l .corners) k d h

@@ -1,9 +1,10 @@
 -- Laws of the byte format.
-pub mod Booleans
 pub mod Tables
 pub mod Decoded
 mod TwosComplement
 mod Made
 mod HeaderTests
 pub mod Sections
+pub mod PatchRecords
 mod Places
+pub mod InRange

@@ -1,6 +1,6 @@
 -- After questions 1 and 2 the byte string is a header and three tables.
-use mathlib.Core.Path.{_≡_, sym, ap}
-use mathlib.Core.Bool.{true}
+use mathlib.Core.Path.{_≡_, refl, sym, ap}
+use mathlib.Core.Bool.{Bool, true, _&&_}
 use mathlib.Core.List.{List, map}
 use Prim.Native.Nat.{ℕ, _+_, _*_, _%_, _/_, _≤_}
 use native.Mathlib.Omega.{arith}
@@ -10,11 +10,24 @@ use borrow.Author.Tests.{leb-true, eqb-true}
 use Rattle.model.specs.Lists.{range}
 use Rattle.model.specs.Format.{Section, headerOf, recordsOf, nodeAt, patchAt, pointAt, decode}
 use Rattle.model.specs.Questions.{hasHeader, hasSections, isSection, within, sectionEnd}
+use Rattle.model.proofs.Tests.{both-true}
 use Rattle.format.specs.declared.header.Header.{Header}
 use Rattle.format.specs.declared.layout.Layout.{Layout}
 use Rattle.format.specs.Machine.{HeaderIs}
 use Rattle.format.specs.Layout.{LaidOut, patchesStart, cornersStart}
-use Rattle.format.proofs.Booleans.{both, three, four}
+
+-- what three tests that hold together tell, and four
+three : (a b c : Bool) → (a && b && c) ≡ true → (a ≡ true) × (b ≡ true) × (c ≡ true)
+three a b c e =
+    let p = both-true (a && b) c e in
+    let q = both-true a b (p .0) in
+    (q .0, q .1, p .1)
+
+four : (a b c d : Bool) → (a && b && c && d) ≡ true → (a ≡ true) × (b ≡ true) × (c ≡ true) × (d ≡ true)
+four a b c d e =
+    let p = both-true (a && b && c) d e in
+    let q = three a b c (p .0) in
+    (q .0, q .1, q .2, p .1)
 
 -- what question 1 tells
 record HasHeader (bytes : List ℕ) : Type 0 where
@@ -27,7 +40,7 @@ has-header bytes passed =
     let h = headerOf bytes in
     let n = length bytes in
     let t = four (within 32 57376 n) (eqb (h .version) 1) (eqb (h .reserved) 0) (eqb (h .whole) n) passed in
-    record { long = leb-true 32 n (both (leb 32 n) (leb n 57376) (t .0) .0); whole = eqb-true (h .whole) n (t .3) }
+    record { long = leb-true 32 n (both-true (leb 32 n) (leb n 57376) (t .0) .0); whole = eqb-true (h .whole) n (t .3) }
 
 pub header-inside : (bytes : List ℕ) → hasHeader bytes ≡ true → 32 ≤ length bytes
 header-inside bytes passed = has-header bytes passed .long
@@ -80,32 +93,35 @@ records-at read step bytes s o n = λ i. map (λ (k : ℕ). read bytes (o i + st
 
 module _ (bytes : List ℕ) (header : HasHeader bytes) (sections : HasSections bytes) (l : Layout)
     (en : l .nodes ≡ headerOf bytes .nodeSection .size / 26)
+    (size : l .«patch_size» ≡ 6)
     (ep : l .patches ≡ headerOf bytes .patchSection .size / 6)
     (ec : l .corners ≡ headerOf bytes .cornerSection .size / 6) where
   patches-start : headerOf bytes .patchSection .offset ≡ patchesStart l
   patches-start = omega arith
 
   corners-start : headerOf bytes .cornerSection .offset ≡ cornersStart l
-  corners-start = omega (arith, patches-start)
+  corners-start = rw size (omega (arith, patches-start))
 
   laid-out : LaidOut bytes l
   unfolding decode
   laid-out =
       record {
+        sized = size;
         whole = omega (arith, corners-start);
         few-nodes = omega arith;
         few-patches = omega arith;
         few-corners = omega arith;
         nodes = records-at nodeAt 26 bytes _ (sections .nodes .begins) en;
-        patches = records-at patchAt 6 bytes _ patches-start ep;
+        patches = rw size (records-at patchAt 6 bytes _ patches-start ep);
         corners = records-at pointAt 6 bytes _ corners-start ec;
       }
 
 -- the counts by the machine's header
 pub layout-of : (bytes : List ℕ) {h : Header} → (hasHeader bytes ≡ true) × (hasSections bytes ≡ true) → HeaderIs (headerOf bytes) h →
-    LaidOut bytes (record { nodes = h .nodes .size / 26; patches = h .patches .size / 6; corners = h .corners .size / 6 })
+    LaidOut bytes (record { nodes = h .nodes .size / 26; patches = h .patches .size / 6; corners = h .corners .size / 6; «patch_size» = 6 })
 layout-of bytes passed is =
     laid-out bytes (has-header bytes (passed .0)) (has-sections bytes (passed .1)) _
     (ap (λ (s : Section). s .size / 26) (is .nodes .value))
+    refl
     (ap (λ (s : Section). s .size / 6) (is .patches .value))
     (ap (λ (s : Section). s .size / 6) (is .corners .value))

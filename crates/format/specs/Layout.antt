@@ -13,20 +13,21 @@ abbrev pub patchesStart : Layout → ℕ
 patchesStart l = headerSize + nodeSize * l .nodes
 
 abbrev pub cornersStart : Layout → ℕ
-cornersStart l = patchesStart l + patchSize * l .patches
+cornersStart l = patchesStart l + l .«patch_size» * l .patches
 
 -- the records by their numbers
 abbrev pub nodeNumber : List ℕ → ℕ → NodeRecord
 nodeNumber bytes k = nodeAt bytes (headerSize + nodeSize * k)
 
 abbrev pub patchNumber : List ℕ → Layout → ℕ → PatchRecord
-patchNumber bytes l k = patchAt bytes (patchesStart l + patchSize * k)
+patchNumber bytes l k = patchAt bytes (patchesStart l + l .«patch_size» * k)
 
 abbrev pub cornerNumber : List ℕ → Layout → ℕ → Vec
 cornerNumber bytes l k = pointAt bytes (cornersStart l + cornerSize * k)
 
--- the byte string has the header and these tables and nothing else; they are what it decodes to
+-- the byte string has the header and these tables and nothing else; they are what it decodes to, by the patch records of its version
 pub record LaidOut (bytes : List ℕ) (l : Layout) : Type 0 where
+  pub sized : l .«patch_size» ≡ patchSize
   pub whole : length bytes ≡ cornersStart l + cornerSize * l .corners
   pub few-nodes : l .nodes ≤ mostNodes
   pub few-patches : l .patches ≤ mostPatches

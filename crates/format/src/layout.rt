@@ -18,11 +18,12 @@ ghost use Rattle.model.specs.Questions.{hasHeader, hasSections};
 ghost use Rattle.format.specs.Machine.{nodeOf, patchRecordOf};
 ghost use Rattle.format.specs.Layout.{LaidOut, nodeNumber, patchNumber, cornerNumber};
 
-// how many records each section has; the sections follow each other from the header on
+// How many records each section has, and the bytes of a patch record, which go by the scene's version; the sections follow each other from the header on.
 pub struct Layout {
     pub nodes: usize,
     pub patches: usize,
     pub corners: usize,
+    pub patch_size: usize,
 }
 
 pub fn read_layout(bytes: &[u8]) -> Layout
@@ -34,6 +35,7 @@ pub fn read_layout(bytes: &[u8]) -> Layout
         nodes: h.nodes.size / NODE_SIZE,
         patches: h.patches.size / PATCH_SIZE,
         corners: h.corners.size / CORNER_SIZE,
+        patch_size: PATCH_SIZE,
     }
 }
 
@@ -48,7 +50,7 @@ pub fn patch_record(bytes: &[u8], l: Layout, k: usize) -> PatchRecord
     requires { ⌜ LaidOut (now bytes) l × (k < l .patches) ⌝ }
     ensures { λ r. ⌜ patchRecordOf r ≡ patchNumber (now (bytes .entry)) l k ⌝ }
 {
-    patch_record_at(bytes, HEADER_SIZE + NODE_SIZE * l.nodes + PATCH_SIZE * k)
+    patch_record_at(bytes, HEADER_SIZE + NODE_SIZE * l.nodes + l.patch_size * k)
 }
 
 pub fn corner(bytes: &[u8], l: Layout, k: usize) -> Vector
@@ -57,6 +59,6 @@ pub fn corner(bytes: &[u8], l: Layout, k: usize) -> Vector
 {
     point_at(
         bytes,
-        HEADER_SIZE + NODE_SIZE * l.nodes + PATCH_SIZE * l.patches + CORNER_SIZE * k,
+        HEADER_SIZE + NODE_SIZE * l.nodes + l.patch_size * l.patches + CORNER_SIZE * k,
     )
 }

@@ -6,7 +6,6 @@ use crate::records::vector;
 use crate::sizes::CORNER_SIZE;
 use crate::sizes::HEADER_SIZE;
 use crate::sizes::NODE_SIZE;
-use crate::sizes::PATCH_SIZE;
 use geometry::Vector;
 ghost use mathlib.Core.Path.{_≡_};
 ghost use Prim.Native.Nat.{_+_, _*_, _≤_, _<_};
@@ -60,7 +59,7 @@ pub fn read_patch(bytes: &[u8], l: Layout, k: usize) -> Patch
 {
     let p = patch_record(bytes, l, k);
     let run = p.corners;
-    let at = HEADER_SIZE + NODE_SIZE * l.nodes + PATCH_SIZE * l.patches + CORNER_SIZE * run.first;
+    let at = HEADER_SIZE + NODE_SIZE * l.nodes + l.patch_size * l.patches + CORNER_SIZE * run.first;
     patch_from(bytes, at, run.count, p.panel)
 }
 

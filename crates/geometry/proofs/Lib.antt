@@ -1,2 +1,3 @@
 -- Laws for the proofs of this crate and of its callers.
 pub mod Results
+pub mod Zeros

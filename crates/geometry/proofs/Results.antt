@@ -8,7 +8,9 @@ use mir.Val.{hbits}
 use Rattle.integer.proofs.Machine.{Computed, ideal, bound, peak, exact, magnitude}
 use Rattle.model.specs.Vector.{Vec, minus, dot, planeNormal, side}
 use Rattle.geometry.specs.declared.Vector.{Vector}
+use Rattle.geometry.specs.declared.EdgeFunction.{EdgeFunction}
 use Rattle.geometry.specs.Machine.{vecOf, planeOf, VectorIs, NumberIs}
+use Rattle.geometry.specs.Raster.{FunctionIs}
 
 -- A need from a fact of its place: `given (λ c. fact) (λ _ h. search ..)`. The place is bound as `_`, so that `search` looks at h alone: where
 -- a function reads fields, its place holds more records than `search` enters.
@@ -35,6 +37,18 @@ vector h k l =
     record {
       value = rw (h .value, k .value, l .value);
       bounded = record { x-within = h .bounded; y-within = k .bounded; z-within = l .bounded };
+    }
+
+pub function :
+    {e f : EdgeFunction} →
+    NumberIs 1351200000000000 (e .start) (f .start) →
+    NumberIs 480000000000 (e .slope) (f .slope) →
+    NumberIs 480000000000 (e .drop) (f .drop) →
+    FunctionIs e f
+function h k l =
+    record {
+      value = rw (h .value, k .value, l .value);
+      bounded = record { start-within = h .bounded; slope-within = k .bounded; drop-within = l .bounded };
     }
 
 pub number-by : {n : ℕ} {y z r : ℤ} → NumberIs n y r → y ≡ z → NumberIs n z r

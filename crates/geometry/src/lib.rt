@@ -2,11 +2,28 @@
 ghost use mathlib.Core.Path.{_≡_};
 ghost use Rattle.model.specs.Vector.{minus, dot, cross, planeNormal};
 ghost use Rattle.geometry.specs.Machine.{vecOf, planeOf, Bounded, VectorIs, NumberIs};
+ghost use Rattle.geometry.specs.Raster.{RasterBounded, FunctionIs, seenBy};
 
 pub struct Vector {
     pub x: i64,
     pub y: i64,
     pub z: i64,
+}
+
+// The rays of a picture, from one eye: that of column i in row j goes in the direction origin + i · across + j · down.
+pub struct Raster {
+    pub origin: Vector,
+    pub across: Vector,
+    pub down: Vector,
+    pub width: usize,
+    pub height: usize,
+}
+
+// A number for each ray of a raster: start + i · slope + j · drop at column i of row j. The products of the rays with one vector are such numbers.
+pub struct EdgeFunction {
+    pub start: i64,
+    pub slope: i64,
+    pub drop: i64,
 }
 
 // b − a
@@ -73,10 +90,14 @@ pub fn edge_vector(eye: Vector, v: Vector, w: Vector) -> Vector
     plane_normal(eye, v, w)
 }
 
-// direction · edge
-pub fn edge_number(direction: Vector, edge: Vector) -> i64
-    requires { ⌜ Bounded 563000 direction × Bounded 800000000 edge ⌝ }
-    ensures { λ r. ⌜ NumberIs 1351200000000000 (dot (vecOf direction) (vecOf edge)) r ⌝ }
+// the products of a raster's rays with an edge vector
+pub fn edge_function(r: Raster, edge: Vector) -> EdgeFunction
+    requires { ⌜ RasterBounded r × Bounded 800000000 edge ⌝ }
+    ensures { λ f. ⌜ FunctionIs (seenBy r (vecOf edge)) f ⌝ }
 {
-    dot_product(direction, edge)
+    EdgeFunction {
+        start: dot_product(r.origin, edge),
+        slope: dot_product(r.across, edge),
+        drop: dot_product(r.down, edge),
+    }
 }

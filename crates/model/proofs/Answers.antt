@@ -8,6 +8,7 @@ use native.Mathlib.Omega.{arith}
 use lib.Dec.{T}
 use Rattle.model.specs.Call.{Call}
 use Rattle.model.specs.Format.{decode, Scene}
+use Rattle.model.specs.Accepted.{AcceptedScene}
 use Rattle.model.specs.Questions.{Question, answer, hasHeader, hasSections, coordinatesInRange, planesProper, childrenProper, runsProper, panelsProper, patchesProper, planesDivide, sceneQuestions, sceneAnswer, viewInRange, lengthsFit, counterBelowEnd, rowsFit, callQuestions, onScene, questions, surveyAnswer}
 
 abbrev passOn : Bool → ℕ → ℕ → ℕ
@@ -48,18 +49,6 @@ all-yes q qs a f e = go (q .test a) e
     go : (b : Bool) → passOn b (answer qs a) (q .number) ≡ 0 → T b × (answer qs a ≡ 0)
     go true e = (tt, e)
     go false e = absurd (f e)
-
--- what questions 1 to 9 say of a scene
-pub record AcceptedScene (bytes : List ℕ) : Type 0 where
-  pub header : T (hasHeader bytes)
-  pub sections : T (hasSections bytes)
-  pub coordinates : T (coordinatesInRange (decode bytes))
-  pub planes : T (planesProper (decode bytes))
-  pub children : T (childrenProper (decode bytes))
-  pub runs : T (runsProper (decode bytes))
-  pub panels : T (panelsProper (decode bytes))
-  pub patches : T (patchesProper (decode bytes))
-  pub divided : T (planesDivide (decode bytes))
 
 numbered : {n : ℕ} → suc n ≢ 0
 numbered e = omega arith

@@ -16,17 +16,17 @@ use Rattle.model.proofs.Ranges.{getD-member, of-map, of-flatten, range-
 -- ---- places
 
 -- cell (i, j) has a place
-pub place-in : (width height i j : ℕ) → i < width → j < height → j * width + i < width * height
+place-in : (width height i j : ℕ) → i < width → j < height → j * width + i < width * height
 place-in width height i j h k = rw (mul-comm width height) (digits-lt k h)
 
 -- place k is that of cell (i, j)
-pub record Place (width height k i j : ℕ) : Type 0 where
-  pub column : i < width
-  pub row : j < height
-  pub is : j * width + i ≡ k
+record Place (width height k i j : ℕ) : Type 0 where
+  column : i < width
+  row : j < height
+  is : j * width + i ≡ k
 
 -- and each place is a cell's
-pub place-of : (width height k : ℕ) → k < width * height → Place width height k (k % width) (k / width)
+place-of : (width height k : ℕ) → k < width * height → Place width height k (k % width) (k / width)
 place-of width height k h = go (eq-zero-or-pos width)
   where
     go : (width ≡ 0) ⊎ (0 < width) → Place width height k (k % width) (k / width)
@@ -59,7 +59,7 @@ module _ (width height : ℕ) (value : ℕ → ℕ → ℕ) where
       ∙ range-at (λ (i : ℕ). value i (0 + j)) 0 width i 0 h
       ∙ ap₂ value (zero-add i) (zero-add j)
 
-  pub cell-member : (i j : ℕ) → i < width → j < height → List·Memᴰ (value i j) (cells width height value)
+  cell-member : (i j : ℕ) → i < width → j < height → List·Memᴰ (value i j) (cells width height value)
   cell-member i j h k =
       let place : j * width + i < length (cells width height value) = rw cells-length (place-in width height i j h k) in
       rw (cells-at i j h k) at (getD-member (cells width height value) (j * width + i) 0 place)

@@ -32,7 +32,7 @@ parted {x} {y} (a ∷ before) after (b ∷ before′) after′ e =
 
 module _ (eye d : Vec) where
   -- no patch of the list is met
-  abbrev pub NoneMet : List Patch → Type 0
+  abbrev NoneMet : List Patch → Type 0
   NoneMet ps = (q : Patch) → List·Memᴰ q ps → T (met eye d q) → ⊥
 
   -- what the relations say of an answer, a patch or none
@@ -44,7 +44,7 @@ module _ (eye d : Vec) where
   abbrev pub Hides : Patch → Patch → Type 0
   Hides p q = T (met eye d q) → T (precedes eye d p q)
 
-  abbrev pub NotHidden : Patch → Patch → Type 0
+  abbrev NotHidden : Patch → Patch → Type 0
   NotHidden p q = T (met eye d q) → T (precedes eye d q p) → ⊥
 
   -- the closest patch of a list stays so behind patches that it hides
@@ -138,9 +138,6 @@ module _ (eye d : Vec) where
 
   pub closestPatch-some : (ps : List Patch) (p : Patch) → (closestPatch eye d ps ≡ some p) ↔ IsClosestPatch eye d ps p
   closestPatch-some ps p = closestPatch-is ps (some p)
-
-  pub closestPatch-none : (ps : List Patch) → (closestPatch eye d ps ≡ none) ↔ NoneMet ps
-  closestPatch-none ps = closestPatch-is ps none
 
   panel-right : (ps : List Patch) (o : Option Patch) → Found ps o → IsClosest eye d ps (panelOf o)
   unfolding panelOf

@@ -11,27 +11,27 @@ use Rattle.integer.proofs.Order.{<→≤, <-or-≥}
 use Rattle.integer.proofs.Products.{*-pos, *-pos-cancel, *-cancel-≡, sq-pos, neg-of-nonpos, neg-of-pos}
 use Rattle.integer.proofs.Signs.{SameSign, WeakSign, same→weak, same-sym, same-≢, same-scale, same-weak-+, weak-scale}
 use Rattle.model.specs.Vector.{Vec, minus, dot}
-use Rattle.model.specs.Patch.{Patch, Edge, normal, edges}
+use Rattle.model.specs.Patch.{Patch, Edge, normal, edges, Proper}
 use Rattle.model.specs.Ray.{eyeProduct, met}
 use Rattle.model.proofs.Vectors.{det, det-swap, triangle, cramer}
 use Rattle.model.proofs.Rounds.{Turned, next, turned-to, turned-edge, edge-ends}
-use Rattle.model.proofs.Patches.{Proper, some-corner, first-corner, corner-height, turns, normal-square, Met, met-says}
+use Rattle.model.proofs.Patches.{some-corner, first-corner, corner-height, turns, normal-square, Meets, met-says}
 
 -- D d = α m′ + β u′ + γ w′, seen in any direction N, where c′ is c − eye, u→w an edge and m another corner: D and α have the sign of the eye
 -- product, β and γ that sign or none
-pub record Combination (eye d : Vec) (p : Patch) (m : Vec) : Type 0 where
-  pub edge : Edge
-  pub isEdge : List·Memᴰ edge (edges (p .corners))
-  pub isOther : List·Memᴰ m (edge .others)
-  pub D : ℤ
-  pub α : ℤ
-  pub β : ℤ
-  pub γ : ℤ
-  pub D-sign : SameSign (eyeProduct eye p) D
-  pub α-sign : SameSign (eyeProduct eye p) α
-  pub β-sign : WeakSign (eyeProduct eye p) β
-  pub γ-sign : WeakSign (eyeProduct eye p) γ
-  pub sum :
+record Combination (eye d : Vec) (p : Patch) (m : Vec) : Type 0 where
+  edge : Edge
+  isEdge : List·Memᴰ edge (edges (p .corners))
+  isOther : List·Memᴰ m (edge .others)
+  D : ℤ
+  α : ℤ
+  β : ℤ
+  γ : ℤ
+  D-sign : SameSign (eyeProduct eye p) D
+  α-sign : SameSign (eyeProduct eye p) α
+  β-sign : WeakSign (eyeProduct eye p) β
+  γ-sign : WeakSign (eyeProduct eye p) γ
+  sum :
       (N : Vec) →
       D *ℤ dot d N
       ≡ α *ℤ dot (minus m eye) N +ℤ β *ℤ dot (minus (edge .from) eye) N +ℤ γ *ℤ dot (minus (edge .to) eye) N
@@ -54,7 +54,7 @@ sign-of {k} {σ} {D} {t} hk hσ ht e =
           (*-pos (sq-pos hσ) ht));
     }
 
-module _ {eye d : Vec} {p : Patch} (proper : Proper p) (h : Met eye d p) {m : Vec} (isCorner : List·Memᴰ m (p .corners)) where
+module _ {eye d : Vec} {p : Patch} (proper : Proper p) (h : Meets eye d p) {m : Vec} (isCorner : List·Memᴰ m (p .corners)) where
   -- an edge whose ends the ray passes on different sides, seen along the diagonals from m
   found :
       {e : Edge} →
@@ -107,7 +107,7 @@ module _ {eye d : Vec} {p : Patch} (proper : Proper p) (h : Met eye d p) {m : Ve
       not-both (eyeProduct eye p) d (minus m eye) (minus m eye) g g
   begin (u ∷ rest) t = walk rest [] u (next t) (h .passed (turned-edge (some-corner proper) t))
 
-  pub combination : Combination eye d p m
+  combination : Combination eye d p m
   combination = let t = turned-to isCorner in begin (t .0) (t .1)
 
 -- ---- planes through the eye

@@ -1,37 +1,29 @@
 -- The answer of a list of questions: the number of one that says no after the earlier ones said yes, and 0 where all do.
-use mathlib.Core.Path.{_≡_, sym, _∙_}
-use mathlib.Core.Bool.{Bool, true, false, true≢false}
+use mathlib.Core.Path.{_≡_, refl, sym, _∙_}
+use mathlib.Core.Bool.{Bool, true, false, not, true≢false}
 use mathlib.Core.List.{List, [], _∷_}
-use Prim.Native.Nat.{ℕ, zero, suc}
-use lib.Dec.{T}
+use Prim.Native.Nat.{ℕ}
+use lib.Dec.{T, eqb}
+use borrow.Author.Tests.{eqb-true, not-true, not-false}
 use Rattle.model.specs.Questions.{Question, answer}
 use Rattle.model.proofs.Tests.{is-true}
 use Rattle.model.proofs.Answers.{answer-yes, answer-no, answer-done}
+
+-- what a question said, by the code's test of its answer: `search said` finds each in a function that returns at the first no
+pub said-yes : {a t : Bool} → a ≡ t → not a ≡ false → t ≡ true
+said-yes {a} e n = sym e ∙ not-false a n
+
+pub said-no : {a t : Bool} → a ≡ t → not a ≡ true → t ≡ false
+said-no {a} e n = sym e ∙ not-true a n
+
+pub ruleset said = (said-yes, said-no)
 
 fails : (b : Bool) → b ≡ false → T b → ⊥
 fails true e t = true≢false e
 fails false e t = t
 
 module _ {A : Type 0} (a : A) where
-  -- the first k questions say yes
-  abbrev pub Yes : ℕ → List (Question A) → Type 0
-  Yes zero qs = Unit {0}
-  Yes (suc k) [] = Unit {0}
-  Yes (suc k) (q ∷ qs) = (q .test a ≡ true) × Yes k qs
-
-  -- and the next one, whose number is n, says no
-  abbrev pub No : ℕ → ℕ → List (Question A) → Type 0
-  No n k [] = ⊥
-  No n zero (q ∷ qs) = (q .number ≡ n) × (q .test a ≡ false)
-  No n (suc k) (q ∷ qs) = No n k qs
-
-  pub first-no : (n k : ℕ) (qs : List (Question A)) → Yes k qs → No n k qs → n ≡ answer qs a
-  first-no n zero [] y f = absurd f
-  first-no n (suc k) [] y f = absurd f
-  first-no n zero (q ∷ qs) y f = sym (f .0) ∙ sym (answer-no q qs a (fails (q .test a) (f .1)))
-  first-no n (suc k) (q ∷ qs) y f = first-no n k qs (y .1) f ∙ sym (answer-yes q qs a (is-true (y .0)))
-
-  -- all of them say yes
+  -- every question says yes
   abbrev pub AllYes : List (Question A) → Type 0
   AllYes [] = Unit {0}
   AllYes (q ∷ qs) = (q .test a ≡ true) × AllYes qs
@@ -39,3 +31,22 @@ module _ {A : Type 0} (a : A) where
   pub no-no : (qs : List (Question A)) → AllYes qs → 0 ≡ answer qs a
   no-no [] y = sym (answer-done a)
   no-no (q ∷ qs) y = no-no qs (y .1) ∙ sym (answer-yes q qs a (is-true (y .0)))
+
+  -- the questions before the one whose number is n say yes, and that one says no
+  abbrev pub RefusedAt : ℕ → List (Question A) → Type 0
+  RefusedAt n [] = ⊥
+  RefusedAt n (q ∷ qs) =
+      elim (eqb (q .number) n) as (λ (b : Bool). Type 0) [
+        | true ↦ q .test a ≡ false
+        | false ↦ (q .test a ≡ true) × RefusedAt n qs
+      ]
+
+  pub refused-at : (n : ℕ) (qs : List (Question A)) → RefusedAt n qs → n ≡ answer qs a
+  refused-at n [] r = absurd r
+  refused-at n (q ∷ qs) r = go (eqb (q .number) n) refl (refused-at n qs) r
+    where
+      go : (b : Bool) → eqb (q .number) n ≡ b → (RefusedAt n qs → n ≡ answer qs a) →
+          elim b as (λ (b : Bool). Type 0) [ true ↦ q .test a ≡ false | false ↦ (q .test a ≡ true) × RefusedAt n qs ] →
+          n ≡ answer (q ∷ qs) a
+      go true e rest r = sym (eqb-true (q .number) n e) ∙ sym (answer-no q qs a (fails (q .test a) r))
+      go false e rest r = rest (r .1) ∙ sym (answer-yes q qs a (is-true (r .0)))

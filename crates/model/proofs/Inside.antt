@@ -1,4 +1,4 @@
--- Met means strictly inside: a ray meets a patch where the distance is above 0 and the ray's point in the patch's plane lies strictly inside every edge.
+-- Meets means strictly inside: a ray meets a patch where the distance is above 0 and the ray's point in the patch's plane lies strictly inside every edge.
 use mathlib.Core.Path.{_≡_, sym, subst}
 use mathlib.Core.Logic.{_↔_}
 use mathlib.Core.List.{List·Memᴰ}
@@ -6,11 +6,11 @@ use lib.Dec.{T}
 use lib.IntN.{ℤ, pos, _*ℤ_}
 use Rattle.integer.proofs.Signs.{SameSign, same-sym, same-≢, same-scale, same-unscale, same-trans}
 use Rattle.model.specs.Vector.{Vec, minus, dot, times}
-use Rattle.model.specs.Patch.{Patch, Edge, corner, normal, edges}
+use Rattle.model.specs.Patch.{Patch, Edge, corner, normal, edges, Proper}
 use Rattle.model.specs.Ray.{eyeProduct, edgeVector, edgeNumber, met}
 use Rattle.model.proofs.Vectors.{det, onLine, meets-plane, edge-number}
 use Rattle.model.proofs.Rounds.{edge-ends}
-use Rattle.model.proofs.Patches.{Proper, corner-height, normal-square, met-says}
+use Rattle.model.proofs.Patches.{corner-height, normal-square, met-says}
 use Rattle.model.proofs.Sides.{distance-positive}
 
 -- for the point q / k, the number n · ((w − v) × (q / k − v)) of question 8, times k

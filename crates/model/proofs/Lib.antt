@@ -6,10 +6,13 @@ pub mod Encode
 pub mod Scenes
 pub mod Stations
 pub mod Refusals
+pub mod Limits
 -- tests over lists
 pub mod Tests
+pub mod Loops
 pub mod Answers
 pub mod FirstNo
+pub mod CallLimits
 -- the geometry of met patches
 pub mod Vectors
 pub mod Rounds
@@ -26,6 +29,7 @@ pub mod FirstMet
 pub mod Visibility
 -- pictures, counts, and chosen panels taken away
 pub mod Ranges
+pub mod Runs
 pub mod Cells
 pub mod Counts
 pub mod Pictures

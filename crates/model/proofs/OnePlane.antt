@@ -11,17 +11,17 @@ use Rattle.integer.proofs.Identity.{ring, reify, combine₂}
 use Rattle.integer.proofs.Products.{pos→≢, squares, *-cancel-≡}
 use Rattle.integer.proofs.Magnitude.{size-product}
 use Rattle.model.specs.Vector.{Vec, Plane, minus, dot, isZero, planeNormal, side}
-use Rattle.model.specs.Patch.{Patch, corner, patchPlane, normal}
+use Rattle.model.specs.Patch.{Patch, corner, patchPlane, normal, Proper}
 use Rattle.model.specs.Ray.{eyeProduct, met, distance, below}
 use Rattle.model.specs.Tree.{liesOn}
 use Rattle.model.specs.Questions.{offOneLine}
 use Rattle.model.proofs.Tests.{both}
 use Rattle.model.proofs.Vectors.{parallel, side-from}
-use Rattle.model.proofs.Patches.{is-zero, Proper, corner-mem, first-corner, met-says}
+use Rattle.model.proofs.Patches.{is-zero, corner-mem, first-corner, met-says}
 use Rattle.model.proofs.Sides.{lies-on-says, met-on-plane}
 
 -- three points off one line have a normal that is not zero
-pub normal-off-line : (s : Plane) → T (offOneLine s) → pos 0 <ℤ dot (planeNormal s) (planeNormal s)
+normal-off-line : (s : Plane) → T (offOneLine s) → pos 0 <ℤ dot (planeNormal s) (planeNormal s)
 unfolding offOneLine
 normal-off-line s t = go (squares (n .x) (n .y) (n .z))
   where
@@ -51,7 +51,7 @@ edge-on s eye {p} proper off t e =
     ∙ sym (*ℤ-zero (dot (planeNormal s) (planeNormal s))))
 
 -- So it is not met.
-pub plane-unmet :
+plane-unmet :
     (s : Plane) (eye d : Vec) {p : Patch} →
     Proper p →
     T (offOneLine s) →
@@ -66,7 +66,7 @@ module _
     (off : T (offOneLine s)) (t : T (liesOn s p)) (u : T (liesOn s q))
   where
     -- the two distances are equal, cross-multiplied
-    pub one-distance : eyeProduct eye p *ℤ dot d (normal q) ≡ eyeProduct eye q *ℤ dot d (normal p)
+    one-distance : eyeProduct eye p *ℤ dot d (normal q) ≡ eyeProduct eye q *ℤ dot d (normal p)
     one-distance =
         *-cancel-≡ (side s eye) (λ e. plane-unmet s eye d P off t e hp)
         (cancel (side s eye) (dot d (planeNormal s)) (eyeProduct eye p) (dot d (normal p)) (eyeProduct eye q) (dot d (normal q))

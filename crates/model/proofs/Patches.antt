@@ -12,7 +12,7 @@ use lib.Signed.{_<ℤ_, ltZ-yes}
 use Rattle.integer.proofs.Signs.{SameSign}
 use Rattle.model.specs.Lists.{every}
 use Rattle.model.specs.Vector.{Vec, origin, minus, dot, isZero, side}
-use Rattle.model.specs.Patch.{Patch, Edge, corner, patchPlane, normal, firstEdge, edges, cornersCounted, flat, turnsTowards, strictlyConvex}
+use Rattle.model.specs.Patch.{Patch, Edge, corner, patchPlane, normal, firstEdge, edges, flat, turnsTowards, strictlyConvex, Proper}
 use Rattle.model.specs.Ray.{eyeProduct, edgeVector, edgeNumber, sameSign, met}
 use Rattle.model.proofs.Tests.{both, every-true}
 use Rattle.model.proofs.Vectors.{det, level-from}
@@ -22,12 +22,6 @@ pub is-zero : (z : ℤ) → T (isZero z) ↔ (z ≡ pos 0)
 is-zero (pos zero) = (λ t. refl, λ e. tt)
 is-zero (pos (suc n)) = (λ t. absurd t, λ e. subst (λ (z : ℤ). T (isZero z)) (sym e) tt)
 is-zero (negsuc n) = (λ t. absurd t, λ e. subst (λ (z : ℤ). T (isZero z)) (sym e) tt)
-
--- the patch has 3 to 8 corners, is flat and strictly convex
-pub record Proper (p : Patch) : Type 0 where
-  pub counted : T (cornersCounted p)
-  pub isFlat : T (flat p)
-  pub isConvex : T (strictlyConvex p)
 
 -- the edge between the first two corners, and the third
 first-three : (cs : List Vec) → 3 ≤ length cs → (firstEdge cs .from ≡ getD cs 0 origin) × (firstEdge cs .to ≡ getD cs 1 origin) × List·Memᴰ (getD cs 2 origin) (firstEdge cs .others)
@@ -76,11 +70,11 @@ module _ {p : Patch} (h : Proper p) where
       subst₂ (λ (v w : Vec). pos 0 <ℤ det (normal p) (minus w v) (minus (corner p 2) v)) (t .0) (t .1) (turns (turned-edge some-corner start) (t .2))
 
 -- "for every edge from v to w, direction · ((v − eye) × (w − eye)) is not zero and has the sign of the eye-to-corner product, also not zero"
-pub record Met (eye d : Vec) (p : Patch) : Type 0 where
+pub record Meets (eye d : Vec) (p : Patch) : Type 0 where
   pub faced : eyeProduct eye p ≢ pos 0
   pub passed : {e : Edge} → List·Memᴰ e (edges (p .corners)) → SameSign (eyeProduct eye p) (edgeNumber d (edgeVector eye e))
 
-pub met-says : (eye d : Vec) (p : Patch) → T (met eye d p) ↔ Met eye d p
+pub met-says : (eye d : Vec) (p : Patch) → T (met eye d p) ↔ Meets eye d p
 unfolding met
 met-says eye d p = (λ t. read (parts .0 t), λ m. parts .1 (not-T (isZero σ) (λ t. m .faced (is-zero σ .0 t)), every-true side-of (edges (p .corners)) .1 (λ e l. m .passed l .agree .lt)))
   where
@@ -93,5 +87,5 @@ met-says eye d p = (λ t. read (parts .0 t), λ m. parts .1 (not-T (isZero σ) (
     parts : T (not (isZero σ) && every side-of (edges (p .corners))) ↔ (T (not (isZero σ)) × T (every side-of (edges (p .corners))))
     parts = both (not (isZero σ)) (every side-of (edges (p .corners)))
 
-    read : T (not (isZero σ)) × T (every side-of (edges (p .corners))) → Met eye d p
+    read : T (not (isZero σ)) × T (every side-of (edges (p .corners))) → Meets eye d p
     read (z, t) = record { faced = λ e. T-not (isZero σ) z (is-zero σ .1 e); passed = λ {e} l. record { agree = ltZ-yes (every-true side-of (edges (p .corners)) .0 t e l) } }

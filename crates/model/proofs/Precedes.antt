@@ -155,15 +155,3 @@ module _ (eye d : Vec) where
             let a : r .panel ≤ q .panel = not-lower q r t (not-nearer-trans r p q p-met rp pq) in
             let b : q .panel ≤ p .panel = not-lower p q s (not-nearer-trans q r p r-met qr rp) in
             omega arith
-
-  pub precedes-trans :
-      (p q r : Patch) →
-      T (met eye d p) →
-      T (met eye d q) →
-      T (met eye d r) →
-      T (precedes eye d p q) →
-      T (precedes eye d q r) →
-      T (precedes eye d p r)
-  precedes-trans p q r p-met q-met r-met s t =
-      not-failing (precedes eye d p r)
-      (λ f. not-precedes-trans p r q p-met r-met q-met f (precedes-asym q r t) s)

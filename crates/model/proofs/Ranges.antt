@@ -1,10 +1,12 @@
 -- Lists over a range of numbers: their elements, and rows of one length put one after another.
 use mathlib.Core.Path.{_≡_, refl, sym, ap, ap₂, subst, _∙_}
-use mathlib.Core.List.{List, [], _∷_, _++_, map, flatten, List·Memᴰ, List·Memᴰ·head, List·Memᴰ·tail, List·Memᴰ·not-nil}
-use Prim.Native.Nat.{ℕ, zero, suc, suc-le-suc, _+_, _*_, _<_}
-use native.Mathlib.Nat.{add-zero, add-suc, suc-add, zero-add, zero-mul, suc-mul, mul-zero, mul-suc, add-comm, add-assoc, not-suc-le-zero, zero-lt-suc, le-of-suc-le-suc}
+use mathlib.Core.Logic.{_↔_, _⊎_, inl, inr}
+use mathlib.Core.List.{List, [], _∷_, _++_, map, flatten, List·Memᴰ, List·Memᴰ·head, List·Memᴰ·tail, List·Memᴰ·not-nil, List·Memᴰ·cases-cons}
+use Prim.Native.Nat.{ℕ, zero, suc, suc-le-suc, _+_, _*_, _≤_, _<_}
+use native.Mathlib.Nat.{add-zero, add-suc, suc-add, zero-add, zero-mul, suc-mul, mul-zero, mul-suc, add-comm, add-assoc, not-suc-le-zero, zero-lt-suc, le-of-suc-le-suc, eq-or-lt-of-le}
+use native.Mathlib.Omega.{arith}
 use lib.ListN.{length, getD, length-append, List·getD-append, take, drop}
-use lib.Seq.{take-at, drop-append-add, getD-append-add}
+use lib.Seq.{take-at, drop-append-add, getD-append-add, drop-cons, take-length}
 use Rattle.model.specs.Lists.{range}
 use Rattle.model.proofs.Tests.{of-cons, of-append}
 
@@ -59,6 +61,34 @@ of-range P a zero f = λ k m. absurd (List·Memᴰ·not-nil m)
 of-range P a (suc n) f =
     of-cons P (rw add-zero at (f 0 (zero-lt-suc n)))
     (of-range P (suc a) n (λ i h. subst P (sym (next a i)) (f (suc i) (suc-le-suc h))))
+
+pub range-append : (a b c : ℕ) → range a (b + c) ≡ range a b ++ range (a + b) c
+range-append a zero c = rw (zero-add c, add-zero a)
+range-append a (suc b) c = rw suc-add (ap (_∷_ a) (range-append (suc a) b c ∙ rw (suc-add, add-suc)))
+
+pub in-range : (a n k : ℕ) → List·Memᴰ k (range a n) ↔ ((a ≤ k) × (k < a + n))
+in-range a zero k = (λ m. absurd (List·Memᴰ·not-nil m), λ h. absurd (omega arith))
+in-range a (suc n) k =
+    let rest : List·Memᴰ k (range (suc a) n) ↔ ((suc a ≤ k) × (k < suc a + n)) = in-range (suc a) n k in
+    (λ m. there (rest .0) (List·Memᴰ·cases-cons m), λ h. back (rest .1) (eq-or-lt-of-le (h .0)) (h .1))
+  where
+    there : (List·Memᴰ k (range (suc a) n) → (suc a ≤ k) × (k < suc a + n)) → (k ≡ a) ⊎ List·Memᴰ k (range (suc a) n) → (a ≤ k) × (k < a + suc n)
+    there rest (inl e) = omega arith
+    there rest (inr m) = let h = rest m in omega arith
+
+    back : ((suc a ≤ k) × (k < suc a + n) → List·Memᴰ k (range (suc a) n)) → (a ≡ k) ⊎ (a < k) → k < a + suc n → List·Memᴰ k (a ∷ range (suc a) n)
+    back rest (inl e) h = List·Memᴰ·head (sym e)
+    back rest (inr l) h = List·Memᴰ·tail (rest (l, omega arith))
+
+-- the elements that a run of numbers names
+pub by-number : {A : Type 0} (l : List A) (d : A) (a n : ℕ) → a + n ≤ length l → map (λ (k : ℕ). getD l k d) (range a n) ≡ take n (drop a l)
+by-number l d a zero h = refl
+by-number l d a (suc n) h =
+    ap (_∷_ (getD l a d)) (by-number l d (suc a) n (omega arith))
+    ∙ sym (ap (take (suc n)) (drop-cons l a d (omega arith)))
+
+pub all-by-number : {A : Type 0} (l : List A) (d : A) → map (λ (k : ℕ). getD l k d) (range 0 (length l)) ≡ l
+all-by-number l d = by-number l d 0 (length l) (omega arith) ∙ take-length l
 
 -- ---- rows of one length, one after another
 

@@ -11,7 +11,7 @@ use Rattle.model.specs.Call.{Call}
 use Rattle.model.specs.Questions.{Question, answer, children, questions}
 use Rattle.model.proofs.Encode.{NodeLine, PatchLine, HeaderLine, headerBytes, headerFor, bodyBytes, sceneBytes}
 use Rattle.model.proofs.Computing.{everything}
-use Rattle.model.proofs.Scenes.{square, upright, none, nodeLine, patchLine, sceneS, sOfHalfWidth, callOn, usual}
+use Rattle.model.proofs.Scenes.{square, upright, none, nodeLine, patchLine, sceneS, sOfHalfWidth, fittingCall, usual}
 
 -- the numbers of all questions that say no
 unfoldable pub noes : {A : Type 0} → List (Question A) → A → List ℕ
@@ -118,10 +118,8 @@ lent w p n u k =
     record {
       scene = sceneS;
       eye = origin;
-      window = record { width = w; height = 4; lens = 4 };
-      pictureLength = p;
-      countsLength = n;
-      unlitLength = u;
+      camera = record { window = record { width = w; height = 4; lens = 4 } };
+      lengths = record { picture = p; counts = n; unlit = u };
       counter = k;
     }
 
@@ -208,18 +206,18 @@ cases =
     ∷ case (below level 1 none leaning) []
     ∷ case (below level none 1 leaning) (9 ∷ [])
     ∷ case (below planeS 1 none cornersS) (9 ∷ [])
-    ∷ onCall (callOn (likeS planeS none 1 5 4 offPlane) origin 0 4 4) (9 ∷ 10 ∷ [])
+    ∷ onCall (fittingCall (likeS planeS none 1 5 4 offPlane) origin 0 4 4) (9 ∷ 10 ∷ [])
     -- the view; 10 before 11
-    ∷ onCall (callOn sceneS origin 256 1 4) []
-    ∷ onCall (callOn sceneS origin 257 1 4) (10 ∷ [])
-    ∷ onCall (callOn sceneS origin 1 128 4) []
-    ∷ onCall (callOn sceneS origin 1 129 4) (10 ∷ [])
-    ∷ onCall (callOn sceneS origin 4 0 4) (10 ∷ [])
-    ∷ onCall (callOn sceneS origin 4 4 4096) []
-    ∷ onCall (callOn sceneS origin 4 4 4097) (10 ∷ [])
-    ∷ onCall (callOn sceneS origin 4 4 0) (10 ∷ [])
-    ∷ onCall (callOn sceneS (at (negℤ (pos 10000))) 4 4 4) []
-    ∷ onCall (callOn sceneS (at (negℤ (pos 10001))) 4 4 4) (10 ∷ [])
+    ∷ onCall (fittingCall sceneS origin 256 1 4) []
+    ∷ onCall (fittingCall sceneS origin 257 1 4) (10 ∷ [])
+    ∷ onCall (fittingCall sceneS origin 1 128 4) []
+    ∷ onCall (fittingCall sceneS origin 1 129 4) (10 ∷ [])
+    ∷ onCall (fittingCall sceneS origin 4 0 4) (10 ∷ [])
+    ∷ onCall (fittingCall sceneS origin 4 4 4096) []
+    ∷ onCall (fittingCall sceneS origin 4 4 4097) (10 ∷ [])
+    ∷ onCall (fittingCall sceneS origin 4 4 0) (10 ∷ [])
+    ∷ onCall (fittingCall sceneS (at (negℤ (pos 10000))) 4 4 4) []
+    ∷ onCall (fittingCall sceneS (at (negℤ (pos 10001))) 4 4 4) (10 ∷ [])
     ∷ onCall (lent 0 1 1025 1024 0) (10 ∷ 11 ∷ [])
     -- the buffers' lengths; 11 before 12
     ∷ onCall (lent 4 16 1025 1024 0) []

@@ -33,7 +33,7 @@ module _ (chosen : ℕ → Bool) (eye d : Vec) where
       go (shows p m s near low) t = kept-members chosen ps p .0 m .1 t
 
   -- where no chosen panel shows, what is kept shows the same
-  pub kept-shows :
+  kept-shows :
       (ps : List Patch) →
       (T (isChosen chosen (closest eye d ps)) → ⊥) →
       closest eye d ps ≡ closest eye d (kept chosen ps)
@@ -44,7 +44,7 @@ module _ (chosen : ℕ → Bool) (eye d : Vec) where
 
   module _ (first second : List Patch) (taken : TakenAway chosen first second) where
     -- the second list shows the closest of the panels kept, among the first's patches
-    pub second-shows : closest eye d second ≡ closest eye d (kept chosen first)
+    second-shows : closest eye d second ≡ closest eye d (kept chosen first)
     second-shows =
         closest-members eye d second (kept chosen first) (λ p. taken-members chosen first second taken p .0)
         (λ p. taken-members chosen first second taken p .1)
@@ -81,7 +81,7 @@ module _
     ray-same i j = second-same chosen eye (direction i j) first second taken
 
     -- the pictures are equal exactly when no cell of the first shows a chosen panel
-    pub pictures-same :
+    pictures-same :
         (after ≡ before)
         ↔ ((i j : ℕ) → i < width → j < height → T (isChosen chosen (closest eye (direction i j) first)) → ⊥)
     unfolding picture
@@ -90,7 +90,7 @@ module _
         (λ e i j h k. ray-same i j .0 (equal .0 e i j h k), λ f. equal .1 (λ i j h k. ray-same i j .1 (f i j h k)))
 
     -- that is, when no chosen panel's number stands in the first
-    pub pictures-counted : (after ≡ before) ↔ ((n : ℕ) → T (isChosen chosen n) → occurrences n before ≡ 0)
+    pictures-counted : (after ≡ before) ↔ ((n : ℕ) → T (isChosen chosen n) → occurrences n before ≡ 0)
     unfolding picture
     pictures-counted =
         let unseen = occurrences-none width height (cellPanel eye direction first) in (
@@ -107,7 +107,7 @@ module _
 
     module _ (i j : ℕ) (i-in : i < width) (j-in : j < height) where
       -- a cell stays exactly where the first picture shows no chosen panel
-      pub cell-same :
+      cell-same :
           (getD after (j * width + i) 0 ≡ getD before (j * width + i) 0)
           ↔ (T (isChosen chosen (getD before (j * width + i) 0)) → ⊥)
       cell-same =

@@ -3,7 +3,6 @@ use mathlib.Core.List.{List, [], _∷_, _++_}
 use Prim.Native.Nat.{ℕ, _*_}
 use lib.IntN.{ℤ, pos, negsuc, negℤ}
 use Rattle.model.specs.Vector.{Vec, Plane, vec, origin}
-use Rattle.model.specs.Window.{Window}
 use Rattle.model.specs.Call.{Call}
 use Rattle.model.proofs.Encode.{NodeLine, PatchLine, sceneBytes}
 
@@ -83,18 +82,16 @@ abbrev pub noNodes : List ℕ
 noNodes = sceneBytes [] [] []
 
 -- a call with buffers of the right lengths and the counter at 0
-abbrev pub callOn : List ℕ → Vec → ℕ → ℕ → ℕ → Call
-callOn bytes e w h l =
+abbrev pub fittingCall : List ℕ → Vec → ℕ → ℕ → ℕ → Call
+fittingCall bytes e w h l =
     record {
       scene = bytes;
       eye = e;
-      window = record { width = w; height = h; lens = l };
-      pictureLength = w * h;
-      countsLength = 1025;
-      unlitLength = h * 256;
+      camera = record { window = record { width = w; height = h; lens = l } };
+      lengths = record { picture = w * h; counts = 1025; unlit = h * 256 };
       counter = 0;
     }
 
 -- "4 by 4, lens 4, eye (0,0,0)"
 abbrev pub usual : List ℕ → Call
-usual bytes = callOn bytes origin 4 4 4
+usual bytes = fittingCall bytes origin 4 4 4

@@ -14,10 +14,9 @@ use Rattle.integer.proofs.Products.{*-pos, *-nonneg, *-pos-cancel, pos→≢, n
 use Rattle.integer.proofs.Signs.{SameSign, same-sym, same-≢, same-refl}
 use Rattle.integer.proofs.Magnitude.{size-product, size-positive}
 use Rattle.model.specs.Vector.{Vec, Plane, dot, planeNormal, side, turnedOver}
-use Rattle.model.specs.Patch.{Patch, normal}
+use Rattle.model.specs.Patch.{Patch, normal, Proper}
 use Rattle.model.specs.Ray.{eyeProduct, met, distance, below}
 use Rattle.model.specs.Tree.{liesOn, inFront}
-use Rattle.model.proofs.Patches.{Proper}
 use Rattle.model.proofs.Sides.{sideMet, side-met-turned, distance-positive, met-in-front, met-on-plane}
 
 -- ---- fractions of numbers with one sign, by their magnitudes

@@ -12,12 +12,12 @@ use Rattle.integer.proofs.Products.{*-pos, *-nonneg, sq-pos, neg-of-neg}
 use Rattle.integer.proofs.Signs.{SameSign, same-sym, same-trans}
 use Rattle.model.specs.Lists.{every, any}
 use Rattle.model.specs.Vector.{Vec, Plane, minus, dot, isZero, planeNormal, side, turnedOver, plus, times}
-use Rattle.model.specs.Patch.{Patch, corner, normal}
+use Rattle.model.specs.Patch.{Patch, corner, normal, Proper}
 use Rattle.model.specs.Ray.{eyeProduct, met}
 use Rattle.model.specs.Tree.{liesOn, inFront}
 use Rattle.model.proofs.Tests.{both, every-true, any-true}
 use Rattle.model.proofs.Vectors.{det-swap, dot-sum, dot-times, side-turned, side-from}
-use Rattle.model.proofs.Patches.{is-zero, Proper, first-corner, corner-height, met-says}
+use Rattle.model.proofs.Patches.{is-zero, first-corner, corner-height, met-says}
 use Rattle.model.proofs.Fan.{met-ahead, met-along}
 
 -- ---- what the tests of question 9 say
@@ -29,13 +29,13 @@ lies-on-says s p =
     law : T (every (λ (c : Vec). isZero (side s c)) (p .corners)) ↔ ((c : Vec) → List·Memᴰ c (p .corners) → T (isZero (side s c)))
     law = every-true (λ (c : Vec). isZero (side s c)) (p .corners)
 
-pub record InFront (s : Plane) (p : Patch) : Type 0 where
-  pub notBehind : {c : Vec} → List·Memᴰ c (p .corners) → pos 0 ≤ℤ side s c
-  pub m : Vec
-  pub isCorner : List·Memᴰ m (p .corners)
-  pub before : pos 0 <ℤ side s m
+record InFront (s : Plane) (p : Patch) : Type 0 where
+  notBehind : {c : Vec} → List·Memᴰ c (p .corners) → pos 0 ≤ℤ side s c
+  m : Vec
+  isCorner : List·Memᴰ m (p .corners)
+  before : pos 0 <ℤ side s m
 
-pub in-front-says : (s : Plane) (p : Patch) → T (inFront s p) → InFront s p
+in-front-says : (s : Plane) (p : Patch) → T (inFront s p) → InFront s p
 unfolding inFront
 in-front-says s p t =
     let parts = both (every (λ (c : Vec). leZ (pos 0) (side s c)) (p .corners)) (any (λ (c : Vec). ltZ (pos 0) (side s c)) (p .corners)) .0 t in

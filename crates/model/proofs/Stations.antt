@@ -10,7 +10,7 @@ use Rattle.model.specs.Call.{Call}
 use Rattle.model.specs.Questions.{surveyAnswer}
 use Rattle.model.specs.Survey.{callPicture, callCounts, callUnlit}
 use Rattle.model.proofs.Computing.{everything}
-use Rattle.model.proofs.Scenes.{sceneS, sceneT, sceneTless5, sceneTless7, scene3and5, sceneQuarters, noNodes, sOfHalfWidth, callOn, usual}
+use Rattle.model.proofs.Scenes.{sceneS, sceneT, sceneTless5, sceneTless7, scene3and5, sceneQuarters, noNodes, sOfHalfWidth, fittingCall, usual}
 
 -- what is seen of a call: its answer (0 is "done"), its picture, the used pairs of some rows, and the counts of some panels (of "nothing" at 0)
 pub record Outcome : Type 0 where
@@ -55,20 +55,20 @@ stations =
     (4 ∷ 12 ∷ [])
     ∷ shows (usual (sOfHalfWidth (pos 25))) blank [] [] (5 ∷ 0 ∷ []) (0 ∷ 16 ∷ [])
     ∷ shows (usual (sOfHalfWidth (pos 26))) (middle 5) [] [] (5 ∷ []) (4 ∷ [])
-    ∷ shows (callOn sceneS (vec (pos 0) (pos 100) (pos 0)) 4 4 4) blank [] [] [] []
-    ∷ shows (callOn sceneS (vec (pos 0) (pos 200) (pos 0)) 4 4 4) blank [] [] [] []
+    ∷ shows (fittingCall sceneS (vec (pos 0) (pos 100) (pos 0)) 4 4 4) blank [] [] [] []
+    ∷ shows (fittingCall sceneS (vec (pos 0) (pos 200) (pos 0)) 4 4 4) blank [] [] [] []
     ∷ shows (usual sceneT) (middle 7) [] [] (7 ∷ 5 ∷ []) (4 ∷ 0 ∷ [])
     ∷ shows (usual sceneTless5) (middle 7) [] [] [] []
     ∷ shows (usual sceneTless7) (middle 5) [] [] [] []
     ∷ shows (usual scene3and5) (middle 3) [] [] [] []
     ∷ shows (usual noNodes) blank [] [] [] []
-    ∷ shows (callOn sceneS origin 1 1 4) (5 ∷ []) [] [] [] []
+    ∷ shows (fittingCall sceneS origin 1 1 4) (5 ∷ []) [] [] [] []
     ∷ []
 
 -- Beside them, since no starred station tells left from right or top from bottom: cells stand row after row from the top, each row from the left.
 abbrev pub quarters : Station
 quarters =
-    shows (callOn sceneQuarters origin 4 2 4) (1 ∷ 1 ∷ 2 ∷ 2 ∷ 3 ∷ 3 ∷ 4 ∷ 4 ∷ []) (0 ∷ []) ([] ∷ []) (1 ∷ 0 ∷ [])
+    shows (fittingCall sceneQuarters origin 4 2 4) (1 ∷ 1 ∷ 2 ∷ 2 ∷ 3 ∷ 3 ∷ 4 ∷ 4 ∷ []) (0 ∷ []) ([] ∷ []) (1 ∷ 0 ∷ [])
     (2 ∷ 0 ∷ [])
 
 -- What the definitions say of each starred station is what document 01 says of it.

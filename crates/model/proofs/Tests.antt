@@ -1,12 +1,13 @@
--- Boolean tests as facts: `&&`, `||`, and tests and tallies over lists.
+-- Tests as facts: orders, `&&`, `||`, and tests and tallies over lists.
 use mathlib.Core.Path.{_≡_, refl, sym, subst}
 use mathlib.Core.Logic.{_↔_, Iff·trans, _⊎_, inl, inr, ⊎-elim}
 use mathlib.Core.Bool.{Bool, true, false, _&&_, _||_}
 use mathlib.Core.List.{List, [], _∷_, _++_, List·Memᴰ, List·Memᴰ·head, List·Memᴰ·tail, List·Memᴰ·cases-cons, List·Memᴰ·not-nil}
-use Prim.Native.Nat.{ℕ, _<_}
+use Prim.Native.Nat.{ℕ, _≤_, _<_}
 use native.Mathlib.Nat.{not-suc-le-zero, eq-zero-or-pos}
 use native.Mathlib.Omega.{arith}
-use lib.Dec.{T}
+use lib.Dec.{T, ltb}
+use borrow.Author.Tests.{ltb-true, ltb-false}
 use Rattle.model.specs.Lists.{every, any, addIf, tally}
 
 pub is-true : {b : Bool} → b ≡ true → T b
@@ -17,9 +18,29 @@ pub not-failing : (b : Bool) → ((T b → ⊥) → ⊥) → T b
 not-failing true f = tt
 not-failing false f = f (λ t. t)
 
+pub lt-or-ge : (a b : ℕ) → (a < b) ⊎ (b ≤ a)
+lt-or-ge a b = go (ltb a b) refl
+  where
+    go : (t : Bool) → ltb a b ≡ t → (a < b) ⊎ (b ≤ a)
+    go true e = inl (ltb-true a b e)
+    go false e = inr (ltb-false a b e)
+
+-- two tests that pass together are equal
+pub same-test : (a b : Bool) → (T a → T b) → (T b → T a) → a ≡ b
+same-test true true f g = refl
+same-test true false f g = absurd (f tt)
+same-test false true f g = absurd (g tt)
+same-test false false f g = refl
+
 pub both : (a b : Bool) → T (a && b) ↔ (T a × T b)
 both true b = (λ t. (tt, t), λ p. p .1)
 both false b = (λ t. absurd t, λ p. p .0)
+
+-- the same where a test is said to be true
+pub both-true : (a b : Bool) → (a && b) ≡ true → (a ≡ true) × (b ≡ true)
+both-true true b e = (refl, e)
+both-true false true e = (e, refl)
+both-true false false e = (e, e)
 
 pub either : (a b : Bool) → T (a || b) ↔ (T a ⊎ T b)
 either true b = (λ t. inl tt, λ p. tt)

@@ -9,12 +9,11 @@ use lib.IntN.{pos}
 use lib.Signed.{_≤ℤ_, ltZ, ltZ-no}
 use Rattle.model.specs.Lists.{every}
 use Rattle.model.specs.Vector.{Vec, Plane, side, turnedOver}
-use Rattle.model.specs.Patch.{Patch}
+use Rattle.model.specs.Patch.{Patch, Proper}
 use Rattle.model.specs.Ray.{met, precedes, closestPatch, panelOf, closest, firstMet}
 use Rattle.model.specs.Tree.{Tree, leaf, node, contents, order, liesOn, inFront, divides}
 use Rattle.model.specs.Questions.{offOneLine, neverFalling}
 use Rattle.model.proofs.Tests.{is-true, both, every-true, of-append}
-use Rattle.model.proofs.Patches.{Proper}
 use Rattle.model.proofs.Sides.{lies-on-turned, eye-turned}
 use Rattle.model.proofs.Separation.{front-first, own-before-back}
 use Rattle.model.proofs.OnePlane.{level}
@@ -32,7 +31,7 @@ abbrev pub ProperTree : Tree Patch → Type 0
 ProperTree leaf = Unit {0}
 ProperTree (node s own front back) = ProperNode s own × ProperTree front × ProperTree back
 
-pub contents-proper : (t : Tree Patch) → ProperTree t → (p : Patch) → List·Memᴰ p (contents t) → Proper p
+contents-proper : (t : Tree Patch) → ProperTree t → (p : Patch) → List·Memᴰ p (contents t) → Proper p
 unfolding contents
 contents-proper leaf h = λ p m. absurd (List·Memᴰ·not-nil m)
 contents-proper (node s own front back) h =

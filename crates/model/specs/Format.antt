@@ -164,7 +164,7 @@ unfoldable pub patchNumbered : Scene → ℕ → Patch
 unfolding emptyPatch
 patchNumbered s k = getD (patchTable s) k emptyPatch
 
-emptyNode : NodeRecord
+unfoldable pub emptyNode : NodeRecord
 emptyNode =
     record {
       plane = record { a = origin; b = origin; c = origin };

@@ -6,9 +6,12 @@ pub mod Ray
 pub mod Tree
 pub mod Format
 pub mod Window
+pub mod View
+pub mod Lent
 pub mod Call
 pub mod Row
 pub mod Picture
 pub mod Questions
+pub mod Accepted
 pub mod Survey
 pub mod Removal

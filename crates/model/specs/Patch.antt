@@ -2,7 +2,7 @@
 use mathlib.Core.Bool.{Bool, _&&_}
 use mathlib.Core.List.{List, [], _∷_, _++_, map}
 use Prim.Native.Nat.{ℕ}
-use lib.Dec.{leb}
+use lib.Dec.{T, leb}
 use lib.IntN.{pos}
 use lib.ListN.{length, getD, take, drop}
 use lib.Signed.{ltZ}
@@ -60,3 +60,9 @@ turnsTowards n e q = ltZ (pos 0) (dot n (cross (minus (e .to) (e .from)) (minus 
 -- "for each edge from v to w and each other corner q, n · ((w − v) × (q − v)) is above 0"
 unfoldable pub strictlyConvex : Patch → Bool
 strictlyConvex p = every (λ (e : Edge). every (turnsTowards (normal p) e) (e .others)) (edges (p .corners))
+
+-- the patch has 3 to 8 corners, is flat and strictly convex
+pub record Proper (p : Patch) : Type 0 where
+  pub counted : T (cornersCounted p)
+  pub isFlat : T (flat p)
+  pub isConvex : T (strictlyConvex p)

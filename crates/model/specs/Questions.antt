@@ -176,16 +176,16 @@ sceneAnswer bytes = answer sceneQuestions bytes
 unfoldable pub viewInRange : Call → Bool
 viewInRange c =
     pointInRange (c .eye)
-    && within 1 256 (c .window .width)
-    && within 1 128 (c .window .height)
-    && within 1 4096 (c .window .lens)
+    && within 1 256 (c .camera .window .width)
+    && within 1 128 (c .camera .window .height)
+    && within 1 4096 (c .camera .window .lens)
 
 -- 11. "Has the picture (u16) width × height cells, the counts (u32) 1,025, the unlit lists (u16) height × 256?"
 unfoldable pub lengthsFit : Call → Bool
 lengthsFit c =
-    eqb (c .pictureLength) (c .window .width * c .window .height)
-    && eqb (c .countsLength) countEntries
-    && eqb (c .unlitLength) (c .window .height * rowLength)
+    eqb (c .lengths .picture) (c .camera .window .width * c .camera .window .height)
+    && eqb (c .lengths .counts) countEntries
+    && eqb (c .lengths .unlit) (c .camera .window .height * rowLength)
 
 -- 12. "Is the station counter below 4,294,967,295?"
 unfoldable pub counterBelowEnd : Call → Bool
@@ -206,8 +206,8 @@ unfoldable pub rowsFit : Call → Bool
 rowsFit c =
     every
     (λ (j : ℕ).
-    rowFits (c .window .width) (c .eye) (λ (i : ℕ). callDirection c i j)
-    (order (c .eye) (patchTree (decode (c .scene))))) (range 0 (c .window .height))
+    rowFits (c .camera .window .width) (c .eye) (λ (i : ℕ). callDirection c i j)
+    (order (c .eye) (patchTree (decode (c .scene))))) (range 0 (c .camera .window .height))
 
 -- the questions on the call
 unfoldable pub callQuestions : List (Question Call)

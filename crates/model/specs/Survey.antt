@@ -11,14 +11,14 @@ abbrev pub callPatches : Call → List Patch
 callPatches c = patchTable (decode (c .scene))
 
 unfoldable pub callPicture : Call → List ℕ
-callPicture c = picture (c .eye) (c .window .width) (c .window .height) (callDirection c) (callPatches c)
+callPicture c = picture (c .eye) (c .camera .window .width) (c .camera .window .height) (callDirection c) (callPatches c)
 
 unfoldable pub callCounts : Call → List ℕ
 callCounts c = counts (callPicture c)
 
 unfoldable pub callUnlit : Call → List ℕ
 callUnlit c =
-    unlitLists (c .window .width) (c .window .height) (cellPanel (c .eye) (callDirection c) (callPatches c))
+    unlitLists (c .camera .window .width) (c .camera .window .height) (cellPanel (c .eye) (callDirection c) (callPatches c))
 
 unfoldable pub callCounter : Call → ℕ
 callCounter c = nextCounter (c .counter)

@@ -15,7 +15,7 @@ use Rattle.rows.proofs.Rows.{row-congr}
 use Rattle.rows.proofs.Painting.{painted-congr, painted-none}
 use Rattle.spans.specs.declared.Span.{Span}
 use Rattle.spans.specs.Span.{covers}
-use Rattle.spans.proofs.Tests.{lt-or-ge}
+use Rattle.model.proofs.Tests.{lt-or-ge}
 use Rattle.painting.specs.Laying.{ColumnsPainted, ColumnsLaid}
 
 -- where no column is unlit, each is lit
@@ -30,7 +30,7 @@ none-from unlit a (suc n) e i h k = go (unlit a) refl e (λ f. none-from unlit (
     go false u f rest (inl l) = rest f l (omega arith)
     go false u f rest (inr l) = ap unlit (omega arith) ∙ u
 
-each-lit : (width : ℕ) (unlit : ℕ → Bool) → allLit width unlit ≡ true → (i : ℕ) → i < width → unlit i ≡ false
+pub each-lit : (width : ℕ) (unlit : ℕ → Bool) → allLit width unlit ≡ true → (i : ℕ) → i < width → unlit i ≡ false
 unfolding allLit
 each-lit width unlit e i h = none-from unlit 0 width e i (omega arith) (omega arith)
 

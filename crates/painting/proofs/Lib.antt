@@ -1,18 +1,15 @@
 -- What a row shows while a walk is painted.
 pub mod FirstShown
--- the edge vectors of the patches
-pub mod EdgePlaces
-pub mod EdgeWrites
-pub mod EdgeRuns
-pub mod EdgeRounds
--- a patch, a row, all rows
-pub mod Columns
-pub mod RunParts
-pub mod MetColumns
-pub mod WalkPainted
-pub mod RowsPlaced
-pub mod NearWalk
--- cleared, copied and counted cells
+-- cleared and copied cells
 pub mod Clearing
 pub mod Copying
-pub mod Counted
+-- a patch, a row, all rows
+pub mod Columns
+pub mod PatchLaying
+pub mod WalkPainted
+pub mod RowsPlaced
+-- the part of a walk that is ready, the patches that reach some rows, a band of rows
+pub mod ReadyWalk
+pub mod NearWalk
+pub mod BandRows
+pub mod Progress

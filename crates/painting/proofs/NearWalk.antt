@@ -3,8 +3,9 @@ use mathlib.Core.Path.{_≡_, refl, sym, _∙_, ap}
 use mathlib.Core.Bool.{Bool, true, false, not, cond, _&&_, _||_}
 use mathlib.Core.List.{List, [], _∷_, map}
 use mathlib.Core.Option.{some}
-use Prim.Native.Nat.{ℕ, zero, suc, _+_, _≤_, _<_}
+use Prim.Native.Nat.{ℕ, zero, suc, _+_, _*_, _≤_, _<_}
 use native.Mathlib.Omega.{arith}
+use lib.IntN.{ℤ}
 use lib.ListN.{length, getD, take}
 use lib.Seq.{length-take-le}
 use borrow.Author.Tests.{ltb-false}
@@ -13,18 +14,21 @@ use Rattle.model.specs.Lists.{any}
 use Rattle.model.specs.Vector.{Vec}
 use Rattle.model.specs.Patch.{Patch}
 use Rattle.model.specs.Ray.{met, panelOf, firstMet}
-use Rattle.model.specs.Window.{Window, direction}
 use Rattle.model.specs.Format.{decode, patchNumbered}
 use Rattle.model.specs.Row.{rowLength}
 use Rattle.model.specs.Questions.{unlitAfter}
+use Rattle.geometry.specs.Machine.{vecOf}
+use Rattle.geometry.specs.Raster.{rayAt}
 use Rattle.format.specs.declared.layout.Layout.{Layout}
 use Rattle.format.proofs.Tables.{same-table}
 use Rattle.rows.proofs.Rows.{row-congr}
-use Rattle.reach.specs.Reach.{Reaches}
-use Rattle.reach.specs.Selection.{reached, reaching, passing, Listed, Selected}
+use Rattle.reach.specs.Reach.{spanAt}
+use Rattle.reach.specs.Selection.{reached, reaching, passing, Selected}
+use Rattle.edges.specs.declared.Sight.{Sight}
 use Rattle.painting.specs.Painting.{shownAfter}
-use Rattle.painting.specs.Laying.{Numbers, walkOf}
-use Rattle.painting.specs.Framing.{withRow, RowPlaced}
+use Rattle.painting.specs.Laying.{PatchDrawable, Drawable, walkOf}
+use Rattle.painting.specs.Framing.{withRow, RowPlaced, RowDone}
+use Rattle.painting.specs.Ready.{ReachKnown, Reached}
 
 -- what holds of every number holds of those that pass
 passing-all :
@@ -67,25 +71,35 @@ module _ (eye d : Vec) (patch : ℕ → Patch) (test : ℕ → Bool) where
       go rest false e = rw (f 0 (omega arith) e) rest
 
 -- ---- the walk of some rows
-module _ {l : Layout} {order : List ℕ} (numbers : Numbers l order) where
-  pub listed : {bytes : List ℕ} {eye : Vec} {w : Window} {lows highs : List ℕ} → Reaches bytes l eye w lows highs → Listed order lows highs
-  listed r =
-      record {
-        low = λ k h. omega (arith, numbers .patch k h, r .lows-long);
-        high = λ k h. omega (arith, numbers .patch k h, r .highs-long);
-      }
+module _ {rows order near : List ℕ} {from to n : ℕ} (s : Selected rows from to order near n) where
+  pub near-count : n ≡ length (take n near)
+  near-count = sym (length-take-le n near (s .inside))
 
-  module _ {lows highs near : List ℕ} {from to n : ℕ} (s : Selected lows highs from to order near n) where
-    pub near-count : n ≡ length (take n near)
-    near-count = sym (length-take-le n near (s .inside))
+  near-each : (P : ℕ → Type 0) → ((k : ℕ) → k < length order → P (getD order k 0)) → (k : ℕ) → k < length (take n near) → P (getD (take n near) k 0)
+  near-each P f = rw (s .front) (passing-all (reaching rows from to) P order f)
 
-    pub near-numbers : Numbers l (take n near)
-    near-numbers =
-        record { patch = rw (s .front) (passing-all (reaching lows highs from to) (λ (k : ℕ). k < l .patches) order (numbers .patch)) }
+  pub near-drawable :
+      {bytes : List ℕ} {l : Layout} {sight : Sight} {edges : List ℤ} → Drawable bytes l sight edges order → Drawable bytes l sight edges (take n near)
+  near-drawable {bytes} {l} {sight} {edges} d =
+      record { checked = d .checked; each = near-each (PatchDrawable bytes l sight edges) (d .each) }
 
-    module _ {bytes : List ℕ} {eye : Vec} (w : Window) (r : Reaches bytes l eye w lows highs) {j : ℕ} (above : from ≤ j) (below : j < to) (h : j < w .height) where
-      unmet : (i : ℕ) → Unmet eye (direction w i j) (patchNumbered (decode bytes)) (reaching lows highs from to) order
-      unmet i k b e = r .each (getD order k 0) (numbers .patch k b) .missed j h (outside (getD lows p 0) (getD highs p 0) e) i
+  module _ {bytes : List ℕ} {sight : Sight} (r : Reached bytes sight rows order) where
+    pub near-reached : Reached bytes sight rows (take n near)
+    near-reached =
+        record {
+          inside = near-each (λ (p : ℕ). 2 * p + 2 ≤ length rows) (r .inside);
+          each = near-each (ReachKnown bytes sight rows) (r .each);
+        }
+
+    module _ {j : ℕ} (above : from ≤ j) (below : j < to) (h : j < sight .raster .height) where
+      abbrev eye : Vec
+      eye = vecOf (sight .eye)
+
+      abbrev ray : ℕ → Vec
+      ray i = rayAt (sight .raster) i j
+
+      unmet : (i : ℕ) → Unmet eye (ray i) (patchNumbered (decode bytes)) (reaching rows from to) order
+      unmet i k b e = r .each k b .missed j h (outside (spanAt rows p .first) (spanAt rows p .end) e) i
         where
           p : ℕ
           p = getD order k 0
@@ -97,36 +111,33 @@ module _ {l : Layout} {order : List ℕ} (numbers : Numbers l order) where
               go true t f = let z : high ≤ from = ltb-false from high f in omega arith
               go false t f = let z : to ≤ low = ltb-false low to t in omega arith
 
+      first-same : (i : ℕ) → firstMet eye (ray i) (walkOf bytes (take n near)) ≡ firstMet eye (ray i) (walkOf bytes order)
+      first-same i = rw (s .front) (passing-first eye (ray i) (patchNumbered (decode bytes)) (reaching rows from to) order (unmet i))
+
+      some-same : (i : ℕ) → any (met eye (ray i)) (walkOf bytes (take n near)) ≡ any (met eye (ray i)) (walkOf bytes order)
+      some-same i = rw (s .front) (passing-any eye (ray i) (patchNumbered (decode bytes)) (reaching rows from to) order (unmet i))
+
+      unlit-same : (i : ℕ) → unlitAfter eye ray (walkOf bytes (take n near)) i ≡ unlitAfter eye ray (walkOf bytes order) i
+      unfolding unlitAfter
+      unlit-same i = ap not (some-same i)
+
       -- a row painted with the patches that reach it is painted with all
-      pub near-placed :
-          {width : ℕ} {picture unlit picture′ unlit′ : List ℕ} →
-          RowPlaced eye (λ (i : ℕ). direction w i j) (walkOf bytes (take n near)) width j picture unlit picture′ unlit′ →
-          RowPlaced eye (λ (i : ℕ). direction w i j) (walkOf bytes order) width j picture unlit picture′ unlit′
-      unfolding shownAfter unlitAfter
-      near-placed {width} {picture} {unlit} placed =
+      pub near-done :
+          {width : ℕ} {picture unlit picture′ unlit′ : List ℕ} {full : Bool} →
+          RowDone eye ray (walkOf bytes (take n near)) width j picture unlit picture′ unlit′ full →
+          RowDone eye ray (walkOf bytes order) width j picture unlit picture′ unlit′ full
+      unfolding shownAfter
+      near-done {width} {picture} {unlit} done =
           record {
-            cells-are =
-                placed .cells-are
-                ∙ ap (λ (cells : List ℕ). withRow width j cells picture)
-                (same-table (shownAfter eye ray (walkOf bytes (take n near))) (shownAfter eye ray (walkOf bytes order)) 0 0 width
-                (λ i b. ap panelOf (first (0 + i))));
-            row-is =
-                placed .row-is
-                ∙ ap (λ (row : List ℕ). withRow rowLength j row unlit)
-                (row-congr width _ _ (λ i b. ap not (some-met i)));
+            placed =
+                record {
+                  cells-are =
+                      done .placed .cells-are
+                      ∙ ap (λ (cells : List ℕ). withRow width j cells picture)
+                      (same-table (shownAfter eye ray (walkOf bytes (take n near))) (shownAfter eye ray (walkOf bytes order)) 0 0 width
+                      (λ i b. ap panelOf (first-same (0 + i))));
+                  row-is =
+                      done .placed .row-is ∙ ap (λ (row : List ℕ). withRow rowLength j row unlit) (row-congr width _ _ (λ i b. unlit-same i));
+                };
+            full-says = λ t i b. sym (unlit-same i) ∙ done .full-says t i b;
           }
-        where
-          ray : ℕ → Vec
-          ray i = direction w i j
-
-          patch : ℕ → Patch
-          patch = patchNumbered (decode bytes)
-
-          test : ℕ → Bool
-          test = reaching lows highs from to
-
-          first : (i : ℕ) → firstMet eye (direction w i j) (walkOf bytes (take n near)) ≡ firstMet eye (direction w i j) (walkOf bytes order)
-          first i = rw (s .front) (passing-first eye (direction w i j) patch test order (unmet i))
-
-          some-met : (i : ℕ) → any (met eye (direction w i j)) (walkOf bytes (take n near)) ≡ any (met eye (direction w i j)) (walkOf bytes order)
-          some-met i = rw (s .front) (passing-any eye (direction w i j) patch test order (unmet i))

@@ -1,7 +1,8 @@
 -- The rows of a picture and of the unlit lists, each in its place.
 use mathlib.Core.Path.{_≡_}
+use mathlib.Core.Bool.{Bool, true, false}
 use mathlib.Core.List.{List, _++_, map, flatten}
-use Prim.Native.Nat.{ℕ, _+_, _*_, _≤_}
+use Prim.Native.Nat.{ℕ, _+_, _*_, _≤_, _<_}
 use lib.ListN.{length, take, drop}
 use Rattle.model.specs.Lists.{range}
 use Rattle.model.specs.Vector.{Vec}
@@ -10,7 +11,7 @@ use Rattle.model.specs.Row.{rowOf, rowLength}
 use Rattle.model.specs.Questions.{unlitAfter}
 use Rattle.painting.specs.Painting.{shownAfter}
 
--- a window of a size that rows and their reach are made for, and lists with just the room for its rows
+-- a picture of a size that rows and their reach are made for, and lists with just the room for its rows
 pub record Framed (width height : ℕ) (picture unlit : List ℕ) : Type 0 where
   pub narrow : width ≤ rowLength
   pub low : height ≤ 1024
@@ -27,9 +28,11 @@ pub record RowPlaced
   pub cells-are : picture′ ≡ withRow width j (map (shownAfter eye ray walk) (range 0 width)) picture
   pub row-is : unlit′ ≡ withRow rowLength j (rowOf width (unlitAfter eye ray walk)) unlit
 
--- the rows before row j, and then the rest of a list
-abbrev pub rowsThen : ℕ → (ℕ → List ℕ) → ℕ → List ℕ → List ℕ
-rowsThen width row j list = flatten (map row (range 0 j)) ++ drop (j * width) list
+-- and, where `full` says so, no column of it is unlit
+pub record RowDone
+    (eye : Vec) (ray : ℕ → Vec) (walk : List Patch) (width j : ℕ) (picture unlit picture′ unlit′ : List ℕ) (full : Bool) : Type 0 where
+  pub placed : RowPlaced eye ray walk width j picture unlit picture′ unlit′
+  pub full-says : full ≡ true → (i : ℕ) → i < width → unlitAfter eye ray walk i ≡ false
 
 -- what stands in row j
 abbrev pub cellsOf : Vec → (ℕ → ℕ → Vec) → List Patch → ℕ → ℕ → List ℕ
@@ -40,9 +43,7 @@ unlitOf eye ray walk width j = rowOf width (unlitAfter eye (λ (i : ℕ). ray i 
 
 -- the rows before row j are in their places
 pub record RowsUpTo
-    (eye : Vec) (ray : ℕ → ℕ → Vec) (walk : List Patch) (width height : ℕ) (picture₀ unlit₀ picture unlit : List ℕ) (j : ℕ) : Type 0 where
+    (eye : Vec) (ray : ℕ → ℕ → Vec) (walk : List Patch) (width height : ℕ) (picture unlit : List ℕ) (j : ℕ) : Type 0 where
   pub bound : j ≤ height
-  pub same-cells : length picture ≡ length picture₀
-  pub same-unlit : length unlit ≡ length unlit₀
-  pub picture-is : picture ≡ rowsThen width (cellsOf eye ray walk width) j picture₀
-  pub unlit-is : unlit ≡ rowsThen rowLength (unlitOf eye ray walk width) j unlit₀
+  pub picture-is : take (j * width) picture ≡ flatten (map (cellsOf eye ray walk width) (range 0 j))
+  pub unlit-is : take (j * rowLength) unlit ≡ flatten (map (unlitOf eye ray walk width) (range 0 j))

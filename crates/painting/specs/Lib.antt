@@ -1,6 +1,6 @@
--- What the parts of the painting leave.
+-- What the parts of the painting ask and leave.
 pub mod Painting
-pub mod EdgeVectors
 pub mod Laying
 pub mod Framing
-pub mod Counting
+pub mod Bands
+pub mod Ready

@@ -1,5 +1,4 @@
-// A walk painted: the edge vectors of its patches, the rows of its picture, the counts of its cells.
-pub mod edges;
+// A walk painted: the rows of its picture and of the unlit lists.
 pub mod picture;
-pub mod row;
-pub mod tally;
+mod ready;
+mod row;

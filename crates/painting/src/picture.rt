@@ -1,29 +1,22 @@
 // The picture and the unlit lists, painted row after row, from the top.
+use crate::ready::extend_ready;
+use crate::ready::wanted;
 use crate::row::paint_row;
+use edges::Sight;
 use format::layout::Layout;
-use geometry::Vector;
+use reach::rows::row_planes;
 use reach::selection::select;
 ghost use mathlib.Core.Path.{_≡_};
-ghost use mathlib.Core.List.{List};
+ghost use mathlib.Core.Bool.{not, _&&_};
 ghost use Prim.Native.Nat.{ℕ, _≤_, _<_};
 ghost use lib.ListN.{length};
-ghost use Rattle.model.specs.Window.{direction};
-ghost use Rattle.geometry.specs.Machine.{vecOf, VectorIs};
-ghost use Rattle.reach.specs.Reach.{Reaches};
+ghost use Rattle.geometry.specs.Machine.{vecOf};
+ghost use Rattle.geometry.specs.Raster.{rayAt};
 ghost use Rattle.painting.specs.Painting.{RowsPainted};
-ghost use Rattle.painting.specs.Laying.{Seen, Numbers, walkOf};
-ghost use Rattle.painting.specs.Framing.{Framed, RowPlaced, RowsUpTo};
-
-// The direction of column 0 of row j. From one column of a row to the next it changes by (2, 0, 0).
-fn row_base(width: u16, height: u16, lens: u16, j: u16) -> Vector
-    ensures { λ r. ⌜ VectorIs 563000 (direction (record { width = width; height = height; lens = lens }) 0 j) r ⌝ }
-{
-    Vector {
-        x: 1 - (width as i64),
-        y: lens as i64,
-        z: (height as i64) - (1 + 2 * (j as i64)),
-    }
-}
+ghost use Rattle.painting.specs.Laying.{Drawable, walkOf};
+ghost use Rattle.painting.specs.Framing.{Framed, RowDone};
+ghost use Rattle.painting.specs.Bands.{BandPainted};
+ghost use Rattle.painting.specs.Ready.{Paintable, Room, Reached};
 
 fn put_row(row: [u16; 256], place: &mut [u16])
     requires { ⌜ length (now place) ≡ 256 ⌝ }
@@ -36,46 +29,38 @@ fn put_row(row: [u16; 256], place: &mut [u16])
     }
 }
 
-// Paints row j, in its place in the picture and in the unlit lists.
+// Paints row j, in its place in the picture and in the unlit lists, and says whether it is full: its first unlit segment has length 0.
 fn place_row(
     bytes: &[u8],
     l: Layout,
     order: &[u16],
-    eye: Vector,
-    ex: &[i64],
-    ey: &[i64],
-    ez: &[i64],
-    width: u16,
-    height: u16,
-    lens: u16,
+    sight: Sight,
+    edges: &[i64],
     j: u16,
     picture: &mut [u16],
     unlit: &mut [u16],
-)
-    requires { ⌜ Seen (now bytes) l (vecOf eye) (now ex) (now ey) (now ez) × Numbers l (now order)
-        × Framed width height (now picture) (now unlit) × (j < height) ⌝ }
-    ensures { λ r. ⌜ RowPlaced (vecOf eye) (λ (i : ℕ). direction (record { width = width; height = height; lens = lens }) i j)
-        (walkOf (now (bytes .entry)) (now (order .entry))) width j
-        (now (picture .entry)) (now (unlit .entry)) (now (picture .exit)) (now (unlit .exit)) ⌝ }
+) -> bool
+    requires { ⌜ Drawable (now bytes) l sight (now edges) (now order)
+        × Framed (sight .raster .width) (sight .raster .height) (now picture) (now unlit) × (j < sight .raster .height) ⌝ }
+    ensures { λ r. ⌜ RowDone (vecOf (sight .eye)) (λ (i : ℕ). rayAt (sight .raster) i j) (walkOf (now (bytes .entry)) (now (order .entry)))
+        (sight .raster .width) j (now (picture .entry)) (now (unlit .entry)) (now (picture .exit)) (now (unlit .exit)) r ⌝ }
 {
-    let w = width as usize;
+    let w = sight.raster.width;
     let start = (j as usize) * w;
     let end = start + w;
     let row = paint_row(
         bytes,
         l,
         order,
-        eye,
-        ex,
-        ey,
-        ez,
-        row_base(width, height, lens, j),
-        Vector { x: 2, y: 0, z: 0 },
+        sight,
+        edges,
+        j as usize,
         &mut picture[start..end],
     );
     let first = (j as usize) * 256;
     let last = first + 256;
     put_row(row, &mut unlit[first..last]);
+    row[1] == 0
 }
 
 // The same, without going through the patches that do not reach row j.
@@ -83,97 +68,72 @@ fn place_near(
     bytes: &[u8],
     l: Layout,
     order: &[u16],
-    eye: Vector,
-    ex: &[i64],
-    ey: &[i64],
-    ez: &[i64],
-    lows: &[u16],
-    highs: &[u16],
-    width: u16,
-    height: u16,
-    lens: u16,
+    sight: Sight,
+    edges: &[i64],
+    rows: &[u16],
     j: u16,
     picture: &mut [u16],
     unlit: &mut [u16],
-)
-    requires { ⌜ Seen (now bytes) l (vecOf eye) (now ex) (now ey) (now ez) × Numbers l (now order) × (length (now order) ≤ 1024)
-        × Reaches (now bytes) l (vecOf eye) (record { width = width; height = height; lens = lens }) (now lows) (now highs)
-        × Framed width height (now picture) (now unlit) × (j < height) ⌝ }
-    ensures { λ r. ⌜ RowPlaced (vecOf eye) (λ (i : ℕ). direction (record { width = width; height = height; lens = lens }) i j)
-        (walkOf (now (bytes .entry)) (now (order .entry))) width j
-        (now (picture .entry)) (now (unlit .entry)) (now (picture .exit)) (now (unlit .exit)) ⌝ }
+) -> bool
+    requires { ⌜ Drawable (now bytes) l sight (now edges) (now order) × Reached (now bytes) sight (now rows) (now order) × (length (now order) ≤ 1024)
+        × Framed (sight .raster .width) (sight .raster .height) (now picture) (now unlit) × (j < sight .raster .height) ⌝ }
+    ensures { λ r. ⌜ RowDone (vecOf (sight .eye)) (λ (i : ℕ). rayAt (sight .raster) i j) (walkOf (now (bytes .entry)) (now (order .entry)))
+        (sight .raster .width) j (now (picture .entry)) (now (unlit .entry)) (now (picture .exit)) (now (unlit .exit)) r ⌝ }
 {
     let mut near = [0u16; 1024];
-    let n = select(order, lows, highs, j, j + 1, &mut near);
-    place_row(
-        bytes,
-        l,
-        &near[..n],
-        eye,
-        ex,
-        ey,
-        ez,
-        width,
-        height,
-        lens,
-        j,
-        picture,
-        unlit,
-    );
+    let n = select(order, rows, j, j + 1, &mut near);
+    place_row(bytes, l, &near[..n], sight, edges, j, picture, unlit)
 }
 
-// Paints the rows from `from` up to below `to`. The patches that reach none of them are left out once for all.
+// the rows from `from` up to before `to`; `whole` says that the whole walk is ready
+pub struct Band {
+    pub from: u16,
+    pub to: u16,
+    pub whole: bool,
+}
+
+// a row that is not full waits for the rest of the walk, unless there is none
+fn waits(whole: bool, full: bool) -> bool
+    ensures { λ r. ⌜ r ≡ (not whole && not full) ⌝ }
+{
+    if whole {
+        return false;
+    }
+    !full
+}
+
+// Paints the rows of a band with the part of the walk that is ready, and returns the row after the last one painted: the first that is not full while the
+// walk goes on. The patches that reach none of the rows are left out once for all.
 fn paint_band(
     bytes: &[u8],
     l: Layout,
     order: &[u16],
-    eye: Vector,
-    ex: &[i64],
-    ey: &[i64],
-    ez: &[i64],
-    lows: &[u16],
-    highs: &[u16],
-    width: u16,
-    height: u16,
-    lens: u16,
-    from: u16,
-    to: u16,
+    sight: Sight,
+    edges: &[i64],
+    rows: &[u16],
+    band: Band,
     picture: &mut [u16],
     unlit: &mut [u16],
-)
-    requires { ⌜ Seen (now bytes) l (vecOf eye) (now ex) (now ey) (now ez) × Numbers l (now order) × (length (now order) ≤ 1024)
-        × Reaches (now bytes) l (vecOf eye) (record { width = width; height = height; lens = lens }) (now lows) (now highs)
-        × Framed width height (now picture) (now unlit)
-        × (from ≤ to) × (to ≤ height) ⌝ }
-    ensures { λ r. ⌜ ((picture₀ unlit₀ : List ℕ) →
-        RowsUpTo (vecOf eye) (direction (record { width = width; height = height; lens = lens })) (walkOf (now (bytes .entry)) (now (order .entry)))
-        width height picture₀ unlit₀ (now (picture .entry)) (now (unlit .entry)) from →
-        RowsUpTo (vecOf eye) (direction (record { width = width; height = height; lens = lens })) (walkOf (now (bytes .entry)) (now (order .entry)))
-        width height picture₀ unlit₀ (now (picture .exit)) (now (unlit .exit)) to) ⌝ }
+) -> u16
+    requires { ⌜ Drawable (now bytes) l sight (now edges) (now order) × Reached (now bytes) sight (now rows) (now order) × (length (now order) ≤ 1024)
+        × Framed (sight .raster .width) (sight .raster .height) (now picture) (now unlit)
+        × (band .from ≤ band .to) × (band .to ≤ sight .raster .height) ⌝ }
+    ensures { λ r. ⌜ BandPainted (now (bytes .entry)) sight (now (order .entry)) band (now (picture .entry)) (now (unlit .entry))
+        (now (picture .exit)) (now (unlit .exit)) r ⌝ }
 {
+    let whole = band.whole;
+    let to = band.to;
     let mut near = [0u16; 1024];
-    let n = select(order, lows, highs, from, to, &mut near);
-    let mut j = from;
+    let n = select(order, rows, band.from, to, &mut near);
+    let mut j = band.from;
     while j < to {
-        place_near(
-            bytes,
-            l,
-            &near[..n],
-            eye,
-            ex,
-            ey,
-            ez,
-            lows,
-            highs,
-            width,
-            height,
-            lens,
-            j,
-            picture,
-            unlit,
-        );
+        let full = place_near(bytes, l, &near[..n], sight, edges, rows, j, picture, unlit);
+        if waits(whole, full) {
+            return j;
+        }
         j += 1;
     }
+    j
 }
 
 // A band has 8 rows, the last one what is left.
@@ -187,49 +147,48 @@ fn band_end(from: u16, height: u16) -> u16
     from + 8
 }
 
+// Band after band. Where a row is not full with the part of the walk that is ready, more of it is made ready, and the row is painted anew.
 pub fn paint_rows(
     bytes: &[u8],
     l: Layout,
     order: &[u16],
-    eye: Vector,
-    ex: &[i64],
-    ey: &[i64],
-    ez: &[i64],
-    lows: &[u16],
-    highs: &[u16],
-    width: u16,
-    height: u16,
-    lens: u16,
+    sight: Sight,
+    edges: &mut [i64],
+    rows: &mut [u16],
     picture: &mut [u16],
     unlit: &mut [u16],
 )
-    requires { ⌜ Seen (now bytes) l (vecOf eye) (now ex) (now ey) (now ez) × Numbers l (now order) × (length (now order) ≤ 1024)
-        × Reaches (now bytes) l (vecOf eye) (record { width = width; height = height; lens = lens }) (now lows) (now highs)
-        × Framed width height (now picture) (now unlit) ⌝ }
-    ensures { λ r. ⌜ RowsPainted (vecOf eye) (direction (record { width = width; height = height; lens = lens }))
-        (walkOf (now (bytes .entry)) (now (order .entry))) width height (now (picture .exit)) (now (unlit .exit)) ⌝ }
+    requires { ⌜ Paintable (now bytes) l sight (now order) × Room l (now edges) (now rows)
+        × Framed (sight .raster .width) (sight .raster .height) (now picture) (now unlit) ⌝ }
+    ensures { λ r. ⌜ RowsPainted (vecOf (sight .eye)) (rayAt (sight .raster)) (walkOf (now (bytes .entry)) (now (order .entry)))
+        (sight .raster .width) (sight .raster .height) (now (picture .exit)) (now (unlit .exit)) ⌝ }
 {
-    let mut from = 0;
+    let planes = row_planes(sight.raster);
+    let height = sight.raster.height as u16;
+    let all = order.len();
+    let mut ready = 0;
+    let mut from = 0u16;
     while from < height {
         let to = band_end(from, height);
-        paint_band(
-            bytes,
-            l,
-            order,
-            eye,
-            ex,
-            ey,
-            ez,
-            lows,
-            highs,
-            width,
-            height,
-            lens,
+        let band = Band {
             from,
             to,
+            whole: ready == all,
+        };
+        let row = paint_band(
+            bytes,
+            l,
+            &order[..ready],
+            sight,
+            edges,
+            rows,
+            band,
             picture,
             unlit,
         );
-        from = to;
+        let more = wanted(ready, all, row < to);
+        extend_ready(bytes, l, order, ready, more, sight, planes, edges, rows);
+        ready = more;
+        from = row;
     }
 }

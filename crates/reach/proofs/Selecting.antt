@@ -68,8 +68,8 @@ module _ {test : ℕ → Bool} {order out₀ out : List ℕ} {n k : ℕ} (c : Se
           }
 
 pub selecting-all :
-    {lows highs order out₀ out : List ℕ} {from to n k : ℕ} → Selecting (reaching lows highs from to) order out₀ out n k →
-    length order ≤ length out₀ → length order ≤ k → Selected lows highs from to order out n
+    {table order out₀ out : List ℕ} {from to n k : ℕ} → Selecting (reaching table from to) order out₀ out n k →
+    length order ≤ length out₀ → length order ≤ k → Selected table from to order out n
 selecting-all {order = order} {k = k} c room h =
     record {
       front = rw (take-all k order h) at (c .front);

@@ -1,24 +1,56 @@
--- The rows of a window that a patch can be met in.
+-- The rows of a raster that a patch can be met in.
 use mathlib.Core.Path.{_≡_}
 use mathlib.Core.Bool.{false}
-use mathlib.Core.List.{List, map}
-use Prim.Native.Nat.{ℕ, _≤_, _<_}
+use mathlib.Core.List.{List, List·Memᴰ}
+use Prim.Native.Nat.{ℕ, _+_, _*_, _≤_, _<_}
 use lib.Dec.{T}
+use lib.IntN.{ℤ, pos, negsuc, negℤ}
 use lib.ListN.{length, getD}
-use Rattle.model.specs.Vector.{Vec, minus}
-use Rattle.model.specs.Patch.{Patch}
+use lib.Signed.{_<ℤ_}
+use Rattle.model.specs.Vector.{Vec, minus, plus, times, dot, cross}
+use Rattle.model.specs.Patch.{Patch, Proper}
 use Rattle.model.specs.Ray.{met}
-use Rattle.model.specs.Window.{Window, direction}
 use Rattle.model.specs.Format.{decode, patchNumbered}
+use Rattle.geometry.specs.declared.Vector.{Vector}
+use Rattle.geometry.specs.declared.Raster.{Raster}
+use Rattle.geometry.specs.Machine.{vecOf, Bounded, VectorIs}
+use Rattle.geometry.specs.Raster.{rayAt}
 use Rattle.format.specs.declared.layout.Layout.{Layout}
 use Rattle.spans.specs.declared.Span.{Span}
-use Rattle.spans.specs.Span.{covers, Shaped}
-use Rattle.spans.specs.Row.{along, inside}
+use Rattle.spans.specs.Span.{covers, Shaped, Clipped}
+use Rattle.checked.specs.Checked.{Checked}
+use Rattle.reach.specs.declared.rows.Planes.{Planes}
+use Rattle.reach.specs.declared.rows.Sides.{Sides}
 
--- in each row j of the span every corner, seen from the eye, lies on the side that base + j · step points to
-pub record Beside (eye base step : Vec) (corners : List Vec) (height : ℕ) (r : Span) : Type 0 where
-  pub all : (j : ℕ) → T (covers r j) → T (inside (along base step j) (map (λ (c : Vec). minus c eye) corners))
+-- ---- the rows' planes
+-- the normals are square to the rays: across × origin in row 0, and across × down more from row to row
+pub record PlanesOf (r : Raster) (n : Planes) : Type 0 where
+  pub first-is : VectorIs 225200000 (cross (vecOf (r .across)) (vecOf (r .origin))) (n .first)
+  pub next-is : VectorIs 225200000 (cross (vecOf (r .across)) (vecOf (r .down))) (n .next)
+
+-- the normal of row j, times a sign
+abbrev pub rowNormal : Planes → ℤ → ℕ → Vec
+rowNormal n sign j = times sign (plus (vecOf (n .first)) (times (pos j) (vecOf (n .next))))
+
+-- ---- the rows beside a patch
+-- in each row of the span every corner, seen from the eye, lies on the side of the row's plane that the normal, times the sign, points to
+pub record Beside (eye : Vec) (n : Planes) (sign : ℤ) (corners : List Vec) (height : ℕ) (r : Span) : Type 0 where
+  pub all :
+      (j : ℕ) → T (covers r j) → (c : Vec) → List·Memᴰ c corners → pos 0 <ℤ dot (minus c eye) (rowNormal n sign j)
   pub shaped : Shaped height r
+
+pub record SidesBeside (eye : Vec) (n : Planes) (corners : List Vec) (height : ℕ) (r : Sides) : Type 0 where
+  pub ahead-beside : Beside eye n (pos 1) corners height (r .ahead)
+  pub behind-beside : Beside eye n (negsuc 0) corners height (r .behind)
+
+pub record SidesShaped (height : ℕ) (s : Sides) : Type 0 where
+  pub ahead-shaped : Shaped height (s .ahead)
+  pub behind-shaped : Shaped height (s .behind)
+
+-- r has the rows of s where the number is above 0, and where it is below 0
+pub record SidesClipped (slope start : ℤ) (s r : Sides) : Type 0 where
+  pub ahead-clipped : Clipped slope start (s .ahead) (r .ahead)
+  pub behind-clipped : Clipped (negℤ slope) (negℤ start) (s .behind) (r .behind)
 
 -- no row is lost that is not in s; r begins and ends at an end of the rows or of s
 pub record Without (rows s r : Span) : Type 0 where
@@ -27,18 +59,36 @@ pub record Without (rows s r : Span) : Type 0 where
   pub first-limit : (n : ℕ) → rows .first ≤ n → s .end ≤ n → r .first ≤ n
   pub end-limit : (n : ℕ) → rows .end ≤ n → s .first ≤ n → r .end ≤ n
 
--- Outside the rows from `low` up to below `high` no ray of the window meets the patch. It need not be met in all of them: too wide a reach costs time alone.
-pub record Reach (eye : Vec) (w : Window) (p : Patch) (low high : ℕ) : Type 0 where
+-- ---- the reach of a patch
+-- What a patch is sighted with: a scene that can be read, the number of a patch of it that is proper, an eye in range, and a raster with its rows' planes.
+pub record Sighting (bytes : List ℕ) (l : Layout) (k : ℕ) (eye : Vector) (r : Raster) (n : Planes) : Type 0 where
+  pub scene : Checked bytes l
+  pub number : k < l .patches
+  pub proper : Proper (patchNumbered (decode bytes) k)
+  pub eye-bounded : Bounded 10000 eye
+  pub planes-of : PlanesOf r n
+  pub height-limit : r .height ≤ 1024
+
+-- Outside these rows no ray of the raster meets the patch. It need not be met in all of them: too wide a reach costs time alone.
+pub record Reach (eye : Vec) (r : Raster) (p : Patch) (rows : Span) : Type 0 where
   pub missed :
-      (j : ℕ) → j < w .height → (low ≤ j → j < high → ⊥) → (i : ℕ) → met eye (direction w i j) p ≡ false
+      (j : ℕ) →
+      j < r .height →
+      (rows .first ≤ j → j < rows .end → ⊥) →
+      (i : ℕ) →
+      met eye (rayAt r i j) p ≡ false
 
 -- both ends are within the height
 pub record Limited (height : ℕ) (r : Span) : Type 0 where
   pub first-limit : r .first ≤ height
   pub end-limit : r .end ≤ height
 
--- the reach of each patch of a scene
-pub record Reaches (bytes : List ℕ) (l : Layout) (eye : Vec) (w : Window) (lows highs : List ℕ) : Type 0 where
-  pub each : (k : ℕ) → k < l .patches → Reach eye w (patchNumbered (decode bytes) k) (getD lows k 0) (getD highs k 0)
-  pub lows-long : l .patches ≤ length lows
-  pub highs-long : l .patches ≤ length highs
+-- ---- a table of rows: two numbers an entry
+abbrev pub spanAt : List ℕ → ℕ → Span
+spanAt t k = record { first = getD t (2 * k) 0; end = getD t (2 * k + 1) 0 }
+
+-- entry k is s now, and the others are as they were
+pub record SpanStored (before after : List ℕ) (k : ℕ) (s : Span) : Type 0 where
+  pub long : length after ≡ length before
+  pub here : spanAt after k ≡ s
+  pub others : (m : ℕ) → (m ≡ k → ⊥) → spanAt after m ≡ spanAt before m

@@ -2,9 +2,10 @@
 use mathlib.Core.Path.{_≡_}
 use mathlib.Core.Bool.{Bool, cond, _&&_}
 use mathlib.Core.List.{List, [], _∷_}
-use Prim.Native.Nat.{ℕ, _≤_, _<_}
+use Prim.Native.Nat.{ℕ, _+_, _*_, _≤_, _<_}
 use lib.Dec.{ltb}
 use lib.ListN.{length, getD, take}
+use Rattle.reach.specs.Reach.{spanAt}
 
 -- the rows from `low` up to below `high` have one from `from` up to below `to`
 abbrev pub reached : ℕ → ℕ → ℕ → ℕ → Bool
@@ -16,16 +17,15 @@ passing test [] = []
 passing test (n ∷ ns) = cond (test n) (n ∷ passing test ns) (passing test ns)
 
 -- patch n can be met in some row from `from` up to below `to`
-abbrev pub reaching : List ℕ → List ℕ → ℕ → ℕ → ℕ → Bool
-reaching lows highs from to n = reached (getD lows n 0) (getD highs n 0) from to
+abbrev pub reaching : List ℕ → ℕ → ℕ → ℕ → Bool
+reaching table from to n = reached (spanAt table n .first) (spanAt table n .end) from to
 
--- every number has a place in both lists
-pub record Listed (order lows highs : List ℕ) : Type 0 where
-  pub low : (k : ℕ) → k < length order → getD order k 0 < length lows
-  pub high : (k : ℕ) → k < length order → getD order k 0 < length highs
+-- every number has an entry in the table
+abbrev pub Listed : List ℕ → List ℕ → Type 0
+Listed order table = (k : ℕ) → k < length order → 2 * getD order k 0 + 2 ≤ length table
 
 -- the numbers of the walk whose patches reach the rows stand at the front, r of them
-pub record Selected (lows highs : List ℕ) (from to : ℕ) (order after : List ℕ) (r : ℕ) : Type 0 where
-  pub front : take r after ≡ passing (reaching lows highs from to) order
+pub record Selected (table : List ℕ) (from to : ℕ) (order after : List ℕ) (r : ℕ) : Type 0 where
+  pub front : take r after ≡ passing (reaching table from to) order
   pub few : r ≤ length order
   pub inside : r ≤ length after

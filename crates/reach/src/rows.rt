@@ -1,69 +1,106 @@
-// The rows of a window that a patch can be met in.
+// The rows of a raster that a patch can be met in.
+use checked::corner_run;
 use format::layout::Layout;
+use geometry::Raster;
 use geometry::Vector;
-use geometry::from_to;
+use geometry::eye_product;
 use spans::Span;
-use spans::clip_edge;
-use walk::scene::corner_run;
-use walk::scene::tree_corner;
-ghost use mathlib.Core.List.{map};
-ghost use Prim.Native.Nat.{ℕ, _+_, _≤_, _<_};
-ghost use lib.IntN.{pos, negℤ, _-ℤ_, _*ℤ_};
-ghost use Rattle.integer.specs.Magnitude.{Within};
-ghost use Rattle.model.specs.Lists.{range};
-ghost use Rattle.model.specs.Vector.{vec};
+use spans::clip;
+ghost use Rattle.model.specs.Vector.{cross};
 ghost use Rattle.model.specs.Format.{decode, patchNumbered};
-ghost use Rattle.model.proofs.Patches.{Proper};
 ghost use Rattle.geometry.specs.Machine.{vecOf, Bounded, VectorIs};
-ghost use Rattle.format.specs.Layout.{cornerNumber};
-ghost use Rattle.walk.specs.Walked.{Walkable};
-ghost use Rattle.reach.specs.Reach.{Beside, Without, Reach, Limited};
+ghost use Rattle.geometry.specs.Raster.{RasterBounded};
+ghost use Rattle.spans.specs.Span.{Shaped, Linear, Clipped};
+ghost use Rattle.reach.specs.Reach.{PlanesOf, SidesShaped, SidesClipped, SidesBeside, Without, Sighting, Reach, Limited};
 
-// A normal of row 0's plane: with sign 1 it points down, with −1 up. From row to row it changes by (0, −2 · sign, 0).
-fn first_normal(height: u16, lens: u16, sign: i64) -> Vector
-    requires { ⌜ Within 1 sign ⌝ }
-    ensures { λ r. ⌜ VectorIs 563000 (vec (pos 0) (sign *ℤ (pos height -ℤ pos 1)) (sign *ℤ negℤ (pos lens))) r ⌝ }
+// The planes that the rows of a raster lie in, with the eye, by their normals: first + j · next in row j.
+pub struct Planes {
+    pub first: Vector,
+    pub next: Vector,
+}
+
+// The rows in which every corner lies ahead of the row's plane, where its normal points to, and those in which every corner lies behind it.
+struct Sides {
+    ahead: Span,
+    behind: Span,
+}
+
+// u × v, of vectors of a raster
+fn cross_product(u: Vector, v: Vector) -> Vector
+    requires { ⌜ Bounded 200 u × Bounded 563000 v ⌝ }
+    ensures { λ r. ⌜ VectorIs 225200000 (cross (vecOf u) (vecOf v)) r ⌝ }
 {
     Vector {
-        x: 0,
-        y: sign * ((height as i64) - 1),
-        z: sign * (0 - (lens as i64)),
+        x: integer::cross_part(u.y, v.z, u.z, v.y),
+        y: integer::cross_part(u.z, v.x, u.x, v.z),
+        z: integer::cross_part(u.x, v.y, u.y, v.x),
     }
 }
 
-// The rows in which every corner of a run lies on the side that the row's normal, base + j · step in row j, points to.
+pub fn row_planes(raster: Raster) -> Planes
+    requires { ⌜ RasterBounded raster ⌝ }
+    ensures { λ r. ⌜ PlanesOf raster r ⌝ }
+{
+    Planes {
+        first: cross_product(raster.across, raster.origin),
+        next: cross_product(raster.across, raster.down),
+    }
+}
+
+// the span's rows j where slope · j + start is above 0, of any span
+fn clip_any(span: Span, slope: i64, start: i64) -> Span
+    requires { ⌜ Shaped 1024 span × Linear slope start ⌝ }
+    ensures { λ r. ⌜ Clipped slope start span r ⌝ }
+{
+    if span.end <= span.first {
+        return span;
+    }
+    clip(span, slope, start)
+}
+
+// One more corner: it lies ahead of row j's plane where slope · j + start is above 0, and behind it where that is below 0.
+fn clip_sides(sides: Sides, slope: i64, start: i64) -> Sides
+    requires { ⌜ SidesShaped 1024 sides × Linear slope start ⌝ }
+    ensures { λ r. ⌜ SidesClipped slope start sides r ⌝ }
+{
+    Sides {
+        ahead: clip_any(sides.ahead, slope, start),
+        behind: clip_any(sides.behind, 0 - slope, 0 - start),
+    }
+}
+
+// the rows whose planes have all corners of a patch on one side
 fn rows_beside(
     bytes: &[u8],
     l: Layout,
-    first: usize,
-    count: usize,
+    k: usize,
     eye: Vector,
-    base: Vector,
-    step: Vector,
-    height: usize,
-) -> Span
-    requires { ⌜ Walkable (now bytes) l × (first + count ≤ l .corners) × Bounded 10000 eye × Bounded 563000 base × Bounded 563000 step
-        × (height ≤ 1024) ⌝ }
-    ensures { λ r. ⌜ Beside (vecOf eye) (vecOf base) (vecOf step) (map (cornerNumber (now (bytes .entry)) l) (range first count)) height r ⌝ }
+    raster: Raster,
+    planes: Planes,
+) -> Sides
+    requires { ⌜ Sighting (now bytes) l k eye raster planes ⌝ }
+    ensures { λ r. ⌜ SidesBeside (vecOf eye) planes (patchNumbered (decode (now (bytes .entry))) k .corners) (raster .height) r ⌝ }
 {
-    let mut span = Span {
+    let run = corner_run(bytes, l, k);
+    let first = run.first;
+    let count = run.count;
+    let all = Span {
         first: 0,
-        end: height,
+        end: raster.height,
     };
-    let mut k = 0;
-    while k < count {
-        if span.end <= span.first {
-            return span;
-        }
-        span = clip_edge(
-            span,
-            base,
-            step,
-            from_to(eye, tree_corner(bytes, l, first + k)),
-        );
-        k += 1;
+    let mut sides = Sides {
+        ahead: all,
+        behind: all,
+    };
+    let mut i = 0;
+    while i < count {
+        let corner = checked::corner(bytes, l, first + i);
+        let start = eye_product(eye, corner, planes.first);
+        let slope = eye_product(eye, corner, planes.next);
+        sides = clip_sides(sides, slope, start);
+        i += 1;
     }
-    span
+    sides
 }
 
 // The rows without those of a span at one of their ends.
@@ -89,33 +126,22 @@ fn without(rows: Span, s: Span) -> Span
 }
 
 // A row whose plane has all corners on one side does not meet the patch: what is left without these is the patch's reach.
-pub fn patch_rows(bytes: &[u8], l: Layout, k: usize, eye: Vector, height: u16, lens: u16) -> Span
-    requires { ⌜ Walkable (now bytes) l × (k < l .patches) × Proper (patchNumbered (decode (now bytes)) k) × Bounded 10000 eye × (height ≤ 1024) ⌝ }
-    ensures reach { λ r. ⌜ ((width : ℕ) → Reach (vecOf eye) (record { width = width; height = height; lens = lens })
-        (patchNumbered (decode (now (bytes .entry))) k) (r .first) (r .end)) ⌝ }
-    ensures limited { λ r. ⌜ Limited height r ⌝ }
+pub fn patch_rows(
+    bytes: &[u8],
+    l: Layout,
+    k: usize,
+    eye: Vector,
+    raster: Raster,
+    planes: Planes,
+) -> Span
+    requires { ⌜ Sighting (now bytes) l k eye raster planes ⌝ }
+    ensures reach { λ r. ⌜ Reach (vecOf eye) raster (patchNumbered (decode (now (bytes .entry))) k) r ⌝ }
+    ensures limited { λ r. ⌜ Limited (raster .height) r ⌝ }
 {
-    let run = corner_run(bytes, l, k);
-    let n = height as usize;
-    let below = rows_beside(
-        bytes,
-        l,
-        run.first,
-        run.count,
-        eye,
-        first_normal(height, lens, 1),
-        Vector { x: 0, y: -2, z: 0 },
-        n,
-    );
-    let above = rows_beside(
-        bytes,
-        l,
-        run.first,
-        run.count,
-        eye,
-        first_normal(height, lens, -1),
-        Vector { x: 0, y: 2, z: 0 },
-        n,
-    );
-    without(without(Span { first: 0, end: n }, below), above)
+    let sides = rows_beside(bytes, l, k, eye, raster, planes);
+    let all = Span {
+        first: 0,
+        end: raster.height,
+    };
+    without(without(all, sides.ahead), sides.behind)
 }

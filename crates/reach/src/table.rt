@@ -1,37 +1,32 @@
-// The reach of each patch of a scene.
-use crate::rows::patch_rows;
-use format::layout::Layout;
-use geometry::Vector;
-ghost use Prim.Native.Nat.{ℕ, _≤_};
-ghost use lib.Dec.{T};
+// A table of rows, two numbers an entry: the first row and the row after the last.
+use spans::Span;
+ghost use mathlib.Core.Path.{_≡_};
+ghost use Prim.Native.Nat.{_+_, _*_, _≤_};
 ghost use lib.ListN.{length};
-ghost use Rattle.model.specs.Format.{decode};
-ghost use Rattle.model.specs.Questions.{patchesProper};
-ghost use Rattle.geometry.specs.Machine.{vecOf, Bounded};
-ghost use Rattle.walk.specs.Walked.{Walkable};
-ghost use Rattle.reach.specs.Reach.{Reaches};
+ghost use Rattle.reach.specs.Reach.{Limited, spanAt, SpanStored};
 
-// For patch k, `lows` has the first row of its reach and `highs` the row after the last.
-pub fn all_rows(
-    bytes: &[u8],
-    l: Layout,
-    eye: Vector,
-    height: u16,
-    lens: u16,
-    lows: &mut [u16],
-    highs: &mut [u16],
-)
-    requires { ⌜ Walkable (now bytes) l × T (patchesProper (decode (now bytes))) × Bounded 10000 eye × (height ≤ 1024)
-        × (l .patches ≤ length (now lows)) × (l .patches ≤ length (now highs)) ⌝ }
-    ensures { λ r. ⌜ ((width : ℕ) → Reaches (now (bytes .entry)) l (vecOf eye) (record { width = width; height = height; lens = lens })
-        (now (lows .exit)) (now (highs .exit))) ⌝ }
+fn wide(n: u16) -> usize
+    ensures { λ r. ⌜ r ≡ n ⌝ }
 {
-    let n = l.patches;
-    let mut k = 0;
-    while k < n {
-        let reach = patch_rows(bytes, l, k, eye, height, lens);
-        lows[k] = reach.first as u16;
-        highs[k] = reach.end as u16;
-        k += 1;
+    n as usize
+}
+
+pub fn span_at(table: &[u16], k: usize) -> Span
+    requires { ⌜ 2 * k + 2 ≤ length (now table) ⌝ }
+    ensures { λ r. ⌜ r ≡ spanAt (now (table .entry)) k ⌝ }
+{
+    let at = 2 * k;
+    Span {
+        first: wide(table[at]),
+        end: wide(table[at + 1]),
     }
+}
+
+pub fn store_span(table: &mut [u16], k: usize, s: Span)
+    requires { ⌜ (2 * k + 2 ≤ length (now table)) × Limited 1024 s ⌝ }
+    ensures { λ r. ⌜ SpanStored (now (table .entry)) (now (table .exit)) k s ⌝ }
+{
+    let at = 2 * k;
+    table[at] = s.first as u16;
+    table[at + 1] = s.end as u16;
 }

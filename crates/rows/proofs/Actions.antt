@@ -12,18 +12,18 @@ use Rattle.rows.specs.Step.{Starts, by-start, inside, beyond, Ends, ahea
 use Rattle.rows.proofs.Table.{obeys, entry}
 
 -- the places a and b of a span's ends can occur together
-abbrev pub possible : ℕ → ℕ → Bool
+abbrev possible : ℕ → ℕ → Bool
 possible a b = cond (eqb a 2) (eqb b 3) (leb a b)
 
 -- the rule of the entry for the places a and b
-abbrev pub rule : ℕ → ℕ → ℕ → Bool
+abbrev rule : ℕ → ℕ → ℕ → Bool
 rule a b code =
     cond (possible a b)
     (Bool·beq (eqb (code % 2) 1) (ltb a 2 && ltb 0 b)
     && (Bool·beq (eqb (code / 2 % 2) 1) (ltb 0 a) && (Bool·beq (eqb (code / 4 % 2) 1) (ltb b 2) && Bool·beq (eqb (code / 8) 1) (eqb b 3))))
     true
 
-abbrev pub test : ℕ → ℕ → Bool
+abbrev test : ℕ → ℕ → Bool
 test k code = rule (k / 4) (k % 4) code
 
 beq-path : (a b : Bool) → T (Bool·beq a b) → a ≡ b

@@ -8,18 +8,17 @@ use native.Mathlib.Omega.{arith}
 use lib.Dec.{T, ltb, ltb→lt, lt→ltb}
 use borrow.Author.Tests.{lt-ltb, le-ltb, le-leb, lt-leb}
 use Rattle.model.specs.Row.{Segment, segments, afterSpan}
-use Rattle.model.proofs.Tests.{both}
+use Rattle.model.proofs.Tests.{lt-or-ge, same-test, both}
 use Rattle.rows.specs.Span.{inSpan}
-use Rattle.rows.specs.Step.{piece, keptBefore, keptAfter, kept}
-use Rattle.rows.proofs.Tests.{lt-or-ge, same-test}
-use Rattle.rows.specs.Segments.{within, Placed, Ordered, none, more}
-use Rattle.rows.proofs.Segments.{lower, member, within-bounds, bounds-within}
+use Rattle.rows.specs.Step.{piece, remainsBefore, remainsAfter, remains}
+use Rattle.rows.specs.Segments.{inSegment, Placed, Ordered, none, more}
+use Rattle.rows.proofs.Segments.{lower, member, column-bounds, bounds-column}
 use Rattle.rows.proofs.Sets.{segments-ordered, segments-member, segments-unique}
 
-pub member-append : (ss ts : List Segment) (i : ℕ) → member (ss ++ ts) i ≡ (member ss i || member ts i)
+member-append : (ss ts : List Segment) (i : ℕ) → member (ss ++ ts) i ≡ (member ss i || member ts i)
 unfolding member
 member-append [] ts i = refl
-member-append (s ∷ ss) ts i = rw (member-append ss ts i) (sym (or-assoc (within s i) (member ss i) (member ts i)))
+member-append (s ∷ ss) ts i = rw (member-append ss ts i) (sym (or-assoc (inSegment s i) (member ss i) (member ts i)))
 
 -- column i against the span
 data Against (first last i : ℕ) : Type 0 where
@@ -41,52 +40,52 @@ span-ahead first last i a = rw (lt-leb first i a)
 pub span-behind : (first last i : ℕ) → last < i → inSpan first last i ≡ false
 span-behind first last i a = rw (lt-leb i last a, and-false)
 
-member-piece : (b : Bool) (s : Segment) (i : ℕ) → member (piece b s) i ≡ (b && within s i)
+member-piece : (b : Bool) (s : Segment) (i : ℕ) → member (piece b s) i ≡ (b && inSegment s i)
 unfolding member
-member-piece true s i = or-false (within s i)
+member-piece true s i = or-false (inSegment s i)
 member-piece false s i = refl
 
-member-before-span : (first : ℕ) (s : Segment) (i : ℕ) → member (keptBefore first s) i ≡ (within s i && ltb i first)
-unfolding keptBefore
+member-before-span : (first : ℕ) (s : Segment) (i : ℕ) → member (remainsBefore first s) i ≡ (inSegment s i && ltb i first)
+unfolding remainsBefore
 member-before-span first s i =
     member-piece (ltb (s .offset) first) p i
-    ∙ same-test (ltb (s .offset) first && within p i) (within s i && ltb i first)
+    ∙ same-test (ltb (s .offset) first && inSegment p i) (inSegment s i && ltb i first)
     (λ t.
-    let a = both (ltb (s .offset) first) (within p i) .0 t in
-    let b = within-bounds p i (a .1) in
+    let a = both (ltb (s .offset) first) (inSegment p i) .0 t in
+    let b = column-bounds p i (a .1) in
     let c = ltb→lt (s .offset) first (a .0) in
-    both (within s i) (ltb i first) .1 (bounds-within s i (omega arith) (omega arith), lt→ltb i first (omega arith)))
+    both (inSegment s i) (ltb i first) .1 (bounds-column s i (omega arith) (omega arith), lt→ltb i first (omega arith)))
     (λ t.
-    let a = both (within s i) (ltb i first) .0 t in
-    let b = within-bounds s i (a .0) in
+    let a = both (inSegment s i) (ltb i first) .0 t in
+    let b = column-bounds s i (a .0) in
     let c = ltb→lt i first (a .1) in
-    both (ltb (s .offset) first) (within p i) .1 (lt→ltb (s .offset) first (omega arith), bounds-within p i (omega arith) (omega arith)))
+    both (ltb (s .offset) first) (inSegment p i) .1 (lt→ltb (s .offset) first (omega arith), bounds-column p i (omega arith) (omega arith)))
   where
     p : Segment
     p = record { offset = s .offset; count = min (first - s .offset) (s .count) }
 
-member-after-span : (last : ℕ) (s : Segment) (i : ℕ) → member (keptAfter last s) i ≡ (within s i && ltb last i)
-unfolding keptAfter
+member-after-span : (last : ℕ) (s : Segment) (i : ℕ) → member (remainsAfter last s) i ≡ (inSegment s i && ltb last i)
+unfolding remainsAfter
 member-after-span last s i =
     member-piece (ltb (suc last) (s .offset + s .count)) p i
-    ∙ same-test (ltb (suc last) (s .offset + s .count) && within p i) (within s i && ltb last i)
+    ∙ same-test (ltb (suc last) (s .offset + s .count) && inSegment p i) (inSegment s i && ltb last i)
     (λ t.
-    let a = both (ltb (suc last) (s .offset + s .count)) (within p i) .0 t in
-    let b = within-bounds p i (a .1) in
+    let a = both (ltb (suc last) (s .offset + s .count)) (inSegment p i) .0 t in
+    let b = column-bounds p i (a .1) in
     let c = ltb→lt (suc last) (s .offset + s .count) (a .0) in
-    both (within s i) (ltb last i) .1 (bounds-within s i (omega arith) (omega arith), lt→ltb last i (omega arith)))
+    both (inSegment s i) (ltb last i) .1 (bounds-column s i (omega arith) (omega arith), lt→ltb last i (omega arith)))
     (λ t.
-    let a = both (within s i) (ltb last i) .0 t in
-    let b = within-bounds s i (a .0) in
+    let a = both (inSegment s i) (ltb last i) .0 t in
+    let b = column-bounds s i (a .0) in
     let c = ltb→lt last i (a .1) in
-    both (ltb (suc last) (s .offset + s .count)) (within p i) .1 (lt→ltb (suc last) (s .offset + s .count) (omega arith), bounds-within p i (omega arith) (omega arith)))
+    both (ltb (suc last) (s .offset + s .count)) (inSegment p i) .1 (lt→ltb (suc last) (s .offset + s .count) (omega arith), bounds-column p i (omega arith) (omega arith)))
   where
     p : Segment
     p = record { offset = max (s .offset) (suc last); count = s .offset + s .count - max (s .offset) (suc last) }
 
 unfoldable pub cut : ℕ → ℕ → List Segment → List Segment
 cut first last [] = []
-cut first last (s ∷ ss) = kept first last s ++ cut first last ss
+cut first last (s ∷ ss) = remains first last s ++ cut first last ss
 
 outside : (first last i : ℕ) → not (inSpan first last i) ≡ (ltb i first || ltb last i)
 outside first last i = go (against first last i)
@@ -96,20 +95,20 @@ outside first last i = go (against first last i)
     go (covered a b) = rw (le-leb first i a, le-leb i last b, le-ltb i first a, le-ltb last i b)
     go (behind a b) = rw (lt-leb i last b, and-false, lt-ltb last i b, or-true)
 
-member-kept : (first last : ℕ) (s : Segment) (i : ℕ) → member (kept first last s) i ≡ (within s i && not (inSpan first last i))
-unfolding kept
-member-kept first last s i =
-    member-append (keptBefore first s) (keptAfter last s) i
+member-remains : (first last : ℕ) (s : Segment) (i : ℕ) → member (remains first last s) i ≡ (inSegment s i && not (inSpan first last i))
+unfolding remains
+member-remains first last s i =
+    member-append (remainsBefore first s) (remainsAfter last s) i
     ∙ rw (member-before-span first s i, member-after-span last s i, outside first last i)
-    (sym (and-or-distrib-left (within s i) (ltb i first) (ltb last i)))
+    (sym (and-or-distrib-left (inSegment s i) (ltb i first) (ltb last i)))
 
 member-cut : (first last : ℕ) (ss : List Segment) (i : ℕ) → member (cut first last ss) i ≡ (member ss i && not (inSpan first last i))
 unfolding cut member
 member-cut first last [] i = refl
 member-cut first last (s ∷ ss) i =
-    member-append (kept first last s) (cut first last ss) i
-    ∙ rw (member-kept first last s i, member-cut first last ss i)
-    (sym (and-or-distrib-right (within s i) (member ss i) (not (inSpan first last i))))
+    member-append (remains first last s) (cut first last ss) i
+    ∙ rw (member-remains first last s i, member-cut first last ss i)
+    (sym (and-or-distrib-right (inSegment s i) (member ss i) (not (inSpan first last i))))
 
 -- a piece before further segments
 piece-ordered :
@@ -119,11 +118,11 @@ piece-ordered :
 piece-ordered low true s high p h o = more low s (p tt .0) (lower (suc (s .offset + s .count)) (p tt .1) o)
 piece-ordered low false s high p h o = lower low h o
 
-pub kept-ordered :
+pub remains-ordered :
     {width : ℕ} (low first last : ℕ) → first ≤ last → (s : Segment) {ss : List Segment} → Placed width low s →
-    Ordered width (suc (s .offset + s .count)) ss → Ordered width low (kept first last s ++ ss)
-unfolding kept keptBefore keptAfter
-kept-ordered {width} low first last h s {ss} p o =
+    Ordered width (suc (s .offset + s .count)) ss → Ordered width low (remains first last s ++ ss)
+unfolding remains remainsBefore remainsAfter
+remains-ordered {width} low first last h s {ss} p o =
     let end : ℕ = s .offset + s .count in
     let start : ℕ = max (s .offset) (suc last) in
     let high : ℕ = min start (suc end) in
@@ -141,7 +140,7 @@ cut-ordered :
     Ordered width low (cut first last ss)
 unfolding cut
 cut-ordered first last h none = none
-cut-ordered first last h (more low s p o) = kept-ordered low first last h s p (cut-ordered first last h o)
+cut-ordered first last h (more low s p o) = remains-ordered low first last h s p (cut-ordered first last h o)
 
 -- the segments of what a span leaves
 pub segments-cut :

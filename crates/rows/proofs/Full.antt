@@ -12,14 +12,14 @@ use Rattle.model.specs.Lists.{any, range}
 use Rattle.model.specs.Row.{Segment, segments, numbersOf, rowOf, afterSpan}
 use Rattle.rows.specs.Span.{inSpan, allLit, Lays, Reports}
 use Rattle.rows.specs.Segments.{Ordered, none, more}
-use Rattle.rows.proofs.Tests.{lt-or-ge}
-use Rattle.rows.proofs.Segments.{member, within-inside}
+use Rattle.model.proofs.Tests.{lt-or-ge}
+use Rattle.rows.proofs.Segments.{member, column-inside}
 use Rattle.rows.proofs.Sets.{segments-ordered, segments-member, segments-unique}
 use Rattle.rows.proofs.Rows.{zeros, row-parts, row-congr}
 use Rattle.rows.proofs.Cut.{span-ahead, span-behind}
 use Rattle.rows.proofs.Painting.{painted-none}
 
-pub any-none : (unlit : ℕ → Bool) (n i : ℕ) → ((j : ℕ) → i ≤ j → j < i + n → unlit j ≡ false) → any unlit (range i n) ≡ false
+any-none : (unlit : ℕ → Bool) (n i : ℕ) → ((j : ℕ) → i ≤ j → j < i + n → unlit j ≡ false) → any unlit (range i n) ≡ false
 any-none unlit zero i clear = refl
 any-none unlit (suc n) i clear = rw (clear i (omega arith) (omega arith)) (any-none unlit n (suc i) (λ j h l. clear j (omega arith) (omega arith)))
 
@@ -50,7 +50,7 @@ first-length width fits unlit =
     go (s ∷ ss) n (more _ _ p o) same =
         rw (
           ne-eqb (s .count) 0 (λ e. omega arith),
-          any-some unlit width 0 (s .offset) (omega arith) (omega arith) (sym (same (s .offset) (omega arith)) ∙ rw (within-inside s (s .offset) (omega arith) (omega arith))),
+          any-some unlit width 0 (s .offset) (omega arith) (omega arith) (sym (same (s .offset) (omega arith)) ∙ rw (column-inside s (s .offset) (omega arith) (omega arith))),
         )
 
 pub reports :
@@ -64,7 +64,7 @@ all-columns : (n : ℕ) → segments (suc n) (λ (i : ℕ). true) ≡ record { o
 unfolding member
 all-columns n =
     let s : Segment = record { offset = 0; count = suc n } in
-    segments-unique (suc n) (λ (i : ℕ). true) (s ∷ []) (more 0 s (omega arith) none) (λ i h. sym (rw (within-inside s i (omega arith) (omega arith))))
+    segments-unique (suc n) (λ (i : ℕ). true) (s ∷ []) (more 0 s (omega arith) none) (λ i h. sym (rw (column-inside s i (omega arith) (omega arith))))
 
 pub fresh-row : (width : ℕ) → set (zeros 256) 1 width ≡ rowOf width (λ (i : ℕ). true)
 unfolding rowOf numbersOf

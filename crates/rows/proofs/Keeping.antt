@@ -8,7 +8,7 @@ use lib.ListN.{length, length-append}
 use borrow.Author.Tests.{lt-ltb, le-ltb, ltb-true, ltb-false}
 use Rattle.model.specs.Row.{Segment, numbersOf}
 use Rattle.rows.specs.Segments.{rowFrom, segmentAt, written, Holds, Reads}
-use Rattle.rows.specs.Step.{keptBefore, keptAfter, kept, Inserts, Removes, Overlaps, Keeps}
+use Rattle.rows.specs.Step.{remainsBefore, remainsAfter, remains, Inserts, Removes, Overlaps, Keeps}
 use Rattle.rows.proofs.Segments.{segment-path, lower, tail-ordered, head-placed}
 use Rattle.rows.proofs.Numbers.{shaped, shape-row, pair-written}
 use Rattle.rows.proofs.Moves.{read-here, further}
@@ -23,7 +23,7 @@ module _ {width k : ℕ} {row : List ℕ} {done : List Segment} {s : Segment} {r
       (read-here done s _ k (held .place))
 
   -- another segment in its place
-  pub held-written : (t : Segment) → written row k t ≡ rowFrom (done ++ t ∷ rest)
+  held-written : (t : Segment) → written row k t ≡ rowFrom (done ++ t ∷ rest)
   unfolding numbersOf
   held-written t =
       let sh = shaped done (s ∷ rest) (held .few) in
@@ -37,37 +37,37 @@ one p q = ap (λ (x : Segment). x ∷ []) (segment-path p q)
 module _ (first last : ℕ) (s : Segment) where
   before-some :
       s .offset < first → first < s .offset + s .count →
-      keptBefore first s ≡ record { offset = s .offset; count = first - s .offset } ∷ []
-  unfolding keptBefore
+      remainsBefore first s ≡ record { offset = s .offset; count = first - s .offset } ∷ []
+  unfolding remainsBefore
   before-some h l = rw (lt-ltb (s .offset) first h) (one refl (omega arith))
 
-  pub before-none : first ≤ s .offset → keptBefore first s ≡ []
-  unfolding keptBefore
+  pub before-none : first ≤ s .offset → remainsBefore first s ≡ []
+  unfolding remainsBefore
   before-none h = rw (le-ltb (s .offset) first h)
 
-  pub before-all : 0 < s .count → s .offset + s .count ≤ first → keptBefore first s ≡ s ∷ []
-  unfolding keptBefore
+  pub before-all : 0 < s .count → s .offset + s .count ≤ first → remainsBefore first s ≡ s ∷ []
+  unfolding remainsBefore
   before-all h l = rw (lt-ltb (s .offset) first (omega arith)) (one refl (omega arith))
 
   after-some :
       s .offset ≤ last → suc last < s .offset + s .count →
-      keptAfter last s ≡ record { offset = last + 1; count = s .offset + s .count - (last + 1) } ∷ []
-  unfolding keptAfter
+      remainsAfter last s ≡ record { offset = last + 1; count = s .offset + s .count - (last + 1) } ∷ []
+  unfolding remainsAfter
   after-some h l = rw (lt-ltb (suc last) (s .offset + s .count) l) (one (omega arith) (omega arith))
 
-  pub after-none : s .offset + s .count ≤ suc last → keptAfter last s ≡ []
-  unfolding keptAfter
+  pub after-none : s .offset + s .count ≤ suc last → remainsAfter last s ≡ []
+  unfolding remainsAfter
   after-none h = rw (le-ltb (suc last) (s .offset + s .count) h)
 
-  pub after-all : 0 < s .count → last < s .offset → keptAfter last s ≡ s ∷ []
-  unfolding keptAfter
+  pub after-all : 0 < s .count → last < s .offset → remainsAfter last s ≡ s ∷ []
+  unfolding remainsAfter
   after-all h l = rw (lt-ltb (suc last) (s .offset + s .count) (omega arith)) (one (omega arith) (omega arith))
 
 -- a segment's columns before the span, and those after it
-abbrev pub prior : ℕ → ℕ → Segment
+abbrev prior : ℕ → ℕ → Segment
 prior first offset = record { offset = offset; count = first - offset }
 
-abbrev pub later : ℕ → ℕ → ℕ → Segment
+abbrev later : ℕ → ℕ → ℕ → Segment
 later last offset count = record { offset = last + 1; count = offset + count - (last + 1) }
 
 -- the segment of pair k, as it was read
@@ -84,33 +84,33 @@ module _
   read-held held = sym (held-segment held) ∙ read-segment r
 
   -- the segments that the span leaves, given as a list
-  by-list : (ts : List Segment) (row′ : List ℕ) → kept first last s ≡ ts →
+  by-list : (ts : List Segment) (row′ : List ℕ) → remains first last s ≡ ts →
       ((width : ℕ) (done rest : List Segment) → Holds width k row done (s ∷ rest) →
       length done + length (ts ++ rest) ≤ 128 → row′ ≡ rowFrom (done ++ (ts ++ rest))) → Keeps k first last row row′
   by-list ts row′ e all =
       record {
         keeps = λ width done t rest held few.
             let q : t ≡ s = read-held held in
-            let f : kept first last t ≡ ts = ap (kept first last) q ∙ e in
+            let f : remains first last t ≡ ts = ap (remains first last) q ∙ e in
             rw f (all width done rest (rw q at held) (rw f at few));
       }
 
   pub starts-after : before ≡ true → offset < first
   starts-after b = ltb-true offset first (sym (met .before-is) ∙ b)
 
-  pub starts-by : before ≡ false → first ≤ offset
+  starts-by : before ≡ false → first ≤ offset
   starts-by b = ltb-false offset first (sym (met .before-is) ∙ b)
 
   pub ends-before : after ≡ true → suc last < offset + count
   ends-before a = ltb-true (suc last) (offset + count) (sym (met .after-is) ∙ a)
 
-  pub ends-by : after ≡ false → offset + count ≤ suc last
+  ends-by : after ≡ false → offset + count ≤ suc last
   ends-by a = ltb-false (suc last) (offset + count) (sym (met .after-is) ∙ a)
 
   pub keeps-both :
       before ≡ true → after ≡ true → {row₁ row′ : List ℕ} → row₁ ≡ written row k (prior first offset) →
       Inserts (k + 1) (later last offset count) row₁ row′ → Keeps k first last row row′
-  unfolding kept
+  unfolding remains
   keeps-both b a {row₁} {row′} w i =
       by-list (prior first offset ∷ later last offset count ∷ []) row′
       (rw (before-some first last s (starts-after b) (met .starts), after-some first last s (met .ends) (ends-before a)))
@@ -130,7 +130,7 @@ module _
   pub keeps-before :
       before ≡ true → after ≡ false → {row′ : List ℕ} → row′ ≡ written row k (prior first offset) →
       Keeps k first last row row′
-  unfolding kept
+  unfolding remains
   keeps-before b a {row′} w =
       by-list (prior first offset ∷ []) row′
       (rw (before-some first last s (starts-after b) (met .starts), after-none first last s (ends-by a)))
@@ -139,14 +139,14 @@ module _
   pub keeps-after :
       before ≡ false → after ≡ true → {row′ : List ℕ} → row′ ≡ written row k (later last offset count) →
       Keeps k first last row row′
-  unfolding kept
+  unfolding remains
   keeps-after b a {row′} w =
       by-list (later last offset count ∷ []) row′
       (rw (before-none first last s (starts-by b), after-some first last s (met .ends) (ends-before a)))
       (λ width done rest held few. w ∙ held-written held (later last offset count))
 
   pub keeps-none : before ≡ false → after ≡ false → {row′ : List ℕ} → Removes k row row′ → Keeps k first last row row′
-  unfolding kept
+  unfolding remains
   keeps-none b a {row′} w =
       by-list [] row′
       (rw (before-none first last s (starts-by b), after-none first last s (ends-by a)))

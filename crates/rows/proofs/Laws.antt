@@ -23,15 +23,3 @@ row-laid {first} {last} {panel} {row} {cells} {row′} {cells′} r lays =
     let l = lays (r .unlit) (r .row-is) in
     let e : length cells ≡ length cells′ = sym (ap length (l .cells-are) ∙ painted-length _ panel cells) in
     record { fits = rw e at (r .fits); unlit = afterSpan (r .unlit) first last; row-is = l .row-is ∙ rw e }
-
-pub row-numbers : {width : ℕ} {row : List ℕ} → Row width row → length row ≡ 256
-row-numbers {width} r = rw (r .row-is) (row-length width (r .unlit))
-
--- in a full row no column is unlit
-pub all-lit : (width : ℕ) (unlit : ℕ → Bool) → allLit width unlit ≡ true → (i : ℕ) → i < width → unlit i ≡ false
-unfolding allLit
-all-lit width unlit full i h = go (unlit i) refl
-  where
-    go : (t : Bool) → unlit i ≡ t → t ≡ false
-    go true e = sym (rw (any-some unlit width 0 i (omega arith) (omega arith) e) at full)
-    go false e = refl

@@ -12,7 +12,8 @@ use lib.ListN.{length, getD, set, length-set}
 use lib.Seq.{ext-getD, getD-set-same, getD-set-other}
 use borrow.Author.Tests.{lt-ltb, le-ltb, le-leb, lt-leb}
 use Rattle.rows.specs.Span.{inSpan, paintedFrom, painted}
-use Rattle.rows.proofs.Tests.{lt-or-ge, same-le}
+use Rattle.model.proofs.Tests.{lt-or-ge}
+use Rattle.rows.proofs.Tests.{same-le}
 
 from-length : (i : ℕ) (columns : ℕ → Bool) (panel : ℕ) (cells : List ℕ) → length (paintedFrom i columns panel cells) ≡ length cells
 unfolding paintedFrom
@@ -37,7 +38,7 @@ pub painted-at :
 painted-at columns panel cells j h = from-at 0 columns panel cells j h ∙ rw (zero-add j)
 
 -- cells that are as the columns say are the painted row
-pub painted-is :
+painted-is :
     (columns : ℕ → Bool) (panel : ℕ) (cells cells′ : List ℕ) → length cells′ ≡ length cells →
     ((j : ℕ) → j < length cells → getD cells′ j 0 ≡ cond (columns j) panel (getD cells j 0)) →
     cells′ ≡ painted columns panel cells

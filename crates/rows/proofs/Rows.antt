@@ -9,7 +9,7 @@ use borrow.Author.Tests.{lt-ltb}
 use lib.ListN.{length, take, replicate, length-append, length-take, length-replicate, replicate-append-replicate}
 use lib.Seq.{take-append-add, take-at}
 use Rattle.model.specs.Row.{Segment, segments, numbersOf, rowOf, inPairs, usedPairs, Describes}
-use Rattle.rows.specs.Segments.{within, Ordered, none, more, rowFrom}
+use Rattle.rows.specs.Segments.{inSegment, Ordered, none, more, rowFrom}
 use Rattle.rows.proofs.Segments.{member}
 use Rattle.rows.proofs.Sets.{segments-ordered, segments-columns, segments-congr, few}
 
@@ -26,21 +26,21 @@ numbers-append (s ∷ ss) ts = rw (numbers-append ss ts)
 abbrev pub zeros : ℕ → List ℕ
 zeros n = replicate n 0
 
-pub take-zeros : (n m : ℕ) → n ≤ m → take n (zeros m) ≡ zeros n
+take-zeros : (n m : ℕ) → n ≤ m → take n (zeros m) ≡ zeros n
 take-zeros n m h =
     let e : m ≡ n + (m - n) = omega arith in
     ap (λ (k : ℕ). take n (zeros k)) e ∙ rw (← replicate-append-replicate n (m - n) (ℕ.zero)) (take-at (zeros n) (zeros (m - n)) n (length-replicate n 0))
 
 -- numbers that are filled up with zeros
-pub filled-up : (m : ℕ) (xs : List ℕ) → length xs ≤ m → take m (xs ++ zeros m) ≡ xs ++ zeros (m - length xs)
+filled-up : (m : ℕ) (xs : List ℕ) → length xs ≤ m → take m (xs ++ zeros m) ≡ xs ++ zeros (m - length xs)
 filled-up m xs h =
     let e : m ≡ length xs + (m - length xs) = omega arith in
     ap (λ (k : ℕ). take k (xs ++ zeros m)) e ∙ take-append-add xs (zeros m) (m - length xs) ∙ rw (take-zeros (m - length xs) m (omega arith))
 
-pub filled-length : (m : ℕ) (xs : List ℕ) → length (take m (xs ++ zeros m)) ≡ m
+filled-length : (m : ℕ) (xs : List ℕ) → length (take m (xs ++ zeros m)) ≡ m
 filled-length m xs = simp (length-take, length-append, length-replicate) (omega arith)
 
-pub rowFrom-length : (ss : List Segment) → length (rowFrom ss) ≡ 256
+rowFrom-length : (ss : List Segment) → length (rowFrom ss) ≡ 256
 unfolding rowFrom
 rowFrom-length ss = filled-length 256 (numbersOf ss)
 
@@ -60,14 +60,14 @@ unfolding usedPairs
 used-pair offset zero row h = absurd (omega arith)
 used-pair offset (suc count) row h = refl
 
-pub used-filled : {width low : ℕ} {ss : List Segment} (n : ℕ) → Ordered width low ss → usedPairs (numbersOf ss ++ zeros n) ≡ numbersOf ss
+used-filled : {width low : ℕ} {ss : List Segment} (n : ℕ) → Ordered width low ss → usedPairs (numbersOf ss ++ zeros n) ≡ numbersOf ss
 unfolding numbersOf
 used-filled n none = used-zeros n
 used-filled n (more low s {ss = rest} p o) =
     used-pair (s .offset) (s .count) (numbersOf rest ++ zeros n) (p .filled) ∙ rw (used-filled n o)
 
 pairs-member : (ss : List Segment) (i : ℕ) → inPairs (numbersOf ss) i ≡ member ss i
-unfolding inPairs numbersOf member within
+unfolding inPairs numbersOf member inSegment
 pairs-member [] i = refl
 pairs-member (s ∷ ss) i = rw (pairs-member ss i)
 
@@ -79,7 +79,7 @@ module _ (width : ℕ) (fits : width ≤ 256) (unlit : ℕ → Bool) where
   unfolding rowOf rowFrom
   row-parts = rowFrom-parts (segments width unlit) segments-few
 
-  pub row-used : usedPairs (rowOf width unlit) ≡ numbersOf (segments width unlit)
+  row-used : usedPairs (rowOf width unlit) ≡ numbersOf (segments width unlit)
   row-used = ap usedPairs row-parts ∙ used-filled (256 - 2 * length (segments width unlit)) (segments-ordered width unlit)
 
   pub row-describes : Describes width unlit (rowOf width unlit)

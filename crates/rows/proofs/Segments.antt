@@ -10,9 +10,8 @@ use lib.ListN.{length}
 use borrow.Author.Tests.{eqb-true, eqb-false, eq-eqb, ne-eqb, le-leb, lt-leb, lt-ltb, le-ltb}
 use Rattle.model.specs.Lists.{range}
 use Rattle.model.specs.Row.{Segment, joined, segmentsFrom}
-use Rattle.model.proofs.Tests.{both}
-use Rattle.rows.specs.Segments.{within, Placed, Ordered, none, more}
-use Rattle.rows.proofs.Tests.{lt-or-ge}
+use Rattle.model.proofs.Tests.{lt-or-ge, both}
+use Rattle.rows.specs.Segments.{inSegment, Placed, Ordered, none, more}
 
 pub lower : {width low : ℕ} (low′ : ℕ) {ss : List Segment} → low′ ≤ low → Ordered width low ss → Ordered width low′ ss
 lower low′ h none = none
@@ -50,50 +49,50 @@ segmentsFrom-ordered i width (false ∷ us) h = lower i (omega arith) (segmentsF
 -- column i lies in one of the segments
 unfoldable pub member : List Segment → ℕ → Bool
 member [] i = false
-member (s ∷ ss) i = within s i || member ss i
+member (s ∷ ss) i = inSegment s i || member ss i
 
-pub within-inside : (s : Segment) (i : ℕ) → s .offset ≤ i → i < s .offset + s .count → within s i ≡ true
-unfolding within
-within-inside s i a b = rw (le-leb (s .offset) i a, lt-ltb i (s .offset + s .count) b)
+pub column-inside : (s : Segment) (i : ℕ) → s .offset ≤ i → i < s .offset + s .count → inSegment s i ≡ true
+unfolding inSegment
+column-inside s i a b = rw (le-leb (s .offset) i a, lt-ltb i (s .offset + s .count) b)
 
-pub within-before : (s : Segment) (i : ℕ) → i < s .offset → within s i ≡ false
-unfolding within
-within-before s i a = rw (lt-leb (s .offset) i a)
+column-before : (s : Segment) (i : ℕ) → i < s .offset → inSegment s i ≡ false
+unfolding inSegment
+column-before s i a = rw (lt-leb (s .offset) i a)
 
-pub within-after : (s : Segment) (i : ℕ) → s .offset + s .count ≤ i → within s i ≡ false
-unfolding within
-within-after s i a = rw (le-ltb i (s .offset + s .count) a, and-false)
+pub column-after : (s : Segment) (i : ℕ) → s .offset + s .count ≤ i → inSegment s i ≡ false
+unfolding inSegment
+column-after s i a = rw (le-ltb i (s .offset + s .count) a, and-false)
 
-pub within-tail :
+pub column-tail :
     (s t : Segment) (i : ℕ) → s .offset ≤ i → t .offset ≤ i → s .offset + s .count ≡ t .offset + t .count →
-    within s i ≡ within t i
-unfolding within
-within-tail s t i a b e = rw (le-leb (s .offset) i a, le-leb (t .offset) i b, e)
+    inSegment s i ≡ inSegment t i
+unfolding inSegment
+column-tail s t i a b e = rw (le-leb (s .offset) i a, le-leb (t .offset) i b, e)
 
-pub within-bounds : (s : Segment) (i : ℕ) → T (within s i) → (s .offset ≤ i) × (i < s .offset + s .count)
-unfolding within
-within-bounds s i t =
+pub column-bounds : (s : Segment) (i : ℕ) → T (inSegment s i) → (s .offset ≤ i) × (i < s .offset + s .count)
+unfolding inSegment
+column-bounds s i t =
     let b : T (leb (s .offset) i) × T (ltb i (s .offset + s .count)) = both (leb (s .offset) i) (ltb i (s .offset + s .count)) .0 t in
     (leb→le (s .offset) i (b .0), ltb→lt i (s .offset + s .count) (b .1))
 
-pub bounds-within : (s : Segment) (i : ℕ) → s .offset ≤ i → i < s .offset + s .count → T (within s i)
-unfolding within
-bounds-within s i a b = both (leb (s .offset) i) (ltb i (s .offset + s .count)) .1 (le→leb (s .offset) i a, lt→ltb i (s .offset + s .count) b)
+pub bounds-column : (s : Segment) (i : ℕ) → s .offset ≤ i → i < s .offset + s .count → T (inSegment s i)
+unfolding inSegment
+bounds-column s i a b = both (leb (s .offset) i) (ltb i (s .offset + s .count)) .1 (le→leb (s .offset) i a, lt→ltb i (s .offset + s .count) b)
 
 -- no column below the segments is in one
 pub member-before : {width low : ℕ} {ss : List Segment} (i : ℕ) → i < low → Ordered width low ss → member ss i ≡ false
 unfolding member
 member-before i h none = refl
-member-before i h (more low s p o) = rw (within-before s i (omega arith), member-before i (omega arith) o)
+member-before i h (more low s p o) = rw (column-before s i (omega arith), member-before i (omega arith) o)
 
 -- and none from the width on
 pub member-beyond : {width low : ℕ} {ss : List Segment} (i : ℕ) → width ≤ i → Ordered width low ss → member ss i ≡ false
 unfolding member
 member-beyond i h none = refl
-member-beyond i h (more low s p o) = rw (within-after s i (omega arith), member-beyond i h o)
+member-beyond i h (more low s p o) = rw (column-after s i (omega arith), member-beyond i h o)
 
 -- A set of columns has one list of segments: a list in order whose columns are the set's is the set's.
-abbrev pub Agree : (ℕ → Bool) → List Segment → ℕ → ℕ → Type 0
+abbrev Agree : (ℕ → Bool) → List Segment → ℕ → ℕ → Type 0
 Agree unlit ss i end = (j : ℕ) → i ≤ j → j < end → unlit j ≡ member ss j
 
 pub segment-path : {s t : Segment} → s .offset ≡ t .offset → s .count ≡ t .count → s ≡ t
@@ -135,12 +134,12 @@ module _ (i n end : ℕ) (unlit : ℕ → Bool) where
   unfolding Rest member
   first-here ih s ss at zero e p o agree =
       let after : Ordered end (suc (suc i)) ss = lower (suc (suc i)) (omega arith) o in
-      rw (ih ss (lower (suc i) (omega arith) after) (λ j h k. agree j (omega arith) k ∙ rw (within-after s j (omega arith))))
+      rw (ih ss (lower (suc i) (omega arith) after) (λ j h k. agree j (omega arith) k ∙ rw (column-after s j (omega arith))))
       (joined-apart i ss after ∙ ap (λ (t : Segment). t ∷ ss) (segment-path at (sym e)))
   first-here ih s ss at (suc c) e p o agree =
       let t : Segment = record { offset = suc i; count = suc c } in
       let same : s .offset + s .count ≡ suc i + suc c = omega arith in
-      rw (ih (t ∷ ss) (more (suc i) t (omega arith) (rw same at o)) (λ j h k. agree j (omega arith) k ∙ rw (within-tail s t j (omega arith) h same)))
+      rw (ih (t ∷ ss) (more (suc i) t (omega arith) (rw same at o)) (λ j h k. agree j (omega arith) k ∙ rw (column-tail s t j (omega arith) h same)))
       (joined-touching i (suc c) ss ∙ ap (λ (x : Segment). x ∷ ss) (segment-path at (sym e)))
 
   step : Rest → (ss : List Segment) → Ordered end i ss → Agree unlit ss i end → i < end → segmentsFrom i (map unlit (range i (suc n))) ≡ ss
@@ -155,7 +154,7 @@ module _ (i n end : ℕ) (unlit : ℕ → Bool) where
       go (inr from) =
           let at : i ≡ s .offset = omega arith in
           let c : ℕ = pred (s .count) in
-          unlit-here (agree i (omega arith) h ∙ rw (within-inside s i (omega arith) (omega arith)))
+          unlit-here (agree i (omega arith) h ∙ rw (column-inside s i (omega arith) (omega arith)))
           ∙ first-here ih s ss at c (omega arith) p o agree
 
 pub determined :

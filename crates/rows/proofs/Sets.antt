@@ -10,10 +10,10 @@ use lib.ListN.{length, length-map}
 use borrow.Author.Tests.{eqb-true, lt-ltb, le-ltb}
 use Rattle.model.specs.Lists.{range}
 use Rattle.model.specs.Row.{Segment, joined, segmentsFrom, segments}
-use Rattle.rows.proofs.Tests.{lt-or-ge}
+use Rattle.model.proofs.Tests.{lt-or-ge}
 use Rattle.model.proofs.Ranges.{range-length}
 use Rattle.rows.specs.Segments.{Ordered, none, more}
-use Rattle.rows.proofs.Segments.{member, within-inside, within-after, within-tail, member-before, member-beyond, segmentsFrom-ordered, determined}
+use Rattle.rows.proofs.Segments.{member, column-inside, column-after, column-tail, member-before, member-beyond, segmentsFrom-ordered, determined}
 
 ordered-from : (i n width : ℕ) (unlit : ℕ → Bool) → i + n ≤ width → Ordered width i (segmentsFrom i (map unlit (range i n)))
 ordered-from i n width unlit h = segmentsFrom-ordered i width (map unlit (range i n)) (rw (length-map, range-length) h)
@@ -22,7 +22,7 @@ ordered-from i n width unlit h = segmentsFrom-ordered i width (map unlit (range 
 module _ (i j : ℕ) (h : i < j) where
   joined-later : (ss : List Segment) → member (joined i ss) j ≡ member ss j
   unfolding joined member
-  joined-later [] = rw (within-after (record { offset = i; count = 1 }) j (omega arith))
+  joined-later [] = rw (column-after (record { offset = i; count = 1 }) j (omega arith))
   joined-later (s ∷ ss) = go (eqb (s .offset) (suc i)) refl
     where
       go :
@@ -30,19 +30,19 @@ module _ (i j : ℕ) (h : i < j) where
           member (cond t (record { offset = i; count = suc (s .count) } ∷ ss) (record { offset = i; count = 1 } ∷ s ∷ ss)) j ≡ member (s ∷ ss) j
       go true e =
           let at : s .offset ≡ suc i = eqb-true (s .offset) (suc i) e in
-          rw (within-tail (record { offset = i; count = suc (s .count) }) s j (omega arith) (omega arith) (omega arith))
-      go false e = rw (within-after (record { offset = i; count = 1 }) j (omega arith))
+          rw (column-tail (record { offset = i; count = suc (s .count) }) s j (omega arith) (omega arith) (omega arith))
+      go false e = rw (column-after (record { offset = i; count = 1 }) j (omega arith))
 
 joined-here : (i : ℕ) (ss : List Segment) → member (joined i ss) i ≡ true
 unfolding joined member
-joined-here i [] = rw (within-inside (record { offset = i; count = 1 }) i (omega arith) (omega arith))
+joined-here i [] = rw (column-inside (record { offset = i; count = 1 }) i (omega arith) (omega arith))
 joined-here i (s ∷ ss) = go (eqb (s .offset) (suc i))
   where
     go :
         (t : Bool) →
         member (cond t (record { offset = i; count = suc (s .count) } ∷ ss) (record { offset = i; count = 1 } ∷ s ∷ ss)) i ≡ true
-    go true = rw (within-inside (record { offset = i; count = suc (s .count) }) i (omega arith) (omega arith))
-    go false = rw (within-inside (record { offset = i; count = 1 }) i (omega arith) (omega arith))
+    go true = rw (column-inside (record { offset = i; count = suc (s .count) }) i (omega arith) (omega arith))
+    go false = rw (column-inside (record { offset = i; count = 1 }) i (omega arith) (omega arith))
 
 member-from : (n i : ℕ) (unlit : ℕ → Bool) (j : ℕ) → i ≤ j → j < i + n → member (segmentsFrom i (map unlit (range i n))) j ≡ unlit j
 unfolding segmentsFrom

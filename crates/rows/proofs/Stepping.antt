@@ -10,12 +10,12 @@ use lib.Dec.{T, leb, ltb, leb→le, le→leb}
 use lib.ListN.{length}
 use borrow.Author.Tests.{leb-false}
 use Rattle.model.specs.Row.{Segment}
-use Rattle.model.proofs.Tests.{both}
+use Rattle.model.proofs.Tests.{same-test, both}
 use Rattle.rows.specs.Span.{inSpan, painted}
-use Rattle.rows.specs.Segments.{within, Placed, segmentAt, Reads}
-use Rattle.rows.specs.Step.{piece, keptBefore, kept, Acts, Overlaps, Keeps, Reached, Steps}
-use Rattle.rows.proofs.Tests.{same-test, same-le, failed, and-failed}
-use Rattle.rows.proofs.Segments.{within-bounds, bounds-within}
+use Rattle.rows.specs.Segments.{inSegment, Placed, segmentAt, Reads}
+use Rattle.rows.specs.Step.{piece, remainsBefore, remains, Acts, Overlaps, Keeps, Reached, Steps}
+use Rattle.rows.proofs.Tests.{same-le, failed, and-failed}
+use Rattle.rows.proofs.Segments.{column-bounds, bounds-column}
 use Rattle.rows.proofs.Painting.{painted-congr, painted-none}
 use Rattle.rows.proofs.Turns.{read-segment}
 use Rattle.rows.proofs.Keeping.{held-segment, before-none, before-all, after-none, after-all}
@@ -27,20 +27,20 @@ advance false s k = sym (add-zero k)
 -- the columns that a span and a segment share
 shared :
     (first last : ℕ) (s : Segment) (i : ℕ) → 0 < s .count →
-    inSpan (max first (s .offset)) (min last (s .offset + (s .count - 1))) i ≡ (within s i && inSpan first last i)
+    inSpan (max first (s .offset)) (min last (s .offset + (s .count - 1))) i ≡ (inSegment s i && inSpan first last i)
 shared first last s i h =
-    same-test (inSpan a b i) (within s i && inSpan first last i)
+    same-test (inSpan a b i) (inSegment s i && inSpan first last i)
     (λ t.
     let p = both (leb a i) (leb i b) .0 t in
     let l = leb→le a i (p .0) in
     let m = leb→le i b (p .1) in
-    both (within s i) (inSpan first last i) .1 (
-      bounds-within s i (omega arith) (omega arith),
+    both (inSegment s i) (inSpan first last i) .1 (
+      bounds-column s i (omega arith) (omega arith),
       both (leb first i) (leb i last) .1 (le→leb first i (omega arith), le→leb i last (omega arith)),
     ))
     (λ t.
-    let p = both (within s i) (inSpan first last i) .0 t in
-    let q = within-bounds s i (p .0) in
+    let p = both (inSegment s i) (inSpan first last i) .0 t in
+    let q = column-bounds s i (p .0) in
     let u = both (leb first i) (leb i last) .0 (p .1) in
     let l = leb→le first i (u .0) in
     let m = leb→le i last (u .1) in
@@ -55,19 +55,19 @@ shared first last s i h =
 -- a span and a segment that share none
 pub apart :
     (first last : ℕ) (s : Segment) → first ≤ last → 0 < s .count → (s .offset + s .count ≤ first) ⊎ (last < s .offset) →
-    kept first last s ≡ s ∷ []
-unfolding kept
+    remains first last s ≡ s ∷ []
+unfolding remains
 apart first last s h f (inl e) = rw (before-all first last s f e, after-none first last s (omega arith))
 apart first last s h f (inr e) = rw (before-none first last s (omega arith), after-all first last s f e)
 
-pub none-shared :
+none-shared :
     (first last : ℕ) (s : Segment) (i : ℕ) → (s .offset + s .count ≤ first) ⊎ (last < s .offset) →
-    (within s i && inSpan first last i) ≡ false
+    (inSegment s i && inSpan first last i) ≡ false
 none-shared first last s i d =
-    failed (within s i && inSpan first last i)
+    failed (inSegment s i && inSpan first last i)
     (λ t.
-    let p = both (within s i) (inSpan first last i) .0 t in
-    let q = within-bounds s i (p .0) in
+    let p = both (inSegment s i) (inSpan first last i) .0 t in
+    let q = column-bounds s i (p .0) in
     let u = both (leb first i) (leb i last) .0 (p .1) in
     let l = leb→le first i (u .0) in
     let m = leb→le i last (u .1) in
@@ -75,7 +75,7 @@ none-shared first last s i d =
 
 -- the cells with the panel in the columns that the segment and the span share
 abbrev over : ℕ → ℕ → ℕ → List ℕ → Segment → List ℕ
-over first last panel cells s = painted (λ (i : ℕ). within s i && inSpan first last i) panel cells
+over first last panel cells s = painted (λ (i : ℕ). inSegment s i && inSpan first last i) panel cells
 
 module _
     {k first last offset count : ℕ} {row cells : List ℕ} {paint before after next : Bool}
@@ -114,10 +114,10 @@ module _
       (and-failed (leb first (offset + (count - 1))) (leb offset last) (sym (a .paint-is) ∙ e))
 
   module _ {next-k : ℕ} (n : next-k ≡ cond before (k + 1) k) where
-    next-segment : next-k ≡ k + length (keptBefore first (segmentAt row k))
-    unfolding keptBefore
+    next-segment : next-k ≡ k + length (remainsBefore first (segmentAt row k))
+    unfolding remainsBefore
     next-segment =
-        subst (λ (x : Segment). next-k ≡ k + length (keptBefore first x)) (sym (read-segment r))
+        subst (λ (x : Segment). next-k ≡ k + length (remainsBefore first x)) (sym (read-segment r))
         (n ∙ rw (a .before-is) (advance (ltb offset first) _ k))
 
     goes : next ≡ leb (segmentAt row k .offset + segmentAt row k .count) last
@@ -137,7 +137,7 @@ module _
           row-is = kp;
           cells-are =
               p
-              ∙ painted-congr (inSpan from to) (λ (i : ℕ). within s i && inSpan first last i) panel cells
+              ∙ painted-congr (inSpan from to) (λ (i : ℕ). inSegment s i && inSpan first last i) panel cells
               (λ i h. rw (f, t) (shared first last s i (placed .filled)))
               ∙ ap (over first last panel cells) (sym (read-segment r));
           next-is = next-segment;
@@ -151,8 +151,8 @@ module _
           row-is = record {
             keeps = λ width done t rest held few.
                 let q : t ≡ s = sym (held-segment held) ∙ read-segment r in
-                let f : kept first last t ≡ t ∷ [] =
-                subst⁻¹ (λ (x : Segment). kept first last x ≡ x ∷ []) q
+                let f : remains first last t ≡ t ∷ [] =
+                subst⁻¹ (λ (x : Segment). remains first last x ≡ x ∷ []) q
                 (apart first last s (reached .span) (placed .filled) (missed e)) in
                 rw f (held .row-is);
           };

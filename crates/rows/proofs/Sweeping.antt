@@ -10,13 +10,13 @@ use lib.ListN.{length, length-append}
 use borrow.Author.Tests.{leb-true, leb-false}
 use Rattle.model.specs.Row.{Segment, numbersOf, segments, rowOf, afterSpan}
 use Rattle.rows.specs.Span.{inSpan, painted, Row, Lays}
-use Rattle.rows.specs.Segments.{within, Placed, Ordered, none, more, rowFrom, segmentAt, Holds}
-use Rattle.rows.specs.Step.{piece, keptBefore, kept, Steps}
-use Rattle.rows.proofs.Tests.{lt-or-ge}
+use Rattle.rows.specs.Segments.{inSegment, Placed, Ordered, none, more, rowFrom, segmentAt, Holds}
+use Rattle.rows.specs.Step.{piece, remainsBefore, remains, Steps}
+use Rattle.model.proofs.Tests.{lt-or-ge}
 use Rattle.rows.proofs.Segments.{member, lower, tail-ordered, head-placed, member-before}
 use Rattle.rows.proofs.Sets.{segments-ordered, segments-member, few}
 use Rattle.rows.proofs.Rows.{zeros, segments-few, row-congr, row-determines}
-use Rattle.rows.proofs.Cut.{cut, span-behind, kept-ordered, segments-cut}
+use Rattle.rows.proofs.Cut.{cut, span-behind, remains-ordered, segments-cut}
 use Rattle.rows.proofs.Painting.{painted-length, painted-congr, painted-twice, painted-none}
 use Rattle.rows.proofs.Numbers.{shaped}
 use Rattle.rows.proofs.Moves.{read-here, two-zeros}
@@ -100,8 +100,8 @@ unfolding cut
 cut-rest first last h l none = refl
 cut-rest first last h l (more low s p o) = rw (apart first last s h (p .filled) (inr (omega arith)), cut-rest first last h (omega arith) o)
 
-one-before : (first : ℕ) (s : Segment) → length (keptBefore first s) ≤ 1
-unfolding keptBefore
+one-before : (first : ℕ) (s : Segment) → length (remainsBefore first s) ≤ 1
+unfolding remainsBefore
 one-before first s = go (ltb (s .offset) first)
   where
     go : (b : Bool) → length (piece b (record { offset = s .offset; count = min (first - s .offset) (s .count) })) ≤ 1
@@ -123,17 +123,17 @@ module _
   here = held-segment (inv .held)
 
   -- a split needs no pair that is not there
-  room : length (inv .done) + length (kept first last s ++ ss) ≤ 128
+  room : length (inv .done) + length (remains first last s ++ ss) ≤ 128
   room =
-      let o = few (kept-ordered (2 * k) first last span s placed after) in
+      let o = few (remains-ordered (2 * k) first last span s placed after) in
       omega (arith, inv .held .place, placed .filled, placed .inside, placed .from, inv .fits)
 
-  laid-row : row′ ≡ rowFrom (inv .done ++ (kept first last s ++ ss))
+  laid-row : row′ ≡ rowFrom (inv .done ++ (remains first last s ++ ss))
   laid-row = step .row-is .keeps (length cells₀) (inv .done) s ss (inv .held) room
 
-  laid-here : cells′ ≡ painted (λ (i : ℕ). within s i && inSpan first last i) panel cells
+  laid-here : cells′ ≡ painted (λ (i : ℕ). inSegment s i && inSpan first last i) panel cells
   laid-here =
-      subst (λ (x : Segment). cells′ ≡ painted (λ (i : ℕ). within x i && inSpan first last i) panel cells) here (step .cells-are)
+      subst (λ (x : Segment). cells′ ≡ painted (λ (i : ℕ). inSegment x i && inSpan first last i) panel cells) here (step .cells-are)
 
   laid-cells :
       painted (λ (i : ℕ). inv .unlit i && inSpan first last i) panel cells₀
@@ -141,9 +141,9 @@ module _
   unfolding member
   laid-cells =
       inv .cells-law
-      ∙ painted-congr _ (λ (i : ℕ). (within s i && inSpan first last i) || (member ss i && inSpan first last i)) panel cells
-      (λ i h. and-or-distrib-right (within s i) (member ss i) (inSpan first last i))
-      ∙ sym (painted-twice (λ (i : ℕ). within s i && inSpan first last i) (λ (i : ℕ). member ss i && inSpan first last i) panel cells)
+      ∙ painted-congr _ (λ (i : ℕ). (inSegment s i && inSpan first last i) || (member ss i && inSpan first last i)) panel cells
+      (λ i h. and-or-distrib-right (inSegment s i) (member ss i) (inSpan first last i))
+      ∙ sym (painted-twice (λ (i : ℕ). inSegment s i && inSpan first last i) (λ (i : ℕ). member ss i && inSpan first last i) panel cells)
       ∙ ap (painted (λ (i : ℕ). member ss i && inSpan first last i) panel) (sym laid-here)
 
   go-here : go ≡ leb (s .offset + s .count) last
@@ -162,29 +162,29 @@ module _
       clear i (inr l) h = rw (member-before i (omega arith) after)
 
   pub step-goes : go ≡ true → Sweeping row₀ cells₀ first last panel row′ cells′ next (looked + 1) ss
-  unfolding cut kept
+  unfolding cut remains
   step-goes e =
       let h : s .offset + s .count ≤ last = leb-true (s .offset + s .count) last (sym go-here ∙ e) in
-      let n : next ≡ k + length (keptBefore first s) = subst (λ (x : Segment). next ≡ k + length (keptBefore first x)) here (step .next-is) in
-      let q : length (kept first last s) ≡ length (keptBefore first s) = rw (after-none first last s (omega arith), append-nil) in
-      let l : length (inv .done ++ kept first last s) ≡ length (inv .done) + length (kept first last s) =
-      length-append (inv .done) (kept first last s) in
-      let m : length (kept first last s ++ ss) ≡ length (kept first last s) + length ss = length-append (kept first last s) ss in
-      let u : length (keptBefore first s) ≤ 1 = one-before first s in
+      let n : next ≡ k + length (remainsBefore first s) = subst (λ (x : Segment). next ≡ k + length (remainsBefore first x)) here (step .next-is) in
+      let q : length (remains first last s) ≡ length (remainsBefore first s) = rw (after-none first last s (omega arith), append-nil) in
+      let l : length (inv .done ++ remains first last s) ≡ length (inv .done) + length (remains first last s) =
+      length-append (inv .done) (remains first last s) in
+      let m : length (remains first last s ++ ss) ≡ length (remains first last s) + length ss = length-append (remains first last s) ss in
+      let u : length (remainsBefore first s) ≤ 1 = one-before first s in
       record {
         fits = inv .fits;
         unlit = inv .unlit;
         start = inv .start;
-        done = inv .done ++ kept first last s;
+        done = inv .done ++ remains first last s;
         held = record {
           place = omega (arith, inv .held .place);
           few = omega (arith, room);
           ordered = lower (2 * next) (omega (arith, placed .from, placed .filled)) after;
-          row-is = laid-row ∙ ap rowFrom (sym (append-assoc (inv .done) (kept first last s) ss));
+          row-is = laid-row ∙ ap rowFrom (sym (append-assoc (inv .done) (remains first last s) ss));
         };
         passed = omega (arith, inv .passed);
         left = omega (arith, inv .left);
         width = ap length laid-here ∙ painted-length _ panel cells ∙ inv .width;
-        row-law = inv .row-law ∙ sym (append-assoc (inv .done) (kept first last s) (cut first last ss));
+        row-law = inv .row-law ∙ sym (append-assoc (inv .done) (remains first last s) (cut first last ss));
         cells-law = laid-cells;
       }

@@ -8,8 +8,8 @@ use lib.ListN.{length, getD, set, take, replicate}
 use Rattle.model.specs.Row.{Segment, numbersOf, rowLength}
 
 -- column i lies in the segment
-unfoldable pub within : Segment → ℕ → Bool
-within s i = leb (s .offset) i && ltb i (s .offset + s .count)
+unfoldable pub inSegment : Segment → ℕ → Bool
+inSegment s i = leb (s .offset) i && ltb i (s .offset + s .count)
 
 -- a segment in the columns from `low` on and below `width`, not empty
 pub record Placed (width low : ℕ) (s : Segment) : Type 0 where

@@ -7,7 +7,7 @@ use lib.Dec.{eqb, leb, ltb}
 use lib.ListN.{length}
 use Rattle.model.specs.Row.{Segment}
 use Rattle.rows.specs.Span.{inSpan, painted}
-use Rattle.rows.specs.Segments.{within, Placed, rowFrom, segmentAt, Holds}
+use Rattle.rows.specs.Segments.{inSegment, Placed, rowFrom, segmentAt, Holds}
 
 -- the segment, where the test passes
 abbrev pub piece : Bool → Segment → List Segment
@@ -15,19 +15,19 @@ piece true s = s ∷ []
 piece false s = []
 
 -- a segment's columns before the span
-unfoldable pub keptBefore : ℕ → Segment → List Segment
-keptBefore first s =
+unfoldable pub remainsBefore : ℕ → Segment → List Segment
+remainsBefore first s =
     piece (ltb (s .offset) first) (record { offset = s .offset; count = min (first - s .offset) (s .count) })
 
 -- and those after it
-unfoldable pub keptAfter : ℕ → Segment → List Segment
-keptAfter last s =
+unfoldable pub remainsAfter : ℕ → Segment → List Segment
+remainsAfter last s =
     let start : ℕ = max (s .offset) (suc last) in
     piece (ltb (suc last) (s .offset + s .count)) (record { offset = start; count = s .offset + s .count - start })
 
 -- what a span leaves of a segment
-unfoldable pub kept : ℕ → ℕ → Segment → List Segment
-kept first last s = keptBefore first s ++ keptAfter last s
+unfoldable pub remains : ℕ → ℕ → Segment → List Segment
+remains first last s = remainsBefore first s ++ remainsAfter last s
 
 -- where a span's `first` lies against the segment of the columns `left` to `right`
 pub data Starts (first left right : ℕ) : ℕ → Type 0 where
@@ -73,7 +73,7 @@ pub record Removes (k : ℕ) (row row′ : List ℕ) : Type 0 where
 pub record Keeps (k first last : ℕ) (row row′ : List ℕ) : Type 0 where
   pub keeps :
       (width : ℕ) (done : List Segment) (s : Segment) (rest : List Segment) → Holds width k row done (s ∷ rest) →
-      length done + length (kept first last s ++ rest) ≤ 128 → row′ ≡ rowFrom (done ++ (kept first last s ++ rest))
+      length done + length (remains first last s ++ rest) ≤ 128 → row′ ≡ rowFrom (done ++ (remains first last s ++ rest))
 
 -- the span meets the segment, which is number k of a row
 pub record Overlaps (k first last : ℕ) (s : Segment) (before after : Bool) : Type 0 where
@@ -94,6 +94,6 @@ pub record Reached (k first last : ℕ) (row cells : List ℕ) : Type 0 where
 -- a span is laid on segment k: `next` is the number of the segment after it, and `go` says that the segment ends before the span does
 pub record Steps (k first last panel : ℕ) (row cells row′ cells′ : List ℕ) (next : ℕ) (go : Bool) : Type 0 where
   pub row-is : Keeps k first last row row′
-  pub cells-are : cells′ ≡ painted (λ (i : ℕ). within (segmentAt row k) i && inSpan first last i) panel cells
-  pub next-is : next ≡ k + length (keptBefore first (segmentAt row k))
+  pub cells-are : cells′ ≡ painted (λ (i : ℕ). inSegment (segmentAt row k) i && inSpan first last i) panel cells
+  pub next-is : next ≡ k + length (remainsBefore first (segmentAt row k))
   pub go-is : go ≡ leb (segmentAt row k .offset + segmentAt row k .count) last

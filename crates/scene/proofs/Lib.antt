@@ -1,16 +1,8 @@
--- Laws of the questions.
-pub mod Loops
-pub mod InRange
-pub mod OffOneLine
-pub mod Named
-pub mod Following
+-- Laws of questions 3 to 7.
+mod InRange
+mod OffOneLine
+mod ChildOrder
+mod Named
+mod Following
 pub mod RunTables
-pub mod NeverFalling
-pub mod Edges
-pub mod Corners
-pub mod PatchTables
-pub mod Answers
-pub mod Seen
-pub mod Asked
-pub mod Axes
-pub mod Along
+mod NeverFalling

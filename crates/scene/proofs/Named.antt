@@ -1,63 +1,25 @@
--- Question 5, node by node.
-use mathlib.Core.Path.{_≡_, refl, sym, ap, _∙_, subst}
-use mathlib.Core.Bool.{Bool, true, false, _&&_}
+-- Question 5, how often each node is named.
+use mathlib.Core.Path.{_≡_, refl, sym, ap, _∙_}
+use mathlib.Core.Bool.{Bool, true, false}
 use mathlib.Core.List.{List, map}
 use Prim.Native.Nat.{ℕ, zero, suc, _+_, _*_, _-_, _≤_, _<_}
 use native.Mathlib.Nat.{zero-add, add-zero, sub-zero}
 use native.Mathlib.Numerals.{add-one}
 use native.Mathlib.Decide.{ℕ-discrete, decLt}
 use native.Mathlib.Omega.{arith}
-use lib.Dec.{eqb, ltb}
+use lib.Dec.{eqb}
 use lib.ListN.{length, getD, set, replicate, length-set, length-replicate, List·getD-eq-default}
 use lib.Seq.{getD-set-same, getD-set-other}
-use borrow.Author.Tests.{le-ltb, lt-ltb, eq-eqb, ne-eqb}
+use borrow.Author.Tests.{eq-eqb, ne-eqb}
 use Rattle.model.specs.Lists.{every, range, addIf, occurrences}
-use Rattle.model.specs.Format.{NodeRecord, Scene, decode}
-use Rattle.model.specs.Questions.{properChild, everyNode, children, childrenProper}
+use Rattle.model.specs.Format.{NodeRecord, decode}
+use Rattle.model.specs.Questions.{children}
+use Rattle.model.proofs.Loops.{range-passes, range-fails, range-same}
 use Rattle.format.specs.declared.layout.Layout.{Layout}
 use Rattle.format.specs.Layout.{LaidOut, nodeNumber}
 use Rattle.format.proofs.Decoded.{node-count}
-use Rattle.format.proofs.Tables.{range-passes, range-fails, range-same}
-use Rattle.scene.specs.Tests.{properChildren, childrenInOrder, eachOnce, namedOnce}
+use Rattle.scene.specs.Tests.{eachOnce, namedOnce}
 use Rattle.scene.specs.Children.{OneMore, TimesNamed}
-use Rattle.scene.proofs.Loops.{IsBoth, IsEvery}
-
--- ---- one child
-module _ (nodes parent child : ℕ) where
-  pub none-named : child ≡ 65535 → true ≡ properChild nodes parent child
-  none-named e = rw (eq-eqb child 65535 e)
-
-  pub not-after : (child ≡ 65535 → ⊥) → child ≤ parent → false ≡ properChild nodes parent child
-  not-after n h = rw (ne-eqb child 65535 n, le-ltb parent child h)
-
-  pub after-parent : (child ≡ 65535 → ⊥) → parent < child → ltb child nodes ≡ properChild nodes parent child
-  after-parent n h = rw (ne-eqb child 65535 n, lt-ltb parent child h)
-
-pub children-both :
-    (nodes parent : ℕ) (n : NodeRecord) →
-    IsBoth (properChild nodes parent (n .positive)) (properChild nodes parent (n .negative)) (properChildren nodes parent n)
-children-both nodes parent n = record { both-tests = refl }
-
--- ---- a test that is told the node's number, over a table
-module _ (test : ℕ → NodeRecord → Bool) (f : ℕ → NodeRecord) where
-  told-every : (i n : ℕ) → everyNode test i (map f (range i n)) ≡ every (λ (k : ℕ). test k (f k)) (range i n)
-  unfolding everyNode
-  told-every i zero = refl
-  told-every i (suc n) = ap (λ (t : Bool). test i (f i) && t) (told-every (suc i) n)
-
-  every-told : (n : ℕ) → IsEvery n (λ (k : ℕ). test k (f k)) (everyNode test 0 (map f (range 0 n)))
-  every-told n =
-      record {
-        one-no = λ k h e. told-every 0 n ∙ range-fails (λ (k : ℕ). test k (f k)) 0 n k (omega arith) (omega arith) e;
-        all-yes = λ g. told-every 0 n ∙ range-passes (λ (k : ℕ). test k (f k)) 0 n (λ k a b. g k (omega arith));
-      }
-
-pub order-asked : {bytes : List ℕ} {l : Layout} → LaidOut bytes l →
-    IsEvery (l .nodes) (λ (k : ℕ). properChildren (l .nodes) k (nodeNumber bytes k)) (childrenInOrder (decode bytes))
-order-asked {bytes} {l} laid =
-    subst (IsEvery (l .nodes) (λ (k : ℕ). properChildren (l .nodes) k (nodeNumber bytes k)))
-    (sym (λ i. everyNode (properChildren (node-count laid i)) 0 (laid .nodes i)))
-    (every-told (properChildren (l .nodes)) (nodeNumber bytes) (l .nodes))
 
 -- ---- one more naming
 pub counted-once : {child : ℕ} {times : List ℕ} → child < length times → OneMore child times (set times child (getD times child 0 + 1))
@@ -104,7 +66,7 @@ add-if-moved true false x y = omega arith
 add-if-moved false true x y = omega arith
 add-if-moved false false x y = refl
 
-pub low-after :
+low-after :
     {child m : ℕ} {before after : List ℕ} →
     OneMore child before after →
     length before ≡ 1024 →
@@ -205,7 +167,3 @@ once-named {bytes} {l} {times} laid t =
     range-same (λ (j : ℕ). eqb (getD times j 0) 1) (λ (j : ℕ). eqb (occurrences j (children (decode bytes .nodes))) 1) 1 (l .nodes - 1)
     (λ j a b. ap (λ (m : ℕ). eqb m 1) (t .times-named j (omega (arith, laid .few-nodes))))
     ∙ ap (λ (m : ℕ). every (λ (j : ℕ). eqb (occurrences j (children (decode bytes .nodes))) 1) (range 1 (m - 1))) (sym (node-count laid))
-
-pub proper-both : (s : Scene) → IsBoth (childrenInOrder s) (namedOnce s) (childrenProper s)
-unfolding childrenProper
-proper-both s = record { both-tests = refl }

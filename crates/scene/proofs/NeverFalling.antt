@@ -16,7 +16,7 @@ use Rattle.format.specs.Machine.{nodeOf}
 use Rattle.format.specs.Layout.{LaidOut, RunsInside, Inside, nodeNumber, patchNumber}
 use Rattle.format.proofs.Decoded.{patches-in}
 use Rattle.scene.specs.Tests.{panelInRange, runNeverFalls}
-use Rattle.scene.proofs.Loops.{IsBoth, IsEvery, every-entry}
+use Rattle.model.proofs.Loops.{IsBoth, IsEvery, every-entry}
 
 -- ---- one panel
 pub panel-zero : {n : ℕ} → n < 1 → false ≡ within 1 1024 n

@@ -1,24 +1,25 @@
--- What question 6 tells: the runs of the tables are inside, and name each record once.
+-- Question 6 over the tables, and what it tells: the runs are inside, and each patch has 3 to 8 corners.
 use mathlib.Core.Path.{_≡_, refl, sym, ap, ap₂, _∙_}
 use mathlib.Core.Bool.{true, false}
-use mathlib.Core.List.{List, map, map-map}
-use Prim.Native.Nat.{ℕ, zero, suc, _+_, _*_, _≤_, _<_}
-use native.Mathlib.Decide.{ℕ-discrete}
+use mathlib.Core.List.{List, map, map-map, Memᴰ·map}
+use Prim.Native.Nat.{ℕ, _+_, _*_, _≤_, _<_}
 use native.Mathlib.Omega.{arith}
-use lib.Dec.{eqb, leb}
+use lib.Dec.{leb}
 use lib.ListN.{length}
-use borrow.Author.Tests.{eqb-true, leb-true, lt-leb, le-leb}
+use borrow.Author.Tests.{leb-true, lt-leb, le-leb}
 use Rattle.model.specs.Lists.{range, every}
 use Rattle.model.specs.Patch.{Patch, cornersCounted}
 use Rattle.model.specs.Format.{Run, NodeRecord, PatchRecord, Scene, u16At, nodeAt, patchAt, decode, patchOf}
 use Rattle.model.specs.Questions.{within, runsFollow, patchRunsFollow, cornerRunsFollow, runsProper}
 use Rattle.format.specs.declared.layout.Layout.{Layout}
 use Rattle.format.specs.Layout.{LaidOut, Inside, RunsInside, nodeNumber, patchNumber, cornerNumber}
-use Rattle.format.proofs.Booleans.{both}
 use Rattle.format.proofs.Tables.{length-table, same-table}
 use Rattle.format.proofs.Decoded.{patch-count, corner-count, patch-table, patch-corners}
 use Rattle.scene.specs.Tests.{runAt, cornersFollow, allCounted}
-use Rattle.scene.proofs.Loops.{IsBoth, both-yes, IsEvery, every-entry, each}
+use Rattle.model.proofs.Tests.{is-true, both-true}
+use Rattle.model.proofs.Ranges.{in-range}
+use Rattle.model.proofs.Runs.{runs-between}
+use Rattle.model.proofs.Loops.{IsBoth, both-yes, IsEvery, every-entry, each}
 
 -- ---- one corner count
 pub below-three : {n : ℕ} → n < 3 → false ≡ within 3 8 n
@@ -28,35 +29,10 @@ pub at-most-eight : {n : ℕ} → 3 ≤ n → leb n 8 ≡ within 3 8 n
 at-most-eight {n} h = rw (le-leb 3 n h)
 
 -- ---- runs that follow each other end where the table ends
-module _ (run : ℕ → Run) (end : ℕ) where
-  run-ends :
-      (start i n : ℕ) →
-      runsFollow start end (map run (range i n)) ≡ true →
-      (start ≤ end) × ((k : ℕ) → i ≤ k → k < i + n → run k .first + run k .count ≤ end)
-  unfolding runsFollow
-  run-ends start i zero t = (omega (arith, eqb-true start end t), λ k a b. absurd (omega arith))
-  run-ends start i (suc n) t =
-      let p = both (eqb (run i .first) start) (runsFollow (start + run i .count) end (map run (range (suc i) n))) t in
-      let e : run i .first ≡ start = eqb-true (run i .first) start (p .0) in
-      let rest = run-ends (start + run i .count) (suc i) n (p .1) in
-      let h : start + run i .count ≤ end = rest .0 in (
-        omega arith,
-        λ k a b. go k (ℕ-discrete i k) (λ c. rest .1 k c (omega arith)) e h a,
-      )
-    where
-      go :
-          (k : ℕ) →
-          Dec (i ≡ k) →
-          (suc i ≤ k → run k .first + run k .count ≤ end) →
-          run i .first ≡ start →
-          start + run i .count ≤ end →
-          i ≤ k →
-          run k .first + run k .count ≤ end
-      go k (yes q) later e h a = rw (← q) (omega arith)
-      go k (no q) later e h a = later (omega arith)
-
-  runs-end : (n : ℕ) → runsFollow 0 end (map run (range 0 n)) ≡ true → (k : ℕ) → k < n → Inside end (run k)
-  runs-end n t k h = record { inside = run-ends 0 0 n t .1 k (omega arith) (omega arith) }
+runs-end : (run : ℕ → Run) (end n : ℕ) → runsFollow 0 end (map run (range 0 n)) ≡ true → (k : ℕ) → k < n → Inside end (run k)
+runs-end run end n t k h =
+    let m = Memᴰ·map run (in-range 0 n k .1 (omega arith, omega arith)) in
+    record { inside = runs-between end 0 (map run (range 0 n)) (is-true t) (run k) m .ends }
 
 -- ---- the runs of the tables
 module _ {bytes : List ℕ} {l : Layout} (laid : LaidOut bytes l) where
@@ -71,15 +47,15 @@ module _ {bytes : List ℕ} {l : Layout} (laid : LaidOut bytes l) where
       sum-count : 32 + 26 * k + 24 ≡ 54 + 26 * k + 2
       sum-count = omega arith
 
-  patch-run : (k : ℕ) → patchNumber bytes l k .cornerRun ≡ runAt bytes (32 + 26 * l .nodes + 2 + 6 * k)
+  patch-run : (k : ℕ) → patchNumber bytes l k .cornerRun ≡ runAt bytes (32 + 26 * l .nodes + 2 + l .«patch_size» * k)
   unfolding patchAt
   patch-run k = λ i.
       record { first = u16At bytes (sum-first i); count = u16At bytes (sum-count i) }
     where
-      sum-first : 32 + 26 * l .nodes + 6 * k + 2 ≡ 32 + 26 * l .nodes + 2 + 6 * k
+      sum-first : 32 + 26 * l .nodes + l .«patch_size» * k + 2 ≡ 32 + 26 * l .nodes + 2 + l .«patch_size» * k
       sum-first = omega arith
 
-      sum-count : 32 + 26 * l .nodes + 6 * k + 4 ≡ 32 + 26 * l .nodes + 2 + 6 * k + 2
+      sum-count : 32 + 26 * l .nodes + l .«patch_size» * k + 4 ≡ 32 + 26 * l .nodes + 2 + l .«patch_size» * k + 2
       sum-count = omega arith
 
   node-runs :
@@ -109,12 +85,12 @@ module _ {bytes : List ℕ} {l : Layout} (laid : LaidOut bytes l) where
       (same-table (λ (k : ℕ). nodeNumber bytes k .patchRun) (λ (k : ℕ). runAt bytes (54 + 26 * k)) 0 0 (l .nodes) (λ k h. node-run (0 + k))))
 
   pub patch-runs-read :
-      runsFollow 0 (l .corners) (map (λ (k : ℕ). runAt bytes (32 + 26 * l .nodes + 2 + 6 * k)) (range 0 (l .patches)))
+      runsFollow 0 (l .corners) (map (λ (k : ℕ). runAt bytes (32 + 26 * l .nodes + 2 + l .«patch_size» * k)) (range 0 (l .patches)))
       ≡ cornersFollow (decode bytes)
   patch-runs-read =
       sym (patch-runs
       ∙ ap (runsFollow 0 (l .corners))
-      (same-table (λ (k : ℕ). patchNumber bytes l k .cornerRun) (λ (k : ℕ). runAt bytes (32 + 26 * l .nodes + 2 + 6 * k)) 0 0 (l .patches) (λ k h. patch-run (0 + k))))
+      (same-table (λ (k : ℕ). patchNumber bytes l k .cornerRun) (λ (k : ℕ). runAt bytes (32 + 26 * l .nodes + 2 + l .«patch_size» * k)) 0 0 (l .patches) (λ k h. patch-run (0 + k))))
 
   corners-inside : cornersFollow (decode bytes) ≡ true → (k : ℕ) → k < l .patches → Inside (l .corners) (patchNumber bytes l k .cornerRun)
   corners-inside t = runs-end (λ (k : ℕ). patchNumber bytes l k .cornerRun) (l .corners) (l .patches) (sym patch-runs ∙ t)
@@ -158,7 +134,7 @@ module _ {bytes : List ℕ} {l : Layout} (laid : LaidOut bytes l) where
       (leb 3 (cornersOf k) ≡ true) × (leb (cornersOf k) 8 ≡ true)
   count-within t k h =
       let corners = both-yes (corner-runs-both (decode bytes)) t in
-      both (leb 3 (cornersOf k)) (leb (cornersOf k) 8) (each (counts-asked laid (corners .0)) (corners .1) k h)
+      both-true (leb 3 (cornersOf k)) (leb (cornersOf k) 8) (each (counts-asked laid (corners .0)) (corners .1) k h)
 
   pub runs-inside : runsProper (decode bytes) ≡ true → RunsInside bytes l
   runs-inside t =

@@ -1,11 +1,11 @@
 -- The parts of the questions that one function answers.
-use mathlib.Core.Bool.{Bool, cond, _&&_}
+use mathlib.Core.Bool.{Bool, _&&_}
 use mathlib.Core.List.{List, map}
 use Prim.Native.Nat.{ℕ, _+_, _-_}
-use lib.Dec.{eqb, ltb}
+use lib.Dec.{eqb}
 use lib.ListN.{length, getD}
 use Rattle.model.specs.Lists.{every, range, occurrences}
-use Rattle.model.specs.Patch.{Patch, Edge, normal, round, firstEdge, cornersCounted, flat, turnsTowards, strictlyConvex}
+use Rattle.model.specs.Patch.{cornersCounted}
 use Rattle.model.specs.Format.{Run, NodeRecord, PatchRecord, Scene, u16At, patchTable, highestPanel, inRun}
 use Rattle.model.specs.Questions.{pointInRange, planeInRange, properChild, everyNode, children, runsFollow, within, neverFalling}
 
@@ -47,17 +47,3 @@ panelInRange p = within 1 highestPanel (p .panel)
 
 abbrev pub runNeverFalls : List PatchRecord → Run → Bool
 runNeverFalls patches r = neverFalling (map (λ (p : PatchRecord). p .panel) (inRun r patches))
-
--- question 8
--- a place of n corners, read round
-abbrev pub wrap : ℕ → ℕ → ℕ
-wrap n i = cond (ltb i n) i (i - n)
-
--- the edge from corner k has every other corner on its inner side
-abbrev pub turnsAtEdge : Patch → ℕ → Bool
-turnsAtEdge p k =
-    let e : Edge = firstEdge (round (p .corners) k) in
-    every (turnsTowards (normal p) e) (e .others)
-
-abbrev pub patchProper : Patch → Bool
-patchProper p = flat p && strictlyConvex p

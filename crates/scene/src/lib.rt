@@ -1,9 +1,6 @@
-// The questions on a scene, from the third on.
+// Questions 3 to 7 on a scene, each put to the whole of it.
 pub mod children;
-pub mod convexity;
 pub mod coordinates;
-pub mod gate;
 pub mod panels;
 pub mod planes;
 pub mod runs;
-mod view;

@@ -4,12 +4,12 @@ use format::layout::node;
 use format::records::Node;
 use geometry::plane_normal;
 ghost use mathlib.Core.Path.{_≡_};
-ghost use mathlib.Core.Bool.{true};
+ghost use lib.Dec.{T};
 ghost use Rattle.format.specs.Machine.{nodeOf};
 ghost use Rattle.format.specs.Layout.{LaidOut};
+ghost use Rattle.format.specs.Bounds.{PlaneWithin};
 ghost use Rattle.model.specs.Format.{decode};
 ghost use Rattle.model.specs.Questions.{coordinatesInRange, offOneLine, planesProper};
-ghost use Rattle.scene.specs.Bounds.{PlaneWithin};
 
 fn off_one_line(n: Node) -> bool
     requires { ⌜ PlaneWithin 10000 (nodeOf n .plane) ⌝ }
@@ -29,7 +29,7 @@ fn off_one_line(n: Node) -> bool
 }
 
 pub fn planes_proper(bytes: &[u8], l: Layout) -> bool
-    requires { ⌜ LaidOut (now bytes) l × (coordinatesInRange (decode (now bytes)) ≡ true) ⌝ }
+    requires { ⌜ LaidOut (now bytes) l × T (coordinatesInRange (decode (now bytes))) ⌝ }
     ensures { λ r. ⌜ r ≡ planesProper (decode (now (bytes .entry))) ⌝ }
 {
     let n = l.nodes;

@@ -6,7 +6,6 @@ use format::sizes::HEADER_SIZE;
 use format::sizes::NODE_RUN;
 use format::sizes::NODE_SIZE;
 use format::sizes::PATCH_RUN;
-use format::sizes::PATCH_SIZE;
 ghost use mathlib.Core.Path.{_≡_};
 ghost use mathlib.Core.Bool.{true};
 ghost use mathlib.Core.List.{map};
@@ -50,7 +49,7 @@ fn corners_follow(bytes: &[u8], l: Layout) -> bool
     runs_follow(
         bytes,
         HEADER_SIZE + NODE_SIZE * l.nodes + PATCH_RUN,
-        PATCH_SIZE,
+        l.patch_size,
         l.patches,
         l.corners,
     )

@@ -11,10 +11,9 @@ use lib.Signed.{ltZ, _<ℤ_, _≤ℤ_, ltZ-yes, clashℤ}
 use Rattle.integer.proofs.Identity.{ring, reify, combine₁}
 use Rattle.integer.proofs.Order.{<-by, <-diff, <→≤, <-or-≥, <-suc}
 use Rattle.integer.proofs.Products.{neg-of-neg}
-use Rattle.model.proofs.Tests.{both}
+use Rattle.model.proofs.Tests.{both, lt-or-ge, same-test}
 use Rattle.spans.specs.declared.Span.{Span}
 use Rattle.spans.specs.Span.{covers, Shaped, numberAt, Clipped}
-use Rattle.spans.proofs.Tests.{lt-or-ge, same-test}
 use Rattle.spans.proofs.HalfLine.{opposite, opposite-above, all-columns, columns-from, columns-before}
 
 pub covers-says : (s : Span) (i : ℕ) → T (covers s i) ↔ ((s .first ≤ i) × (i < s .end))

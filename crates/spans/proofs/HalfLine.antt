@@ -13,7 +13,7 @@ use Rattle.integer.proofs.Identity.{ring, reify}
 use Rattle.integer.proofs.Order.{<-by, ≤-by, <-diff, ≤-diff, +-nonneg-pos, +-mono-≤, <-or-≥, suc-≤, ≤-suc, <-suc}
 use Rattle.integer.proofs.Products.{*-nonneg, *-nonpos-nonneg, neg-of-neg, neg-of-nonpos}
 use Rattle.spans.specs.Span.{numberAt}
-use Rattle.spans.proofs.Tests.{lt-or-ge}
+use Rattle.model.proofs.Tests.{lt-or-ge}
 
 pub natural : (i : ℕ) → pos 0 ≤ℤ pos i
 natural i = leZ-yes (le→leb 0 i (omega arith))

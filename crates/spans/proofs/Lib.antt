@@ -1,7 +1,6 @@
--- The laws of spans, from plain numbers to the rays that meet a patch.
-pub mod Tests
+-- The laws of spans, from plain numbers to rows of edge functions.
 pub mod HalfLine
 pub mod Clipping
+pub mod Stored
+pub mod RowFunctions
 pub mod Rows
-pub mod Orientation
-pub mod RowPlanes

@@ -1,64 +1,53 @@
--- The span of a patch in a row of columns, and the edge vectors that it is taken from.
+-- A table of edge functions, and the span of a row in which some of them are above 0.
 use mathlib.Core.Path.{_≡_}
-use mathlib.Core.Bool.{Bool, cond, _&&_}
-use mathlib.Core.List.{List, [], _∷_, map}
-use Prim.Native.Nat.{ℕ, suc, _<_}
+use mathlib.Core.Bool.{Bool, _&&_}
+use mathlib.Core.List.{List, map}
+use Prim.Native.Nat.{ℕ, _+_, _*_, _≤_, _<_}
 use lib.Dec.{ltb}
 use lib.IntN.{ℤ, pos}
 use lib.ListN.{length, getD}
 use lib.Signed.{ltZ}
-use Rattle.integer.specs.Magnitude.{Within, signOf}
-use Rattle.model.specs.Lists.{every}
-use Rattle.model.specs.Vector.{Vec, vec, plus, times}
-use Rattle.model.specs.Patch.{Patch, Edge, edges}
-use Rattle.model.specs.Ray.{eyeProduct, edgeVector, edgeNumber}
+use Rattle.model.specs.Lists.{every, range}
+use Rattle.geometry.specs.declared.EdgeFunction.{EdgeFunction}
+use Rattle.geometry.specs.Raster.{FunctionBounded}
 use Rattle.spans.specs.declared.Span.{Span}
-use Rattle.spans.specs.Span.{covers, Shaped}
+use Rattle.spans.specs.Span.{covers, Shaped, numberAt}
 
--- the direction of column i: base + i · step
-abbrev pub along : Vec → Vec → ℕ → Vec
-along base step i = plus base (times (pos i) step)
+-- ---- the table: three numbers an entry
+abbrev pub functionAt : List ℤ → ℕ → EdgeFunction
+functionAt table k =
+    record {
+      start = getD table (3 * k) (pos 0);
+      slope = getD table (3 * k + 1) (pos 0);
+      drop = getD table (3 * k + 2) (pos 0);
+    }
 
--- direction · e is above 0 for each edge vector e
-unfoldable pub inside : Vec → List Vec → Bool
-inside direction es = every (λ (e : Vec). ltZ (pos 0) (edgeNumber direction e)) es
+-- `count` entries from `first` on
+abbrev pub functionsIn : List ℤ → ℕ → ℕ → List EdgeFunction
+functionsIn table first count = map (functionAt table) (range first count)
 
--- Column i is in the span exactly when it is below the width and its direction's product with each edge vector is above 0.
-pub record RowSpan (base step : Vec) (es : List Vec) (width : ℕ) (r : Span) : Type 0 where
-  pub exact : (i : ℕ) → covers r i ≡ (ltb i width && inside (along base step i) es)
+-- they are there, and within their bounds
+pub record FunctionRun (table : List ℤ) (first count : ℕ) : Type 0 where
+  pub few : first + count ≤ 4096
+  pub inside : 3 * (first + count) ≤ length table
+  pub each : (i : ℕ) → i < count → FunctionBounded (functionAt table (first + i))
+
+-- entry k is f now, and the others are as they were
+pub record FunctionStored (before after : List ℤ) (k : ℕ) (f : EdgeFunction) : Type 0 where
+  pub long : length after ≡ length before
+  pub here : functionAt after k ≡ f
+  pub others : (m : ℕ) → (m ≡ k → ⊥) → functionAt after m ≡ functionAt before m
+
+-- ---- a row
+-- the number at column i of row j: start + j · drop at column 0
+abbrev pub numberIn : EdgeFunction → ℕ → ℕ → ℤ
+numberIn f i j = numberAt (f .slope) (numberAt (f .drop) (f .start) j) i
+
+-- each function is above 0 there
+unfoldable pub allAbove : List EdgeFunction → ℕ → ℕ → Bool
+allAbove fs i j = every (λ (f : EdgeFunction). ltZ (pos 0) (numberIn f i j)) fs
+
+-- Column i is in the span exactly when it is below the width and each function is above 0 there, in row j.
+pub record RowSpan (fs : List EdgeFunction) (j width : ℕ) (r : Span) : Type 0 where
+  pub exact : (i : ℕ) → covers r i ≡ (ltb i width && allAbove fs i j)
   pub shaped : Shaped width r
-
--- The same for one edge vector e and the columns of a span s.
-pub record EdgeClipped (base step e : Vec) (s r : Span) : Type 0 where
-  pub exact : (i : ℕ) → covers r i ≡ (covers s i && ltZ (pos 0) (edgeNumber (along base step i) e))
-  pub shaped : Shaped (s .end) r
-
--- the vectors whose parts stand in three lists
-unfoldable pub vectors : List ℤ → List ℤ → List ℤ → List Vec
-vectors [] ys zs = []
-vectors (x ∷ xs) [] zs = []
-vectors (x ∷ xs) (y ∷ ys) [] = []
-vectors (x ∷ xs) (y ∷ ys) (z ∷ zs) = vec x y z ∷ vectors xs ys zs
-
-abbrev pub vectorAt : List ℤ → List ℤ → List ℤ → ℕ → Vec
-vectorAt xs ys zs k = vec (getD xs k (pos 0)) (getD ys k (pos 0)) (getD zs k (pos 0))
-
--- the numbers of a list are at most n in size
-pub record Each (n : ℕ) (xs : List ℤ) : Type 0 where
-  pub within : (k : ℕ) → k < length xs → Within n (getD xs k (pos 0))
-
--- the parts of edge vectors, in three lists of one length
-pub record EdgeParts (xs ys zs : List ℤ) : Type 0 where
-  pub y-count : length ys ≡ length xs
-  pub z-count : length zs ≡ length xs
-  pub x-each : Each 800000000 xs
-  pub y-each : Each 800000000 ys
-  pub z-each : Each 800000000 zs
-
--- A patch's edge vectors, each times the sign of the eye product: a ray passes an edge on the patch's side where its product with this is above 0.
-unfoldable pub orientedEdges : Vec → Patch → List Vec
-orientedEdges eye p = map (λ (e : Edge). times (signOf (eyeProduct eye p)) (edgeVector eye e)) (edges (p .corners))
-
--- the corner after corner k of n
-abbrev pub nextCorner : ℕ → ℕ → ℕ
-nextCorner n k = cond (ltb (suc k) n) (suc k) 0

@@ -27,11 +27,10 @@ pub record Shaped (width : ℕ) (s : Span) : Type 0 where
 abbrev pub numberAt : ℤ → ℤ → ℕ → ℤ
 numberAt slope start i = slope *ℤ pos i +ℤ start
 
--- How large an edge number's slope along a row and its value at column 0 are at most: the products of an edge vector, parts within
--- 800,000,000, with a step or a direction, parts within 563,000; and one more, for an edge that counts in.
+-- How large the slope and the value at column 0 are at most: those of an edge function in a row up to row 1,024, and one more, for an edge that counts in.
 pub record Linear (slope start : ℤ) : Type 0 where
   pub slope-within : Within 1351200000000000 slope
-  pub start-within : Within 1351200000000001 start
+  pub start-within : Within 2000000000000000 start
 
 -- r has the columns of s where the number is above 0
 pub record Clipped (slope start : ℤ) (s r : Span) : Type 0 where

@@ -1,14 +1,15 @@
-// The columns of a row whose rays meet a patch: one span of consecutive columns.
+// The columns of a row where each of some edge functions is above 0: one span of consecutive columns.
+pub mod table;
+
+use geometry::EdgeFunction;
+use table::function_at;
 ghost use mathlib.Core.Path.{_≡_};
 ghost use Prim.Native.Nat.{_+_, _/_, _≤_};
 ghost use lib.IntN.{pos, natAbs};
 ghost use lib.Signed.{_<ℤ_, _≤ℤ_};
-ghost use Rattle.integer.specs.Magnitude.{Within};
-ghost use Rattle.model.specs.Vector.{minus, times, cross};
-ghost use Rattle.geometry.specs.Machine.{vecOf, Bounded, VectorIs};
+ghost use Rattle.geometry.specs.Raster.{FunctionBounded};
 ghost use Rattle.spans.specs.Span.{Occupied, numberAt, Linear, Clipped};
-ghost use Rattle.spans.specs.Row.{vectors, EdgeParts, EdgeClipped, RowSpan};
-use geometry::Vector;
+ghost use Rattle.spans.specs.Row.{functionsIn, FunctionRun, RowSpan};
 
 // The columns first .. end − 1. A span with no column is written 0 and 0.
 pub struct Span {
@@ -64,59 +65,30 @@ pub fn clip(span: Span, slope: i64, start: i64) -> Span
     Span { first: 0, end: 0 }
 }
 
-// The span's columns i where (base + i · step) · edge is above 0.
-pub fn clip_edge(span: Span, base: Vector, step: Vector, edge: Vector) -> Span
-    requires { ⌜ Occupied 1024 span × Bounded 563000 base × Bounded 563000 step × Bounded 800000000 edge ⌝ }
-    ensures { λ r. ⌜ EdgeClipped (vecOf base) (vecOf step) (vecOf edge) span r ⌝ }
+// the span's columns where a function is above 0 in row j
+fn clip_function(span: Span, f: EdgeFunction, j: usize) -> Span
+    requires { ⌜ Occupied 1024 span × FunctionBounded f × (j ≤ 1024) ⌝ }
+    ensures { λ r. ⌜ Clipped (f .slope) (numberAt (f .drop) (f .start) j) span r ⌝ }
 {
-    clip(
-        span,
-        geometry::edge_number(step, edge),
-        geometry::edge_number(base, edge),
-    )
+    clip(span, f.slope, number_at(f.drop, f.start, j))
 }
 
-// The columns i below width where (base + i · step) · e is above 0 for each edge vector e.
-pub fn row_span(
-    ex: &[i64],
-    ey: &[i64],
-    ez: &[i64],
-    base: Vector,
-    step: Vector,
-    width: usize,
-) -> Span
-    requires { ⌜ EdgeParts (now ex) (now ey) (now ez) × Bounded 563000 base × Bounded 563000 step × (width ≤ 1024) ⌝ }
-    ensures { λ r. ⌜ RowSpan (vecOf base) (vecOf step) (vectors (now (ex .entry)) (now (ey .entry)) (now (ez .entry))) width r ⌝ }
+// The columns i below width where each of the functions `first` up to before `first + count` of a table is above 0 in row j. One product for each function.
+pub fn row_span(table: &[i64], first: usize, count: usize, j: usize, width: usize) -> Span
+    requires { ⌜ FunctionRun (now table) first count × (j ≤ 1024) × (width ≤ 1024) ⌝ }
+    ensures { λ r. ⌜ RowSpan (functionsIn (now (table .entry)) first count) j width r ⌝ }
 {
     let mut span = Span {
         first: 0,
         end: width,
     };
     let mut k = 0;
-    while k < ex.len() {
+    while k < count {
         if span.end <= span.first {
             return span;
         }
-        let edge = Vector {
-            x: ex[k],
-            y: ey[k],
-            z: ez[k],
-        };
-        span = clip_edge(span, base, step, edge);
+        span = clip_function(span, function_at(table, first + k), j);
         k += 1;
     }
     span
-}
-
-// sign · ((v − eye) × (w − eye)), for the sign of the eye product: one edge vector of a patch, turned to the patch's side
-pub fn oriented_edge(eye: Vector, v: Vector, w: Vector, sign: i64) -> Vector
-    requires { ⌜ Bounded 10000 eye × Bounded 10000 v × Bounded 10000 w × Within 1 sign ⌝ }
-    ensures { λ r. ⌜ VectorIs 800000000 (times sign (cross (minus (vecOf v) (vecOf eye)) (minus (vecOf w) (vecOf eye)))) r ⌝ }
-{
-    let edge = geometry::edge_vector(eye, v, w);
-    Vector {
-        x: integer::product(sign, edge.x),
-        y: integer::product(sign, edge.y),
-        z: integer::product(sign, edge.z),
-    }
 }

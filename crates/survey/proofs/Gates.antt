@@ -1,107 +1,70 @@
--- The call's answer, question by question.
-use mathlib.Core.Path.{_≡_, refl, sym, _∙_, ap}
-use mathlib.Core.Bool.{Bool, true, false, _&&_, and-false}
+-- The call's answer: the scene's, and then the questions on the call, by the general law of the first no.
+use mathlib.Core.Path.{_≡_, sym, _∙_, ap}
+use mathlib.Core.Bool.{Bool, true, false, not, _&&_}
 use mathlib.Core.List.{List}
-use Prim.Native.Nat.{ℕ, _*_, _<_}
-use native.Mathlib.Omega.{arith}
-use lib.Dec.{T, eqb, leb, ltb}
-use borrow.Author.Tests.{lt-ltb, le-ltb}
-use lib.IntN.{ℤ}
+use Prim.Native.Nat.{ℕ}
 use mir.Syntax.{w16}
-use mir.Val.{SFits, toZ, ofZ}
-use mir.ValLaws.{toZ-ofZ}
-use Rattle.model.specs.Vector.{Vec, vec}
-use Rattle.model.specs.Window.{Window}
-use Rattle.model.specs.Row.{rowLength}
-use Rattle.model.specs.Picture.{countEntries}
+use mir.Val.{SFits}
+use Rattle.model.specs.Vector.{Vec}
 use Rattle.model.specs.Call.{Call}
-use Rattle.model.specs.Questions.{within, pointInRange, answer, sceneAnswer, viewInRange, lengthsFit, counterBelowEnd, rowsFit, callQuestions, surveyAnswer}
+use Rattle.model.specs.Questions.{within, pointInRange, sceneAnswer, viewInRange, lengthsFit, counterBelowEnd, rowsFit, callQuestions, surveyAnswer}
 use Rattle.model.proofs.Tests.{is-true}
 use Rattle.model.proofs.Answers.{scene-first, call-next}
-use Rattle.model.proofs.FirstNo.{first-no, no-no}
-use Rattle.survey.specs.Contract.{gateCall}
+use Rattle.model.proofs.FirstNo.{said-yes, said-no, RefusedAt, refused-at, AllYes, no-no}
+use Rattle.survey.proofs.Handed.{words, eye-handed}
 use Rattle.survey.proofs.Results.{rows-always-fit}
 use Rattle.survey.proofs.Walks.{holds}
 
--- three tests after one that passed
-regroup : (a b c d : Bool) → (a && b && c && d) ≡ (a && (b && c && d))
-regroup true b c d = refl
-regroup false b c d = refl
+pub scene-says-no : (c : Call) {n : ℕ} → n ≡ sceneAnswer (c .scene) → (n ≡ 0 → ⊥) → n ≡ surveyAnswer c
+scene-says-no c scene f = scene ∙ sym (scene-first c (λ z. f (scene ∙ z)))
 
-module _ (c : Call) {n : ℕ} (scene : n ≡ sceneAnswer (c .scene)) where
-  pub scene-says-no : (n ≡ 0 → ⊥) → n ≡ surveyAnswer c
-  scene-says-no f = scene ∙ sym (scene-first c (λ z. f (scene ∙ z)))
+module _ (c : Call) (scene : sceneAnswer (c .scene) ≡ 0) where
+  pub refused : (n : ℕ) → RefusedAt c n callQuestions → n ≡ surveyAnswer c
+  refused n r = refused-at c n callQuestions r ∙ sym (call-next c scene)
 
-  module _ (done : n ≡ 0) where
-    next : (k : ℕ) → k ≡ answer callQuestions c → k ≡ surveyAnswer c
-    next k e = e ∙ sym (call-next c (sym scene ∙ done))
+  pub accepted : AllYes c callQuestions → 0 ≡ surveyAnswer c
+  accepted y = no-no c callQuestions y ∙ sym (call-next c scene)
 
-    module _ {v : Vec} (point : v ≡ c .eye) {p : Bool} (eye : p ≡ pointInRange v) where
-      view : viewInRange c ≡ (p && (within 1 256 (c .window .width) && within 1 128 (c .window .height) && within 1 4096 (c .window .lens)))
-      unfolding viewInRange
-      view =
-          regroup (pointInRange (c .eye)) (within 1 256 (c .window .width)) (within 1 128 (c .window .height)) (within 1 4096 (c .window .lens))
-          ∙ ap
-          (λ (b : Bool). b && (within 1 256 (c .window .width) && within 1 128 (c .window .height) && within 1 4096 (c .window .lens)))
-          (sym (eye ∙ ap pointInRange point))
+-- ---- what a question said, by the code's test of its answer
 
-      pub eye-out : p ≡ false → 10 ≡ surveyAnswer c
-      unfolding callQuestions
-      eye-out f = next 10 (first-no c 10 0 callQuestions tt (refl, view ∙ rw f))
+-- questions 1 to 9
+pub scene-yes : (bytes : List ℕ) {n : ℕ} → n ≡ sceneAnswer bytes → n ≡ 0 → sceneAnswer bytes ≡ 0
+scene-yes bytes e z = sym e ∙ z
 
-      module _ {w : Bool} (window : w ≡ (within 1 256 (c .window .width) && within 1 128 (c .window .height) && within 1 4096 (c .window .lens))) (inside : p ≡ true) where
-        view-is : viewInRange c ≡ w
-        view-is = view ∙ rw (inside, window)
+-- question 10, whose eye was handed over in words
+module _ (c : Call) {v : Vec} {a : Bool}
+    (f : SFits w16 (c .eye .x))
+    (g : SFits w16 (c .eye .y))
+    (h : SFits w16 (c .eye .z))
+    (eye : v ≡ words (c .eye .x) (c .eye .y) (c .eye .z))
+    (view :
+    a
+    ≡ (pointInRange v && within 1 256 (c .camera .window .width) && within 1 128 (c .camera .window .height)
+    && within 1 4096 (c .camera .window .lens)))
+  where
+    view-is : a ≡ viewInRange c
+    unfolding viewInRange
+    view-is =
+        view
+        ∙ ap
+        (λ (u : Vec).
+        pointInRange u && within 1 256 (c .camera .window .width) && within 1 128 (c .camera .window .height)
+        && within 1 4096 (c .camera .window .lens))
+        (eye-handed f g h eye)
 
-        pub window-out : w ≡ false → 10 ≡ surveyAnswer c
-        unfolding callQuestions
-        window-out f = next 10 (first-no c 10 0 callQuestions tt (refl, view-is ∙ f))
+    pub view-yes : not a ≡ false → viewInRange c ≡ true
+    view-yes = said-yes view-is
 
-        module _ {l : Bool}
-            (lengths : l ≡ (eqb (c .pictureLength) (c .window .width * c .window .height) && eqb (c .countsLength) countEntries && eqb (c .unlitLength) (c .window .height * rowLength)))
-            (framed : w ≡ true)
-          where
-            fit-is : lengthsFit c ≡ l
-            unfolding lengthsFit
-            fit-is = sym lengths
+    pub view-no : not a ≡ true → viewInRange c ≡ false
+    view-no = said-no view-is
 
-            pub lengths-off : l ≡ false → 11 ≡ surveyAnswer c
-            unfolding callQuestions
-            lengths-off f = next 11 (first-no c 11 1 callQuestions (view-is ∙ framed, tt) (refl, fit-is ∙ f))
+-- question 13 never says no
+pub rows-yes : (c : Call) → viewInRange c ≡ true → rowsFit c ≡ true
+rows-yes c e = holds (rows-always-fit c (is-true e))
 
-            pub counter-ended : l ≡ true → c .counter ≡ 4294967295 → 12 ≡ surveyAnswer c
-            unfolding callQuestions counterBelowEnd
-            counter-ended t e =
-                next 12 (first-no c 12 2 callQuestions (view-is ∙ framed, (fit-is ∙ t, tt)) (refl, le-ltb (c .counter) 4294967295 (omega arith)))
+pub ruleset asked = (scene-yes, view-yes, view-no, rows-yes)
 
-            pub all-said-yes : l ≡ true → c .counter < 4294967296 → (c .counter ≡ 4294967295 → ⊥) → 0 ≡ surveyAnswer c
-            unfolding callQuestions counterBelowEnd
-            all-said-yes t b f =
-                let v : viewInRange c ≡ true = view-is ∙ framed in
-                next 0
-                (no-no c callQuestions
-                (v, (fit-is ∙ t, (lt-ltb (c .counter) 4294967295 (omega arith), (holds (rows-always-fit c (is-true v)), tt)))))
-
--- an eye that was handed over in words of 16 bits
-pub same-eye :
-    {x y z : ℤ} → SFits w16 x → SFits w16 y → SFits w16 z →
-    vec (toZ w16 (ofZ w16 x)) (toZ w16 (ofZ w16 y)) (toZ w16 (ofZ w16 z)) ≡ vec x y z
-same-eye {x} {y} {z} f g h = λ i. vec (toZ-ofZ w16 x f i) (toZ-ofZ w16 y g i) (toZ-ofZ w16 z h i)
-
-pub eye-handed :
-    {x y z : ℤ} {v : Vec} →
-    SFits w16 x →
-    SFits w16 y →
-    SFits w16 z →
-    v ≡ vec (toZ w16 (ofZ w16 x)) (toZ w16 (ofZ w16 y)) (toZ w16 (ofZ w16 z)) →
-    v ≡ vec x y z
-eye-handed f g h e = e ∙ same-eye f g h
-
-pub gate-handed :
-    {x y z : ℤ} (bytes : List ℕ) (w : Window) (p q u k : ℕ) {n : ℕ} →
-    SFits w16 x →
-    SFits w16 y →
-    SFits w16 z →
-    n ≡ surveyAnswer (gateCall bytes (vec (toZ w16 (ofZ w16 x)) (toZ w16 (ofZ w16 y)) (toZ w16 (ofZ w16 z))) w p q u k) →
-    n ≡ surveyAnswer (gateCall bytes (vec x y z) w p q u k)
-gate-handed bytes w p q u k f g h e = e ∙ ap (λ (v : Vec). surveyAnswer (gateCall bytes v w p q u k)) (same-eye f g h)
+-- one name that unfolds the questions on the call, and of their tests those that the code's answers are read as
+unfoldable pub callTests : Unit {0}
+unfolding callQuestions lengthsFit counterBelowEnd
+callTests = tt

@@ -1,9 +1,10 @@
--- The results of a painted walk, the questions on the call, and demands 2 and 3 from the contract.
+-- The results of a painted walk, and the questions on the call.
 pub mod Refusal
 pub mod PanelNumbers
 pub mod Results
+pub mod Rays
 pub mod Walks
+pub mod Handed
 pub mod Gates
 pub mod Calls
 pub mod ViewTests
-pub mod Demands

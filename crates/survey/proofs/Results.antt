@@ -13,14 +13,14 @@ use Rattle.model.specs.Ray.{closest}
 use Rattle.model.specs.Tree.{order}
 use Rattle.model.specs.Format.{Scene, PatchRecord, Header, decode, headerOf, patchTable, patchOf, patchNumbered, numberTree, patchTree, highestPanel, noChild}
 use Rattle.model.specs.Row.{rowOf, rowPairs, segments}
-use Rattle.model.specs.Window.{Window, direction}
 use Rattle.model.specs.Call.{Call, callDirection}
 use Rattle.model.specs.Picture.{cells, picture, cellPanel, unlitLists}
-use Rattle.model.specs.Questions.{within, pointInRange, patchRunsFollow, cornerRunsFollow, runsProper, viewInRange, unlitAfter, rowFits, rowsFit}
+use Rattle.model.specs.Questions.{patchRunsFollow, cornerRunsFollow, runsProper, viewInRange, unlitAfter, rowFits, rowsFit}
 use Rattle.model.specs.Survey.{callPatches, callPicture, callUnlit}
 use Rattle.model.proofs.Tests.{both, every-true}
 use Rattle.model.proofs.Ranges.{of-map, getD-member}
-use Rattle.model.proofs.Answers.{AcceptedScene}
+use Rattle.model.proofs.CallLimits.{view-bounded}
+use Rattle.model.specs.Accepted.{AcceptedScene}
 use Rattle.rows.proofs.Rows.{segments-few}
 use Rattle.walk.proofs.Whole.{walk-numbers}
 use Rattle.walk.proofs.Seen.{accepted, first-met-closest}
@@ -36,14 +36,10 @@ row-fits width h eye ray walk =
     (λ k m. le→leb (length (segments width (unlitAfter eye ray (take k walk)))) rowPairs (segments-few width h (unlitAfter eye ray (take k walk))))
 
 pub rows-always-fit : (c : Call) → T (viewInRange c) → T (rowsFit c)
-unfolding viewInRange rowsFit
+unfolding rowsFit
 rows-always-fit c t =
-    let w = c .window in
-    let eyes : Bool = pointInRange (c .eye) in
-    let a = both (eyes && within 1 256 (w .width) && within 1 128 (w .height)) (within 1 4096 (w .lens)) .0 t in
-    let b = both (eyes && within 1 256 (w .width)) (within 1 128 (w .height)) .0 (a .0) in
-    let d = both eyes (within 1 256 (w .width)) .0 (b .0) in
-    let narrow : w .width ≤ 256 = leb→le (w .width) 256 (both (leb 1 (w .width)) (leb (w .width) 256) .0 (d .1) .1) in
+    let w = c .camera .window in
+    let narrow : w .width ≤ 256 = view-bounded c t .narrow in
     every-true
     (λ (j : ℕ).
     rowFits (w .width) (c .eye) (λ (i : ℕ). callDirection c i j) (order (c .eye) (patchTree (decode (c .scene)))))
@@ -85,7 +81,7 @@ module _ (bytes : List ℕ) (h : AcceptedScene bytes) (eye : Vec) where
 -- The painted rows of an accepted scene are the call's picture and unlit lists.
 module _ (c : Call) (h : AcceptedScene (c .scene)) {picture′ unlit′ : List ℕ}
     (painted :
-    RowsPainted (c .eye) (callDirection c) (walked (c .scene) (c .eye)) (c .window .width) (c .window .height) picture′
+    RowsPainted (c .eye) (callDirection c) (walked (c .scene) (c .eye)) (c .camera .window .width) (c .camera .window .height) picture′
     unlit′)
   where
     pub painted-picture : picture′ ≡ callPicture c
@@ -93,7 +89,7 @@ module _ (c : Call) (h : AcceptedScene (c .scene)) {picture′ unlit′ : List �
     painted-picture =
         painted .picture-is
         ∙ ap
-        (λ (f : ℕ → ℕ → ℕ). flatten (map (λ (j : ℕ). map (f j) (range 0 (c .window .width))) (range 0 (c .window .height))))
+        (λ (f : ℕ → ℕ → ℕ). flatten (map (λ (j : ℕ). map (f j) (range 0 (c .camera .window .width))) (range 0 (c .camera .window .height))))
         (fun-ext (λ j. fun-ext (λ i. shows-closest (c .scene) h (c .eye) (λ (k : ℕ). callDirection c k j) i)))
 
     pub painted-unlit : unlit′ ≡ callUnlit c
@@ -101,5 +97,5 @@ module _ (c : Call) (h : AcceptedScene (c .scene)) {picture′ unlit′ : List �
     painted-unlit =
         painted .unlit-is
         ∙ ap
-        (λ (f : ℕ → ℕ → Bool). flatten (map (λ (j : ℕ). rowOf (c .window .width) (f j)) (range 0 (c .window .height))))
+        (λ (f : ℕ → ℕ → Bool). flatten (map (λ (j : ℕ). rowOf (c .camera .window .width) (f j)) (range 0 (c .camera .window .height))))
         (fun-ext (λ j. fun-ext (λ i. unlit-closest (c .scene) h (c .eye) (λ (k : ℕ). callDirection c k j) i)))

@@ -19,17 +19,21 @@ module _ (low n high : ℕ) where
   pub low-enough : low ≤ n → leb n high ≡ within low high n
   low-enough h = simp (le-leb low n h)
 
--- three tests, the answers of functions: one that fails, and the last, which decides
-module _ (a b c r : Bool) (first : r ≡ a) where
-  pub first-fails : r ≡ false → false ≡ (a && b && c)
+-- tests that are asked one after the other, each the answer of a function: one that fails, and the last, which decides
+module _ (a b c d r : Bool) (first : r ≡ a) where
+  pub first-fails : r ≡ false → false ≡ (a && b && c && d)
   first-fails f = simp (← first, f)
 
   module _ (s : Bool) (second : s ≡ b) where
-    pub second-fails : s ≡ false → false ≡ (a && b && c)
+    pub second-fails : s ≡ false → false ≡ (a && b && c && d)
     second-fails f = simp (← second, f, and-false)
 
-    pub third-decides : (t : Bool) → t ≡ c → r ≡ true → s ≡ true → t ≡ (a && b && c)
-    third-decides t third e f = simp (← first, ← second, ← third, e, f)
+    module _ (t : Bool) (third : t ≡ c) where
+      pub third-fails : t ≡ false → false ≡ (a && b && c && d)
+      third-fails f = simp (← third, f, and-false)
+
+      pub fourth-decides : (u : Bool) → u ≡ d → r ≡ true → s ≡ true → t ≡ true → u ≡ (a && b && c && d)
+      fourth-decides u fourth e f g = simp (← first, ← second, ← third, ← fourth, e, f, g)
 
 module _ (area height picture counts unlit : ℕ) where
   abbrev fit : Bool

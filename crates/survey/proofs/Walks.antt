@@ -1,41 +1,49 @@
 -- What an accepted scene gives the walk, the edge vectors and the rows.
-use mathlib.Core.Path.{_≡_, refl, sym, _∙_, ap, subst}
+use mathlib.Core.Path.{_≡_, refl, sym, _∙_, ap, subst, subst₂}
 use mathlib.Core.Bool.{Bool, true, false}
 use mathlib.Core.List.{List, _++_, map}
 use Prim.Native.Nat.{ℕ, _≤_, _<_}
 use native.Mathlib.Omega.{arith}
 use lib.Dec.{T}
-use lib.IntN.{ℤ}
 use lib.ListN.{length, getD, take, drop}
 use lib.Seq.{take-at}
 use Rattle.model.specs.Vector.{Vec}
+use Rattle.model.specs.Patch.{Patch}
 use Rattle.model.specs.Tree.{order}
-use Rattle.model.specs.Window.{Window, direction}
+use Rattle.model.specs.Window.{direction}
+use Rattle.model.specs.View.{Camera, viewWidth, viewHeight, viewDirection}
 use Rattle.model.specs.Format.{decode, patchNumbered, numberTree}
 use Rattle.model.specs.Questions.{hasHeader, hasSections, patchRunsFollow, cornerRunsFollow, runsProper}
 use Rattle.model.specs.Call.{Call}
 use Rattle.model.specs.Survey.{callPicture, callUnlit}
 use Rattle.model.proofs.Tests.{both}
 use Rattle.model.proofs.Ranges.{getD-member}
-use Rattle.model.proofs.Answers.{AcceptedScene}
+use Rattle.model.specs.Accepted.{AcceptedScene}
 use Rattle.format.specs.declared.layout.Layout.{Layout}
 use Rattle.format.specs.Layout.{LaidOut}
 use Rattle.format.proofs.Decoded.{patch-count}
 use Rattle.scene.proofs.RunTables.{runs-inside}
-use Rattle.walk.specs.Walked.{Walkable, WholeWalk}
+use Rattle.checked.specs.Checked.{Checked}
+use Rattle.walk.specs.Walked.{WholeWalk}
 use Rattle.walk.proofs.Whole.{walk-length, walk-numbers}
 use Rattle.walk.proofs.Seen.{accepted}
-use Rattle.painting.specs.Laying.{Numbers, walkOf}
+use Rattle.geometry.specs.declared.Raster.{Raster}
+use Rattle.geometry.specs.Raster.{rayAt}
+use Rattle.edges.specs.declared.Sight.{Sight}
+use Rattle.edges.specs.Edges.{SightBounded}
+use Rattle.painting.specs.Laying.{walkOf}
+use Rattle.painting.specs.Framing.{Framed}
+use Rattle.painting.specs.Ready.{Paintable}
 use Rattle.painting.specs.Painting.{RowsPainted}
-use Rattle.survey.specs.Contract.{Lent, lentOf, callOn}
-use Rattle.survey.specs.Painted.{Painted}
+use Rattle.survey.specs.Contract.{viewFrom, lentOf, callOn}
+use Rattle.survey.specs.Painted.{RaysOf, Painted}
 use Rattle.survey.proofs.Results.{walked, painted-picture, painted-unlit}
 
 pub holds : {b : Bool} → T b → b ≡ true
 holds {b = true} t = refl
 holds {b = false} t = absurd t
 
-pub walkable : {bytes : List ℕ} {l : Layout} → AcceptedScene bytes → LaidOut bytes l → Walkable bytes l
+pub walkable : {bytes : List ℕ} {l : Layout} → AcceptedScene bytes → LaidOut bytes l → Checked bytes l
 walkable h laid =
     record {
       laid = laid;
@@ -44,6 +52,21 @@ walkable h laid =
       children = h .children;
       runs = h .runs;
     }
+
+-- rows painted along a raster with a camera's rays are painted along the camera's directions
+as-seen :
+    {eye : Vec} {walk : List Patch} {a : Camera} {r : Raster} {cells unlit : List ℕ} → RaysOf a r →
+    RowsPainted eye (rayAt r) walk (r .width) (r .height) cells unlit →
+    RowsPainted eye (direction (a .window)) walk (a .window .width) (a .window .height) cells unlit
+as-seen {eye} {walk} {a} {r} {cells} {unlit} rays seen =
+    subst (λ (d : ℕ → ℕ → Vec). RowsPainted eye d walk (a .window .width) (a .window .height) cells unlit) (λ t i j. rays .rays i j t)
+    (subst₂ (λ (w h : ℕ). RowsPainted eye (rayAt r) walk w h cells unlit) (rays .columns) (rays .rows) seen)
+
+pub raster-framed :
+    {a : Camera} {r : Raster} {picture unlit : List ℕ} → RaysOf a r → Framed (a .window .width) (a .window .height) picture unlit →
+    Framed (r .width) (r .height) picture unlit
+raster-framed {picture = picture} {unlit} rays framed =
+    subst₂ (λ (w h : ℕ). Framed w h picture unlit) (sym (rays .columns)) (sym (rays .rows)) framed
 
 module _ {bytes : List ℕ} {l : Layout} {eye : Vec} {before after : List ℕ} {n : ℕ}
     (h : AcceptedScene bytes)
@@ -64,26 +87,37 @@ module _ {bytes : List ℕ} {l : Layout} {eye : Vec} {before after : List ℕ} {
     pub walk-count : n ≡ length (take n after)
     walk-count = sym (ap length walk-front ∙ whole)
 
-    pub walk-patches : Numbers l (take n after)
+    walk-patches : (k : ℕ) → k < length (take n after) → getD (take n after) k 0 < l .patches
     walk-patches =
-        subst (Numbers l) (sym walk-front)
-        (record {
-          patch =
-              λ k b.
-              let m = walk-numbers (decode bytes) (accepted h .few-nodes) (h .children) runs-follow eye
-              (getD (order eye (numberTree (decode bytes))) k 0)
-              (getD-member (order eye (numberTree (decode bytes))) k 0 b) in
-              subst (λ (c : ℕ). getD (order eye (numberTree (decode bytes))) k 0 < c) (patch-count laid) m;
-        })
+        subst (λ (ns : List ℕ). (k : ℕ) → k < length ns → getD ns k 0 < l .patches) (sym walk-front)
+        (λ k b.
+        let m = walk-numbers (decode bytes) (accepted h .few-nodes) (h .children) runs-follow eye
+        (getD (order eye (numberTree (decode bytes))) k 0)
+        (getD-member (order eye (numberTree (decode bytes))) k 0 b) in
+        subst (λ (c : ℕ). getD (order eye (numberTree (decode bytes))) k 0 < c) (patch-count laid) m)
+
+    -- the scene and its walk can be painted as they are seen
+    pub walk-paintable : {s : Sight} → SightBounded s → s .raster .height ≤ 1024 → Paintable bytes l s (take n after)
+    walk-paintable bounded low =
+        record {
+          checked = walkable h laid;
+          proper = h .patches;
+          sight = bounded;
+          low = low;
+          numbers = walk-patches;
+          few = omega (arith, walk-count, w .all, laid .few-patches);
+        }
 
     -- what the rows show is the result
     pub painted-all :
-        {v : Window} {cells unlit : List ℕ} →
-        RowsPainted eye (direction v) (walkOf bytes (take n after)) (v .width) (v .height) cells unlit →
-        Painted bytes eye v cells unlit
+        {a : Camera} {r : Raster} {cells unlit : List ℕ} → RaysOf a r →
+        RowsPainted eye (rayAt r) (walkOf bytes (take n after)) (r .width) (r .height) cells unlit →
+        Painted bytes (viewFrom eye a) cells unlit
     unfolding callPicture callUnlit
-    painted-all {v} {cells} {unlit} r =
-        let c : Call = callOn bytes eye v (lentOf cells cells unlit 0) in
-        let p : RowsPainted eye (direction v) (walked bytes eye) (v .width) (v .height) cells unlit =
-        subst (λ (o : List ℕ). RowsPainted eye (direction v) (walkOf bytes o) (v .width) (v .height) cells unlit) walk-front r in
+    painted-all {a} {r} {cells} {unlit} rays seen =
+        let v = viewFrom eye a in
+        let c : Call = callOn bytes v (lentOf cells cells unlit 0) in
+        let p : RowsPainted eye (viewDirection v) (walked bytes eye) (viewWidth v) (viewHeight v) cells unlit =
+        subst (λ (o : List ℕ). RowsPainted eye (viewDirection v) (walkOf bytes o) (viewWidth v) (viewHeight v) cells unlit) walk-front
+        (as-seen rays seen) in
         record { cells-are = painted-picture c h p; unlit-are = painted-unlit c h p }

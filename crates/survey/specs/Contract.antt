@@ -2,44 +2,34 @@
 use mathlib.Core.Path.{_≡_}
 use mathlib.Core.List.{List}
 use Prim.Native.Nat.{ℕ, zero, suc}
-use lib.ListN.{length}
 use Rattle.model.specs.Vector.{Vec}
-use Rattle.model.specs.Window.{Window}
+use Rattle.model.specs.View.{Camera, View}
+use Rattle.model.specs.Lent.{Lent, Lengths, lengthsOf}
 use Rattle.model.specs.Call.{Call}
 use Rattle.model.specs.Questions.{surveyAnswer}
 use Rattle.model.specs.Survey.{callPicture, callCounts, callUnlit, callCounter}
 
--- a window by its three numbers
-abbrev pub windowOf : ℕ → ℕ → ℕ → Window
-windowOf w h l = record { width = w; height = h; lens = l }
+-- a camera by its window's three numbers
+abbrev pub cameraOf : ℕ → ℕ → ℕ → Camera
+cameraOf w h l = record { window = record { width = w; height = h; lens = l } }
 
--- what the lent buffers and the station counter hold
-pub record Lent : Type 0 where
-  pub picture : List ℕ
-  pub counts : List ℕ
-  pub unlit : List ℕ
-  pub counter : ℕ
+-- the view of a camera from an eye
+abbrev pub viewFrom : Vec → Camera → View
+viewFrom e c = record { eye = e; camera = c }
 
 abbrev pub lentOf : List ℕ → List ℕ → List ℕ → ℕ → Lent
 lentOf p n u k = record { picture = p; counts = n; unlit = u; counter = k }
 
--- the call on a scene from an eye through a window, with buffers of these lengths and this counter
-abbrev pub gateCall : List ℕ → Vec → Window → ℕ → ℕ → ℕ → ℕ → Call
-gateCall bytes e w p n u k =
-    record {
-      scene = bytes;
-      eye = e;
-      window = w;
-      pictureLength = p;
-      countsLength = n;
-      unlitLength = u;
-      counter = k;
-    }
+abbrev pub lengthsAre : ℕ → ℕ → ℕ → Lengths
+lengthsAre p n u = record { picture = p; counts = n; unlit = u }
+
+-- the call on a scene with a view, with buffers of these lengths and this counter
+abbrev pub gateCall : List ℕ → View → Lengths → ℕ → Call
+gateCall bytes v l k = record { scene = bytes; eye = v .eye; camera = v .camera; lengths = l; counter = k }
 
 -- the same with these buffers lent
-abbrev pub callOn : List ℕ → Vec → Window → Lent → Call
-callOn bytes e w lent =
-    gateCall bytes e w (length (lent .picture)) (length (lent .counts)) (length (lent .unlit)) (lent .counter)
+abbrev pub callOn : List ℕ → View → Lent → Call
+callOn bytes v lent = gateCall bytes v (lengthsOf lent) (lent .counter)
 
 -- what an accepted call leaves
 abbrev pub results : Call → Lent
@@ -52,8 +42,6 @@ leftBy zero new old = new
 leftBy (suc n) new old = old
 
 -- The survey call: its result is the answer, and it leaves the results or, refusing, what it was lent.
-pub record Surveyed (bytes : List ℕ) (eye : Vec) (window : Window) (before after : Lent) (result : ℕ) : Type 0 where
-  pub answered : result ≡ surveyAnswer (callOn bytes eye window before)
-  pub left :
-      after
-      ≡ leftBy (surveyAnswer (callOn bytes eye window before)) (results (callOn bytes eye window before)) before
+pub record Surveyed (bytes : List ℕ) (v : View) (before after : Lent) (result : ℕ) : Type 0 where
+  pub answered : result ≡ surveyAnswer (callOn bytes v before)
+  pub left : after ≡ leftBy (surveyAnswer (callOn bytes v before)) (results (callOn bytes v before)) before

@@ -1,4 +1,3 @@
--- The contracts of the exported calls, and the statements of demands 2 and 3.
+-- The contracts of the exported calls.
 pub mod Contract
 pub mod Painted
-pub mod Demands

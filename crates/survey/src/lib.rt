@@ -1,19 +1,19 @@
 // The survey call and its gate, for a console in C.
+mod camera;
 mod paint;
-pub mod pair;
 pub mod view;
 
+use counting::count_cells;
 use format::records::vector;
 use gate::scene_answer;
 use paint::paint;
-use painting::tally::count_cells;
-use scene::coordinates::point_in_range;
+use view::counter_below_end;
 use view::lengths_fit;
-use view::window_in_range;
+use view::view_in_range;
 ghost use mathlib.Core.Path.{_≡_};
 ghost use Rattle.model.specs.Vector.{vec};
 ghost use Rattle.model.specs.Questions.{surveyAnswer};
-ghost use Rattle.survey.specs.Contract.{windowOf, lentOf, gateCall, Surveyed};
+ghost use Rattle.survey.specs.Contract.{cameraOf, viewFrom, lentOf, lengthsAre, gateCall, Surveyed};
 
 // The answer of the survey call on these numbers: 0, or the number of the first question that says no. Question 13 never does, so it is not asked.
 #[no_mangle]
@@ -30,23 +30,20 @@ pub extern "C" fn ring_gate(
     unlit_len: usize,
     counter: u32,
 ) -> u32
-    ensures { λ r. ⌜ r ≡ surveyAnswer (gateCall (now (scene .entry)) (vec «eye_x» «eye_y» «eye_z») (windowOf width height lens)
-        «picture_len» «counts_len» «unlit_len» counter) ⌝ }
+    ensures { λ r. ⌜ r ≡ surveyAnswer (gateCall (now (scene .entry)) (viewFrom (vec «eye_x» «eye_y» «eye_z») (cameraOf width height lens))
+        (lengthsAre «picture_len» «counts_len» «unlit_len») counter) ⌝ }
 {
     let answer = scene_answer(scene);
     if answer != 0 {
         return answer;
     }
-    if !point_in_range(vector(eye_x, eye_y, eye_z)) {
-        return 10;
-    }
-    if !window_in_range(width, height, lens) {
+    if !view_in_range(vector(eye_x, eye_y, eye_z), width, height, lens) {
         return 10;
     }
     if !lengths_fit(width, height, picture_len, counts_len, unlit_len) {
         return 11;
     }
-    if counter == 4294967295 {
+    if !counter_below_end(counter) {
         return 12;
     }
     0
@@ -67,7 +64,7 @@ pub extern "C" fn ring_survey(
     unlit: &mut [u16],
     counter: &mut u32,
 ) -> u32
-    ensures { λ r. ⌜ Surveyed (now (scene .entry)) (vec «eye_x» «eye_y» «eye_z») (windowOf width height lens)
+    ensures { λ r. ⌜ Surveyed (now (scene .entry)) (viewFrom (vec «eye_x» «eye_y» «eye_z») (cameraOf width height lens))
         (lentOf (now (picture .entry)) (now (counts .entry)) (now (unlit .entry)) (now (counter .entry)))
         (lentOf (now (picture .exit)) (now (counts .exit)) (now (unlit .exit)) (now (counter .exit))) r ⌝ }
 {

@@ -1,28 +1,25 @@
 -- What the tests say of each node record and each patch of the table holds of each node and each patch of the tree.
 use mathlib.Core.Path.{_≡_, refl, sym, ap, subst, _∙_}
-use mathlib.Core.Bool.{_&&_}
-use mathlib.Core.List.{List, [], _∷_, map, map-map, List·Memᴰ, Memᴰ·append-left, Memᴰ·append-right}
+use mathlib.Core.List.{List, [], _∷_, map, map-map, List·Memᴰ, Memᴰ·append-left, Memᴰ·append-right, Memᴰ·map}
 use Prim.Native.Nat.{ℕ, zero, suc, _<_}
 use native.Mathlib.Omega.{arith}
 use native.Mathlib.Decide.{decLt}
 use lib.Dec.{T}
 use lib.ListN.{length, take, drop, length-map, take-append-drop}
-use Rattle.model.specs.Lists.{every}
 use Rattle.model.specs.Vector.{Plane}
-use Rattle.model.specs.Patch.{Patch, cornersCounted, flat, strictlyConvex}
+use Rattle.model.specs.Patch.{Patch}
 use Rattle.model.specs.Tree.{Tree, leaf, node, mapTree}
 use Rattle.model.specs.Format.{Run, NodeRecord, PatchRecord, Scene, inRun, patchOf, patchTable, patchNumbered, numberTree, patchTree}
-use Rattle.model.specs.Questions.{offOneLine, planesProper, runsFollow, patchRunsFollow, cornerRunsFollow, neverFalling, panelsNeverFall, patchesProper}
-use Rattle.model.proofs.Tests.{both, every-true}
-use Rattle.model.proofs.Ranges.{getD-member}
-use Rattle.walk.proofs.Counting.{by-number}
-use Rattle.walk.proofs.Rooted.{nodeNumbered}
-use Rattle.walk.proofs.Subtrees.{treeOf, run, treeAt-is, tree-node, tree-leaf}
-use Rattle.walk.proofs.Runs.{follows}
+use Rattle.model.specs.Questions.{offOneLine, planesProper, patchRunsFollow, neverFalling, panelsNeverFall}
+use Rattle.model.proofs.Tests.{every-true}
+use Rattle.model.proofs.Ranges.{getD-member, by-number}
+use Rattle.checked.proofs.Rooted.{nodeNumbered}
+use Rattle.checked.proofs.Subtrees.{treeOf, run, treeAt-is, tree-node, tree-leaf}
+use Rattle.model.proofs.Runs.{runs-between}
 
 -- ---- the part of a list that a run names
 
-pub part-map : {A B : Type 0} (f : A → B) (r : Run) (l : List A) → inRun r (map f l) ≡ map f (inRun r l)
+part-map : {A B : Type 0} (f : A → B) (r : Run) (l : List A) → inRun r (map f l) ≡ map f (inRun r l)
 part-map {A} {B} f r l = ap (take (r .count)) (drop-map (r .first) l) ∙ take-map (r .count) (drop (r .first) l)
   where
     take-map : (n : ℕ) (l : List A) → take n (map f l) ≡ map f (take n l)
@@ -55,7 +52,11 @@ module _ (s : Scene) (runs : T (patchRunsFollow s)) where
   unfolding patchNumbered patchTable patchRunsFollow
   run-patches n m =
       by-number (patchTable s) _ (n .patchRun .first) (n .patchRun .count)
-      (rw (length-map (s .patches) (patchOf (s .corners))) (follows (λ (n : NodeRecord). n .patchRun) (length (s .patches)) 0 (s .nodes) runs .inside n m))
+      (rw (length-map (s .patches) (patchOf (s .corners)))
+      (runs-between (length (s .patches)) 0 (map runOf (s .nodes)) runs (n .patchRun) (Memᴰ·map runOf m) .ends))
+    where
+      runOf : NodeRecord → Run
+      runOf n = n .patchRun
 
   module _ (P : Plane → List Patch → Type 0) (each : (n : NodeRecord) → List·Memᴰ n (s .nodes) → P (n .plane) (inRun (n .patchRun) (patchTable s))) where
     In : Tree ℕ → Type 0
@@ -99,14 +100,3 @@ unfolding panelsNeverFall patchTable patchOf
 panels-rise s t n m =
     rw (part-map (patchOf (s .corners)) (n .patchRun) (s .patches), map-map)
     (every-true (λ (n : NodeRecord). neverFalling (map (λ (p : PatchRecord). p .panel) (inRun (n .patchRun) (s .patches)))) (s .nodes) .0 t n m)
-
--- questions 6 and 8
-pub corners-counted : (s : Scene) → T (cornerRunsFollow s) → (p : Patch) → List·Memᴰ p (patchTable s) → T (cornersCounted p)
-unfolding cornerRunsFollow
-corners-counted s t =
-    every-true cornersCounted (patchTable s) .0
-    (both (runsFollow 0 (length (s .corners)) (map (λ (p : PatchRecord). p .cornerRun) (s .patches))) (every cornersCounted (patchTable s)) .0 t .1)
-
-pub patch-proper : (s : Scene) → T (patchesProper s) → (p : Patch) → List·Memᴰ p (patchTable s) → T (flat p) × T (strictlyConvex p)
-unfolding patchesProper
-patch-proper s t p m = both (flat p) (strictlyConvex p) .0 (every-true (λ (p : Patch). flat p && strictlyConvex p) (patchTable s) .0 t p m)

@@ -20,11 +20,12 @@ use Rattle.format.proofs.Decoded.{patch-count}
 use Rattle.format.specs.declared.records.Node.{Node}
 use Rattle.format.specs.declared.layout.Layout.{Layout}
 use Rattle.walk.specs.Written.{Written}
-use Rattle.walk.specs.Walked.{Walkable, treeBelow, NodeIs, WholeWalk}
+use Rattle.checked.specs.Checked.{Checked, treeBelow, NodeIs}
+use Rattle.walk.specs.Walked.{WholeWalk}
 use Rattle.walk.specs.Near.{NearFirst}
 use Rattle.walk.specs.declared.order.Children.{Children}
 use Rattle.walk.proofs.Whole.{walk-length}
-use Rattle.walk.proofs.SceneNodes.{few-nodes}
+use Rattle.checked.proofs.Nodes.{few-nodes}
 use Rattle.walk.proofs.NearSide.{order-node}
 use Rattle.walk.proofs.Writes.{none-written, written-more}
 
@@ -87,7 +88,7 @@ assembled {first} {count} {o₃} {e₃} d room w₁ w₂ w₃ =
 
 -- ---- the whole tree
 
-module _ (bytes : List ℕ) (l : Layout) (w : Walkable bytes l) (eye : Vec) where
+module _ (bytes : List ℕ) (l : Layout) (w : Checked bytes l) (eye : Vec) where
   pub whole-length : length (order eye (treeBelow bytes 0)) ≡ l .patches
   unfolding numberTree runsProper
   whole-length =

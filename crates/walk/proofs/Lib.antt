@@ -1,24 +1,11 @@
 -- The tree that a scene's nodes spell holds just the scene's patches.
-pub mod Totals
-pub mod Counting
-pub mod Rooted
-pub mod Subtrees
+mod Totals
+mod Counting
+mod Sums
 pub mod Runs
 pub mod Whole
-pub mod Carried
-pub mod Writes
-pub mod SceneNodes
-pub mod NearSide
-pub mod Descents
+mod Carried
+mod Writes
+mod NearSide
+mod Descents
 pub mod Seen
-pub mod Held
-pub mod SceneCorners
-pub mod Every
-pub mod Placed
-pub mod Branches
-pub mod BoxLaws
-pub mod ExtentLaws
-pub mod BoxStores
-pub mod NodeBoxes
-pub mod BoxCorners
-pub mod BoxSides

@@ -1,19 +1,16 @@
--- Runs that follow each other: together they are one range, and each lies inside it.
+-- Runs that follow each other are together one range.
 use mathlib.Core.Path.{_≡_, refl}
 use mathlib.Core.Bool.{Bool}
-use mathlib.Core.List.{List, [], _∷_, map, List·Memᴰ, List·Memᴰ·not-nil}
-use Prim.Native.Nat.{ℕ, _+_, _≤_}
+use mathlib.Core.List.{List, [], _∷_, map}
+use Prim.Native.Nat.{ℕ, _+_}
 use native.Mathlib.Omega.{arith}
-use lib.Dec.{T, eqb, eqb→eq}
+use lib.Dec.{T, eqb→eq}
 use Rattle.model.specs.Lists.{range, tally}
 use Rattle.model.specs.Format.{Run}
 use Rattle.model.specs.Questions.{runsFollow}
-use Rattle.model.proofs.Tests.{both, of-cons}
+use Rattle.model.proofs.Ranges.{range-append}
+use Rattle.model.proofs.Runs.{first-follows}
 use Rattle.walk.proofs.Totals.{total, tally-append}
-use Rattle.walk.proofs.Counting.{range-append}
-
-abbrev pub runEnd : Run → ℕ
-runEnd r = r .first + r .count
 
 one-more :
     (test : ℕ → Bool) (first start count n sum : ℕ) →
@@ -27,27 +24,18 @@ module _ {A : Type 0} (runOf : A → Run) (end : ℕ) where
   pub record Follows (start : ℕ) (l : List A) : Type 0 where
     pub count : ℕ
     pub sum : start + count ≡ end
-    pub inside : (a : A) → List·Memᴰ a l → runEnd (runOf a) ≤ end
     pub together : (test : ℕ → Bool) → total (λ (a : A). tally test (range (runOf a .first) (runOf a .count))) l ≡ tally test (range start count)
 
   pub follows : (start : ℕ) (l : List A) → T (runsFollow start end (map runOf l)) → Follows start l
   unfolding runsFollow total
-  follows start [] t =
-      record {
-        count = 0;
-        sum = omega (arith, eqb→eq);
-        inside = λ a m. absurd (List·Memᴰ·not-nil m);
-        together = λ test. refl;
-      }
+  follows start [] t = record { count = 0; sum = omega (arith, eqb→eq); together = λ test. refl }
   follows start (a ∷ l) t =
       let r : Run = runOf a in
-      let u = both (eqb (r .first) start) (runsFollow (start + r .count) end (map runOf l)) .0 t in
-      let e : r .first ≡ start = eqb→eq (r .first) start (u .0) in
+      let u = first-follows end start r (map runOf l) t in
       let rest : Follows (start + r .count) l = follows (start + r .count) l (u .1) in
       let k : start + r .count + rest .count ≡ end = rest .sum in
       record {
         count = r .count + rest .count;
         sum = omega arith;
-        inside = of-cons (λ (x : A). runEnd (runOf x) ≤ end) (omega arith) (rest .inside);
-        together = λ test. one-more test (r .first) start (r .count) (rest .count) _ e (rest .together test);
+        together = λ test. one-more test (r .first) start (r .count) (rest .count) _ (u .0) (rest .together test);
       }

@@ -7,22 +7,22 @@ use native.Mathlib.Omega.{arith}
 use lib.Dec.{T, eqb, leb, leb→le}
 use lib.ListN.{length, length-map}
 use Rattle.model.specs.Vector.{Vec}
-use Rattle.model.specs.Patch.{Patch}
+use Rattle.model.specs.Patch.{Patch, Proper}
 use Rattle.model.specs.Ray.{panelOf, closest, firstMet}
 use Rattle.model.specs.Tree.{Tree, leaf, node, contents, order, divides}
 use Rattle.model.specs.Format.{Header, NodeRecord, Scene, headerOf, headerSize, nodeSize, patchSize, cornerSize, mostNodes, mostPatches, mostCorners, recordsOf, decode, noChild, inRun, patchTable, patchNumbered, numberTree, patchTree}
 use Rattle.model.specs.Questions.{sectionEnd, isSection, hasSections, planesProper, childrenProper, patchRunsFollow, cornerRunsFollow, runsProper, panelsInRange, panelsNeverFall, panelsProper, patchesProper, planesDivide}
 use Rattle.model.proofs.Tests.{both}
 use Rattle.model.proofs.Ranges.{range-length}
-use Rattle.model.proofs.Answers.{AcceptedScene}
-use Rattle.model.proofs.Patches.{Proper}
+use Rattle.model.specs.Accepted.{AcceptedScene}
 use Rattle.model.proofs.Closest.{closest-members}
 use Rattle.model.proofs.Visibility.{ProperNode, ProperTree, visible-panel}
 use Rattle.walk.proofs.Whole.{order-map, patch-members}
-use Rattle.walk.proofs.Carried.{EveryNode, carried, plane-proper, panels-rise, corners-counted, patch-proper, part-member}
+use Rattle.checked.proofs.Patches.{table-proper}
+use Rattle.walk.proofs.Carried.{EveryNode, carried, plane-proper, panels-rise, part-member}
 
 -- questions 4 to 9, of a scene with so few nodes that 65,535 is no node's number (question 2)
-pub record Accepted (s : Scene) : Type 0 where
+pub record ProperScene (s : Scene) : Type 0 where
   pub few-nodes : length (s .nodes) ≤ noChild
   pub planes : T (planesProper s)
   pub children : T (childrenProper s)
@@ -31,20 +31,10 @@ pub record Accepted (s : Scene) : Type 0 where
   pub patches : T (patchesProper s)
   pub divided : T (planesDivide s)
 
-module _ (s : Scene) (h : Accepted s) where
+module _ (s : Scene) (h : ProperScene s) where
   patch-runs : T (patchRunsFollow s)
   unfolding runsProper
   patch-runs = both (patchRunsFollow s) (cornerRunsFollow s) .0 (h .runs) .0
-
-  table-proper : (p : Patch) → List·Memᴰ p (patchTable s) → Proper p
-  unfolding runsProper
-  table-proper p m =
-      let t = patch-proper s (h .patches) p m in
-      record {
-        counted = corners-counted s (both (patchRunsFollow s) (cornerRunsFollow s) .0 (h .runs) .1) p m;
-        isFlat = t .0;
-        isConvex = t .1;
-      }
 
   node-proper : (n : NodeRecord) → List·Memᴰ n (s .nodes) → ProperNode (n .plane) (inRun (n .patchRun) (patchTable s))
   unfolding panelsProper
@@ -52,7 +42,7 @@ module _ (s : Scene) (h : Accepted s) where
       record {
         offLine = plane-proper s (h .planes) n m;
         panelsRise = panels-rise s (both (panelsInRange s) (panelsNeverFall s) .0 (h .panels) .1) n m;
-        proper = λ p k. table-proper p (part-member (n .patchRun) (patchTable s) k);
+        proper = λ p k. table-proper s (h .runs) (h .patches) p (part-member (n .patchRun) (patchTable s) k);
       }
 
   pub proper-tree : ProperTree (patchTree s)
@@ -92,7 +82,7 @@ few-nodes bytes t =
     let d = both (eqb (h .nodeSection .offset) headerSize && eqb (size % nodeSize) 0) (leb (size / nodeSize) mostNodes) .0 (c .0) in
     rw (length-map, range-length) (omega (arith, leb→le (size / nodeSize) mostNodes (d .1)))
 
-pub accepted : {bytes : List ℕ} → AcceptedScene bytes → Accepted (decode bytes)
+pub accepted : {bytes : List ℕ} → AcceptedScene bytes → ProperScene (decode bytes)
 accepted {bytes} h =
     record {
       few-nodes = few-nodes bytes (h .sections);

@@ -20,12 +20,12 @@ module _ {A : Type 0} where
   total-cong f g [] h = refl
   total-cong f g (a ∷ l) h = ap₂ _+_ (h a (List·Memᴰ·head refl)) (total-cong f g l (λ b m. h b (List·Memᴰ·tail m)))
 
-  pub total-zero : (l : List A) → total (λ (a : A). 0) l ≡ 0
+  total-zero : (l : List A) → total (λ (a : A). 0) l ≡ 0
   unfolding total
   total-zero [] = refl
   total-zero (a ∷ l) = rw (total-zero l)
 
-  pub total-add : (f g : A → ℕ) (l : List A) → total (λ (a : A). f a + g a) l ≡ total f l + total g l
+  total-add : (f g : A → ℕ) (l : List A) → total (λ (a : A). f a + g a) l ≡ total f l + total g l
   unfolding total
   total-add f g [] = refl
   total-add f g (a ∷ l) = let h : total (λ (a : A). f a + g a) l ≡ total f l + total g l = total-add f g l in omega arith
@@ -57,11 +57,6 @@ module _ {A : Type 0} (test : A → Bool) where
   pub tally-map : {B : Type 0} (h : B → A) (l : List B) → tally test (map h l) ≡ tally (λ (b : B). test (h b)) l
   tally-map h [] = refl
   tally-map h (b ∷ l) = ap (addIf (test (h b))) (tally-map h l)
-
-  pub tally-each : (l : List A) → total (λ (a : A). tally test (a ∷ [])) l ≡ tally test l
-  unfolding total
-  tally-each [] = refl
-  tally-each (a ∷ l) = rw (tally-each l, ← addIf-add, zero-add)
 
 -- a length is the tally of all
 pub tally-all : {A : Type 0} (l : List A) → tally (λ (a : A). true) l ≡ length l

@@ -2,7 +2,7 @@
 use mathlib.Core.Path.{_≡_, refl, sym, ap, _∙_}
 use mathlib.Core.Logic.{_↔_}
 use mathlib.Core.Bool.{Bool, true, false, cond}
-use mathlib.Core.List.{List, [], _∷_, _++_, map, map-append, List·Memᴰ, Memᴰ·map, Memᴰ·of-map, Memᴰ·cast}
+use mathlib.Core.List.{List, _++_, map, map-append, List·Memᴰ, Memᴰ·map, Memᴰ·of-map, Memᴰ·cast}
 use Prim.Native.Nat.{ℕ, _≤_, _<_}
 use native.Mathlib.Nat.{zero-add}
 use native.Mathlib.Omega.{arith}
@@ -18,20 +18,14 @@ use Rattle.model.specs.Format.{NodeRecord, Scene, noChild, patchTable, patchNum
 use Rattle.model.specs.Questions.{childrenProper, patchRunsFollow}
 use Rattle.model.specs.Removal.{samePatch, timesListed}
 use Rattle.model.proofs.Tests.{tally-some}
-use Rattle.model.proofs.Ranges.{range-length}
-use Rattle.walk.proofs.Totals.{total, total-map, tally-append, tally-map, tally-each, tally-all}
-use Rattle.walk.proofs.Counting.{in-range, all-by-number}
-use Rattle.walk.proofs.Rooted.{nodeNumbered, rooted}
-use Rattle.walk.proofs.Subtrees.{treeOf, run, treeAt-is, tally-tree}
+use Rattle.walk.proofs.Totals.{total, total-map, tally-append, tally-map, tally-all}
+use Rattle.model.proofs.Ranges.{range-length, in-range, all-by-number}
+use Rattle.checked.proofs.Rooted.{nodeNumbered, rooted}
+use Rattle.checked.proofs.Subtrees.{run, treeAt-is, contents-map}
+use Rattle.walk.proofs.Sums.{tally-tree}
 use Rattle.walk.proofs.Runs.{follows}
 
 -- ---- trees
-
-pub contents-map : {A B : Type 0} (f : A → B) (t : Tree A) → contents (mapTree f t) ≡ map f (contents t)
-unfolding contents mapTree
-contents-map f leaf = refl
-contents-map f (node s own front back) =
-    rw (contents-map f front, contents-map f back, map-append, map-append)
 
 pub order-map : {A B : Type 0} (f : A → B) (eye : Vec) (t : Tree A) → order eye (mapTree f t) ≡ map f (order eye t)
 unfolding order mapTree
@@ -47,7 +41,7 @@ order-map f eye (node s own front back) = step (ltZ (side s eye) (pos 0)) (order
     step false h k = rw (h, k, map-append, map-append)
 
 -- the walk goes by everything once
-pub order-tally : {A : Type 0} (test : A → Bool) (eye : Vec) (t : Tree A) → tally test (order eye t) ≡ tally test (contents t)
+order-tally : {A : Type 0} (test : A → Bool) (eye : Vec) (t : Tree A) → tally test (order eye t) ≡ tally test (contents t)
 unfolding order contents
 order-tally test eye leaf = refl
 order-tally {A} test eye (node s own front back) =
@@ -59,97 +53,86 @@ order-tally {A} test eye (node s own front back) =
     step true f g f′ g′ h k = simp tally-append (omega arith)
     step false f g f′ g′ h k = simp tally-append (omega arith)
 
-pub order-length : {A : Type 0} (eye : Vec) (t : Tree A) → length (order eye t) ≡ length (contents t)
+order-length : {A : Type 0} (eye : Vec) (t : Tree A) → length (order eye t) ≡ length (contents t)
 order-length {A} eye t = sym (tally-all (order eye t)) ∙ order-tally (λ (a : A). true) eye t ∙ tally-all (contents t)
 
 -- ---- lists of numbers in which each number stands as often
 
-pub same-members : (l l′ : List ℕ) → ((k : ℕ) → occurrences k l ≡ occurrences k l′) → (k : ℕ) → List·Memᴰ k l → List·Memᴰ k l′
+same-members : (l l′ : List ℕ) → ((k : ℕ) → occurrences k l ≡ occurrences k l′) → (k : ℕ) → List·Memᴰ k l → List·Memᴰ k l′
 same-members l l′ h k m =
     let s = tally-some (λ (j : ℕ). eqb j k) l′ .0 (rw (h k) at (tally-some (λ (j : ℕ). eqb j k) l .1 (k, m, eqb-refl k))) in
     Memᴰ·cast (sym (eqb→eq (s .0) k (s .2))) (s .1)
 
 -- ---- the scene
 
-pub table-by-number : (s : Scene) → map (patchNumbered s) (range 0 (length (s .patches))) ≡ patchTable s
+table-by-number : (s : Scene) → map (patchNumbered s) (range 0 (length (s .patches))) ≡ patchTable s
 unfolding patchNumbered patchTable
 table-by-number s =
     ap (λ (n : ℕ). map (patchNumbered s) (range 0 n)) (sym (length-map (s .patches) (patchOf (s .corners))))
     ∙ all-by-number (patchTable s) _
 
--- the numbers of the nodes that the tree has, in its order
-abbrev pub reached : Scene → List ℕ
-reached s = contents (treeOf (λ (k : ℕ) (n : NodeRecord). k ∷ []) (length (s .nodes)) (s .nodes) 0)
+module _ (s : Scene) (most : length (s .nodes) ≤ noChild) (fifth : T (childrenProper s)) (runs : T (patchRunsFollow s)) where
+  -- the tree's patch numbers are those of the table, each once
+  number-tally : (test : ℕ → Bool) → tally test (contents (numberTree s)) ≡ tally test (range 0 (length (s .patches)))
+  unfolding numberTree patchRunsFollow
+  number-tally test =
+      let all = follows (λ (n : NodeRecord). n .patchRun) (length (s .patches)) 0 (s .nodes) runs in
+      let count : all .count ≡ length (s .patches) = sym (zero-add _) ∙ all .sum in
+      ap (λ (t : Tree ℕ). tally test (contents t)) (treeAt-is (length (s .nodes)) (s .nodes) 0)
+      ∙ tally-tree run (s .nodes) (rooted s most fifth) test
+      ∙ sym (total-map (λ (n : NodeRecord). tally test (run 0 n)) (nodeNumbered (s .nodes)) (range 0 (length (s .nodes))))
+      ∙ ap (total (λ (n : NodeRecord). tally test (run 0 n))) (all-by-number (s .nodes) _)
+      ∙ all .together test
+      ∙ ap (λ (n : ℕ). tally test (range 0 n)) count
 
-module _ (s : Scene) (most : length (s .nodes) ≤ noChild) (fifth : T (childrenProper s)) where
-  -- every node is reached from node 0, once
-  pub nodes-once : (test : ℕ → Bool) → tally test (reached s) ≡ tally test (range 0 (length (s .nodes)))
-  nodes-once test =
-      tally-tree (λ (k : ℕ) (n : NodeRecord). k ∷ []) (s .nodes) (rooted s most fifth) test
-      ∙ tally-each test (range 0 (length (s .nodes)))
+  pub numbers-once : (k : ℕ) → occurrences k (contents (numberTree s)) ≡ occurrences k (range 0 (length (s .patches)))
+  numbers-once k = number-tally (λ (j : ℕ). eqb j k)
 
-  module _ (runs : T (patchRunsFollow s)) where
-    -- the tree's patch numbers are those of the table, each once
-    pub number-tally : (test : ℕ → Bool) → tally test (contents (numberTree s)) ≡ tally test (range 0 (length (s .patches)))
-    unfolding numberTree patchRunsFollow
-    number-tally test =
-        let all = follows (λ (n : NodeRecord). n .patchRun) (length (s .patches)) 0 (s .nodes) runs in
-        let count : all .count ≡ length (s .patches) = sym (zero-add _) ∙ all .sum in
-        ap (λ (t : Tree ℕ). tally test (contents t)) (treeAt-is (length (s .nodes)) (s .nodes) 0)
-        ∙ tally-tree run (s .nodes) (rooted s most fifth) test
-        ∙ sym (total-map (λ (n : NodeRecord). tally test (run 0 n)) (nodeNumbered (s .nodes)) (range 0 (length (s .nodes))))
-        ∙ ap (total (λ (n : NodeRecord). tally test (run 0 n))) (all-by-number (s .nodes) _)
-        ∙ all .together test
-        ∙ ap (λ (n : ℕ). tally test (range 0 n)) count
+  -- so the walk has as many numbers as there are patches, and each is a patch's
+  pub walk-length : (eye : Vec) → length (order eye (numberTree s)) ≡ length (s .patches)
+  walk-length eye =
+      order-length eye (numberTree s)
+      ∙ sym (tally-all (contents (numberTree s)))
+      ∙ number-tally (λ (k : ℕ). true)
+      ∙ tally-all (range 0 (length (s .patches)))
+      ∙ range-length 0 (length (s .patches))
 
-    pub numbers-once : (k : ℕ) → occurrences k (contents (numberTree s)) ≡ occurrences k (range 0 (length (s .patches)))
-    numbers-once k = number-tally (λ (j : ℕ). eqb j k)
+  pub walk-numbers : (eye : Vec) (k : ℕ) → List·Memᴰ k (order eye (numberTree s)) → k < length (s .patches)
+  walk-numbers eye k m =
+      let h =
+      in-range 0 (length (s .patches)) k .0
+      (same-members (order eye (numberTree s)) (range 0 (length (s .patches)))
+      (λ j. order-tally (λ (i : ℕ). eqb i j) eye (numberTree s) ∙ numbers-once j) k m) in
+      omega arith
 
-    -- so the walk has as many numbers as there are patches, and each is a patch's
-    pub walk-length : (eye : Vec) → length (order eye (numberTree s)) ≡ length (s .patches)
-    walk-length eye =
-        order-length eye (numberTree s)
-        ∙ sym (tally-all (contents (numberTree s)))
-        ∙ number-tally (λ (k : ℕ). true)
-        ∙ tally-all (range 0 (length (s .patches)))
-        ∙ range-length 0 (length (s .patches))
+  -- and its patches are those of the table, each as often
+  pub patch-tally : (test : Patch → Bool) → tally test (contents (patchTree s)) ≡ tally test (patchTable s)
+  unfolding patchTree
+  patch-tally test =
+      ap (tally test) (contents-map (patchNumbered s) (numberTree s))
+      ∙ tally-map test (patchNumbered s) (contents (numberTree s))
+      ∙ number-tally (λ (k : ℕ). test (patchNumbered s k))
+      ∙ sym (tally-map test (patchNumbered s) (range 0 (length (s .patches))))
+      ∙ ap (tally test) (table-by-number s)
 
-    pub walk-numbers : (eye : Vec) (k : ℕ) → List·Memᴰ k (order eye (numberTree s)) → k < length (s .patches)
-    walk-numbers eye k m =
-        let h =
-        in-range 0 (length (s .patches)) k .0
-        (same-members (order eye (numberTree s)) (range 0 (length (s .patches)))
-        (λ j. order-tally (λ (i : ℕ). eqb i j) eye (numberTree s) ∙ numbers-once j) k m) in
-        omega arith
+  pub patches-listed : (p : Patch) → timesListed p (contents (patchTree s)) ≡ timesListed p (patchTable s)
+  unfolding timesListed
+  patches-listed p = patch-tally (samePatch p)
 
-    -- and its patches are those of the table, each as often
-    pub patch-tally : (test : Patch → Bool) → tally test (contents (patchTree s)) ≡ tally test (patchTable s)
-    unfolding patchTree
-    patch-tally test =
-        ap (tally test) (contents-map (patchNumbered s) (numberTree s))
-        ∙ tally-map test (patchNumbered s) (contents (numberTree s))
-        ∙ number-tally (λ (k : ℕ). test (patchNumbered s k))
-        ∙ sym (tally-map test (patchNumbered s) (range 0 (length (s .patches))))
-        ∙ ap (tally test) (table-by-number s)
-
-    pub patches-listed : (p : Patch) → timesListed p (contents (patchTree s)) ≡ timesListed p (patchTable s)
-    unfolding timesListed
-    patches-listed p = patch-tally (samePatch p)
-
-    pub patch-members : (p : Patch) → List·Memᴰ p (contents (patchTree s)) ↔ List·Memᴰ p (patchTable s)
-    unfolding patchTree
-    patch-members p = (
-      λ m. rw table-by-number at (renumbered (contents (numberTree s)) (range 0 (length (s .patches))) numbers-once (rw contents-map at m)),
-      λ m. rw contents-map
-          (renumbered (range 0 (length (s .patches))) (contents (numberTree s)) (λ k. sym (numbers-once k))
-          (rw (← table-by-number s) at m)),
-    )
-      where
-        renumbered :
-            (l l′ : List ℕ) →
-            ((k : ℕ) → occurrences k l ≡ occurrences k l′) →
-            List·Memᴰ p (map (patchNumbered s) l) →
-            List·Memᴰ p (map (patchNumbered s) l′)
-        renumbered l l′ h m =
-            let found = Memᴰ·of-map (patchNumbered s) l m in
-            Memᴰ·cast (sym (found .2)) (Memᴰ·map (patchNumbered s) (same-members l l′ h (found .0) (found .1)))
+  pub patch-members : (p : Patch) → List·Memᴰ p (contents (patchTree s)) ↔ List·Memᴰ p (patchTable s)
+  unfolding patchTree
+  patch-members p = (
+    λ m. rw table-by-number at (renumbered (contents (numberTree s)) (range 0 (length (s .patches))) numbers-once (rw contents-map at m)),
+    λ m. rw contents-map
+        (renumbered (range 0 (length (s .patches))) (contents (numberTree s)) (λ k. sym (numbers-once k))
+        (rw (← table-by-number s) at m)),
+  )
+    where
+      renumbered :
+          (l l′ : List ℕ) →
+          ((k : ℕ) → occurrences k l ≡ occurrences k l′) →
+          List·Memᴰ p (map (patchNumbered s) l) →
+          List·Memᴰ p (map (patchNumbered s) l′)
+      renumbered l l′ h m =
+          let found = Memᴰ·of-map (patchNumbered s) l m in
+          Memᴰ·cast (sym (found .2)) (Memᴰ·map (patchNumbered s) (same-members l l′ h (found .0) (found .1)))

@@ -9,7 +9,7 @@ use lib.ListN.{length, take, drop, set, getD, length-append, length-set, take-ap
 use lib.Seq.{length-take-le, drop-cons, drop-drop, set-at, take-at, drop-at}
 use Rattle.model.specs.Lists.{range}
 use Rattle.walk.specs.Written.{Written}
-use Rattle.walk.proofs.Counting.{range-append}
+use Rattle.model.proofs.Ranges.{range-append}
 
 pub none-written : (o : List ℕ) (at : ℕ) → Written o at [] o at
 none-written o at = record { ended = sym (add-zero at); now-holds = sym (take-append-drop at o) }
@@ -41,7 +41,7 @@ module _ {o : List ℕ} {at : ℕ} {xs o′ : List ℕ} {end : ℕ} (w : Written
       rest : drop end′ o′ ≡ drop end′ o
       rest = rw (v .ended, ← drop-drop (length ys) end o′, ← drop-drop (length ys) end o, dropped)
 
-  pub written-one : (v : ℕ) → end < length o → Written o at (xs ++ (v ∷ [])) (set o′ end v) (end + 1)
+  written-one : (v : ℕ) → end < length o → Written o at (xs ++ (v ∷ [])) (set o′ end v) (end + 1)
   written-one v more =
       record {
         ended = rw (w .ended, length-append, add-assoc);

@@ -2,5 +2,3 @@
 pub mod Written
 pub mod Walked
 pub mod Near
-pub mod Division
-pub mod Boxes

@@ -1,6 +1,2 @@
-// The tree of planes: its walk front to back, and question 9.
-pub mod beyond;
-pub mod boxes;
-pub mod division;
+// The walk of the tree of planes, front to back.
 pub mod order;
-pub mod scene;

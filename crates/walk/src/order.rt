@@ -1,5 +1,5 @@
 // The patch numbers of the tree, front to back from an eye.
-use crate::scene::tree_node;
+use checked::node;
 use format::layout::Layout;
 use format::records::Node;
 use geometry::Vector;
@@ -11,7 +11,8 @@ ghost use Rattle.model.specs.Lists.{range};
 ghost use Rattle.model.specs.Tree.{order};
 ghost use Rattle.geometry.specs.Machine.{vecOf, planeOf, Bounded};
 ghost use Rattle.walk.specs.Written.{Written};
-ghost use Rattle.walk.specs.Walked.{Walkable, PointsBounded, treeBelow, WholeWalk};
+ghost use Rattle.checked.specs.Checked.{Checked, PointsBounded, treeBelow};
+ghost use Rattle.walk.specs.Walked.{WholeWalk};
 ghost use Rattle.walk.specs.Near.{NearFirst};
 
 // a node's children: the one on the eye's side, and the other
@@ -53,14 +54,14 @@ fn write_run(first: usize, count: usize, out: &mut [u16], at: usize) -> usize
 
 // writes the patch numbers at and below node k from place `at` on; returns the place after them
 fn walk_below(bytes: &[u8], l: Layout, k: usize, eye: Vector, out: &mut [u16], at: usize) -> usize
-    requires { ⌜ Walkable (now bytes) l × Bounded 10000 eye
+    requires { ⌜ Checked (now bytes) l × Bounded 10000 eye
         × (at + length (order (vecOf eye) (treeBelow (now bytes) k)) ≤ length (now out)) ⌝ }
     ensures { λ r. ⌜ Written (now (out .entry)) at (order (vecOf eye) (treeBelow (now (bytes .entry)) k)) (now (out .exit)) r ⌝ }
 {
     if l.nodes <= k {
         return at;
     }
-    let n = tree_node(bytes, l, k);
+    let n = node(bytes, l, k);
     let c = near_first(n, eye);
     let own = walk_below(bytes, l, c.near, eye, out, at);
     let far = write_run(n.patches.first, n.patches.count, out, own);
@@ -69,7 +70,7 @@ fn walk_below(bytes: &[u8], l: Layout, k: usize, eye: Vector, out: &mut [u16], a
 
 // writes the patch numbers of the whole tree at the front of `out`; returns how many there are
 pub fn walk(bytes: &[u8], l: Layout, eye: Vector, out: &mut [u16]) -> usize
-    requires { ⌜ Walkable (now bytes) l × Bounded 10000 eye × (l .patches ≤ length (now out)) ⌝ }
+    requires { ⌜ Checked (now bytes) l × Bounded 10000 eye × (l .patches ≤ length (now out)) ⌝ }
     ensures { λ r. ⌜ WholeWalk (now (bytes .entry)) l (vecOf eye) (now (out .entry)) (now (out .exit)) r ⌝ }
 {
     walk_below(bytes, l, 0, eye, out, 0)

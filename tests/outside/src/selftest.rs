@@ -31,7 +31,7 @@ fn main() {
         failed += usize::from(!held);
     }
     failed += consistent(400);
-    failed += sound(1_000);
+    failed += sound(300);
     failed += faults(6_000);
     println!("selftest: {failed} failed");
     exit(i32::from(failed > 0));

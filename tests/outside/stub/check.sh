@@ -5,12 +5,17 @@ set -eu
 here=$(cd "$(dirname "$0")" && pwd)
 work=$(mktemp -d)
 trap 'rm -rf "$work"' EXIT
-${CC:-cc} -std=c11 -Wall -Wextra -O1 -g -c "$here/stub.c" -o "$work/stub.o"
-ar rcs "$work/libsurvey.a" "$work/stub.o"
 cd "$here/.."
-export SURVEY_LIB_DIR="$work" CARGO_TARGET_DIR="$work/target"
+# The build is kept apart from that with the library, and is done once.
+built=${CARGO_TARGET_DIR:-target}/stub
+mkdir -p "$built"
+[ "$built/libsurvey.a" -nt "$here/stub.c" ] || {
+    ${CC:-cc} -std=c11 -Wall -Wextra -O1 -g -c "$here/stub.c" -o "$built/stub.o"
+    ar rcs "$built/libsurvey.a" "$built/stub.o"
+}
+export SURVEY_LIB_DIR="$built" CARGO_TARGET_DIR="$built"
 cargo build --release --offline --quiet --features library --bin differential
-differential="$work/target/release/differential"
+differential="$built/release/differential"
 printf '#!/bin/sh\ncat >/dev/null\necho refused 14\n' >"$work/ringbill"
 chmod +x "$work/ringbill"
 
@@ -20,7 +25,7 @@ must() {
     fault=$1 code=$2 prefix=$3
     shift 3
     got=0
-    STUB_FAULT=$fault $prefix "$differential" --small --cases 300 --seed 3 \
+    STUB_FAULT=$fault $prefix "$differential" --small --cases $cases --seed 3 \
         --out "$work" $bill >"$work/report" 2>&1 || got=$?
     [ "$got" = "$code" ] || { echo "$fault: exit $got, not $code"; tail -n 40 "$work/report"; exit 1; }
     for difference; do
@@ -30,7 +35,7 @@ must() {
     echo "$fault: exit $got, seen $*"
 }
 
-bill=
+cases=300 bill=
 must silent 1 '' Answer Gate Picture Counts Unlit Counter FirstShowsClosest \
     EqualWhenNoneCounted DifferWhereChosen SecondShowsKept
 must scribe 1 '' Answer Gate TouchedPicture TouchedCounts TouchedUnlit \
@@ -39,11 +44,11 @@ must blank 1 '' Answer Gate Picture Counts Unlit TouchedPicture TouchedCounts \
     TouchedUnlit TouchedCounter FirstShowsClosest
 bill="--ringbill $work/ringbill"
 must blank 1 '' Bill
-bill=
+cases=40 bill=
 if command -v valgrind >/dev/null; then
     must blank 1 'valgrind --quiet --error-exitcode=99' Picture
     must beyond 99 'valgrind --quiet --error-exitcode=99' Picture
 fi
 [ -s "$work/outside-3-0-0.case" ] || { echo "no case was written"; exit 1; }
-"$work/target/release/differential" --no-such-word 2>/dev/null && exit 1
+"$differential" --no-such-word 2>/dev/null && exit 1
 echo "stub: every wrong answer was seen"

@@ -1,75 +1,107 @@
--- `gate::scene_answer` meets its contract: questions 1 to 8 are one call, and question 9 is asked of a scene that passed them.
-use mathlib.Core.Path.{_≡_, refl, sym, _∙_, ap}
-use mathlib.Core.Bool.{Bool, true, false, cond}
+-- `gate::scene_answer` meets its contract: each question is asked after those before it said yes.
+use mathlib.Core.Path.{_≡_}
+use mathlib.Core.Bool.{true}
 use mathlib.Core.List.{List}
 use Prim.Native.Nat.{ℕ}
+use lib.Dec.{T}
 use borrow.Author.Needs.{needs}
-use borrow.Author.Tests.{not-true, not-false}
 use Rattle.model.specs.Format.{decode}
-use Rattle.model.specs.Questions.{planesDivide, sceneAnswer}
+use Rattle.model.specs.Questions.{coordinatesInRange, childrenProper, runsProper, sceneQuestions, sceneAnswer}
 use Rattle.model.proofs.Tests.{is-true}
+use Rattle.model.proofs.FirstNo.{said-yes, said, RefusedAt, refused-at, AllYes, no-no}
 use Rattle.format.specs.declared.layout.Layout.{Layout}
-use Rattle.format.specs.Layout.{LaidOut}
-use Rattle.scene.specs.Gate.{firstNo}
+use Rattle.format.specs.Layout.{LaidOut, RunsInside}
+use Rattle.format.proofs.Sections.{header-inside}
 use Rattle.scene.proofs.RunTables.{runs-inside}
-use Rattle.scene.proofs.Answers.{eight-yes, scene-ninth, scene-refused}
-use Rattle.walk.specs.Walked.{Walkable}
+use Rattle.convexity.specs.Bounds.{Cornered}
+use Rattle.checked.specs.Checked.{Checked}
 use Rattle.gate.proofs.scene_answer.Statement.{statement}
 use Rattle.gate.proofs.scene_answer.Tie as tie
 
-refused : {n : ℕ} (bytes : List ℕ) → n ≡ firstNo bytes → (n ≡ 0 → ⊥) → n ≡ sceneAnswer bytes
-refused bytes e f = e ∙ sym (scene-refused bytes (λ z. f (e ∙ z)))
+module _ {bytes : List ℕ} {l : Layout} (laid : LaidOut bytes l) where
+  in-range : coordinatesInRange (decode bytes) ≡ true → LaidOut bytes l × T (coordinatesInRange (decode bytes))
+  in-range t = (laid, is-true t)
 
-walkable : {n : ℕ} (bytes : List ℕ) {l : Layout} → n ≡ firstNo bytes → n ≡ 0 → LaidOut bytes l → Walkable bytes l
-walkable bytes e z laid =
-    let y = eight-yes bytes (sym e ∙ z) in
-    record {
-      laid = laid;
-      inside = runs-inside laid (y .runs);
-      coordinates = is-true (y .coordinates);
-      children = is-true (y .children);
-      runs = is-true (y .runs);
-    }
+  runs-within : runsProper (decode bytes) ≡ true → LaidOut bytes l × RunsInside bytes l
+  runs-within t = (laid, runs-inside laid t)
 
-ninth :
-    {n : ℕ} (bytes : List ℕ) {r : Bool} → n ≡ firstNo bytes → n ≡ 0 → r ≡ planesDivide (decode bytes) →
-    cond r 0 9 ≡ sceneAnswer bytes
-ninth bytes e z d = ap (λ (b : Bool). cond b 0 9) d ∙ sym (scene-ninth bytes (sym e ∙ z))
+  cornered : coordinatesInRange (decode bytes) ≡ true → runsProper (decode bytes) ≡ true → Cornered bytes l
+  cornered t runs = record { laid = laid; inside = runs-inside laid runs; coordinates = is-true t }
 
-refused-9 :
-    {n : ℕ} (bytes : List ℕ) {r : Bool} → n ≡ firstNo bytes → n ≡ 0 → r ≡ planesDivide (decode bytes) → r ≡ false →
-    9 ≡ sceneAnswer bytes
-refused-9 bytes e z d f = sym (ap (λ (b : Bool). cond b 0 9) f) ∙ ninth bytes e z d
+  checked :
+      coordinatesInRange (decode bytes) ≡ true → childrenProper (decode bytes) ≡ true → runsProper (decode bytes) ≡ true →
+      Checked bytes l
+  checked t children runs =
+      record {
+        laid = laid;
+        inside = runs-inside laid runs;
+        coordinates = is-true t;
+        children = is-true children;
+        runs = is-true runs;
+      }
 
-accepted :
-    {n : ℕ} (bytes : List ℕ) {r : Bool} → n ≡ firstNo bytes → n ≡ 0 → r ≡ planesDivide (decode bytes) → r ≡ true →
-    0 ≡ sceneAnswer bytes
-accepted bytes e z d f = sym (ap (λ (b : Bool). cond b 0 9) f) ∙ ninth bytes e z d
+refused : (bytes : List ℕ) (n : ℕ) → RefusedAt bytes n sceneQuestions → n ≡ sceneAnswer bytes
+unfolding sceneAnswer
+refused bytes n r = refused-at bytes n sceneQuestions r
 
-returns : tie.Need-returns
-returns c = search refused
+accepted : (bytes : List ℕ) → AllYes bytes sceneQuestions → 0 ≡ sceneAnswer bytes
+unfolding sceneAnswer
+accepted bytes y = no-no bytes sceneQuestions y
+
+-- ---- what the questions before tell
 
 read-layout-requires : tie.Need-read-layout-requires
 read-layout-requires c κs =
-    let y = eight-yes _ (sym (c .before .first-no .ensures) ∙ c .if1 .left) in
-    (y .header, y .sections)
+    let header = c .before .before in
+    (said-yes (header .before .has-header .ensures) (header .if1 .left), said-yes (c .before .has-sections .ensures) (c .if2 .left))
+
+planes-proper-requires : tie.Need-planes-proper-requires
+planes-proper-requires c κs =
+    let laid = c .before .before .read-layout .ensures in
+    in-range laid (search said)
+
+-- from after question 6 back to where the layout was read
+abbrev layout-read : tie.Else6 → tie.After-read-layout
+layout-read c = c .before .before .before .before .before .before .before .before
+
+panels-proper-requires : tie.Need-panels-proper-requires
+panels-proper-requires c κs =
+    let laid = layout-read c .read-layout .ensures in
+    runs-within laid (search said)
+
+patches-proper-requires : tie.Need-patches-proper-requires
+patches-proper-requires c κs =
+    let laid = layout-read (c .before .before) .read-layout .ensures in
+    cornered laid (search said) (search said)
 
 planes-divide-requires : tie.Need-planes-divide-requires
-planes-divide-requires c κs = search walkable
+planes-divide-requires c κs =
+    let laid = layout-read (c .before .before .before .before) .read-layout .ensures in
+    checked laid (search said) (search said) (search said)
 
-returns-2 : tie.Need-returns-2
-returns-2 c = search (refused-9, not-true)
-
-returns-3 : tie.Need-returns-3
-returns-3 c = search (accepted, not-false)
-
+-- each answer is one line: the question's number, and that those before it said yes
 pub scene-answer-spec : {M : Type 1} → statement M
+unfolding sceneQuestions
 scene-answer-spec =
     tie.close
     (tie.spec
     (λ c κs. search needs)
-    returns
+    (λ c. refused _ 1 (search said depth 40 fits 20000))
+    (λ c κs. search (said, header-inside))
+    (λ c. refused _ 2 (search said depth 40 fits 20000))
     read-layout-requires
+    (λ c κs. search needs)
+    (λ c. refused _ 3 (search said depth 40 fits 20000))
+    planes-proper-requires
+    (λ c. refused _ 4 (search said depth 40 fits 20000))
+    (λ c κs. search needs)
+    (λ c. refused _ 5 (search said depth 40 fits 20000))
+    (λ c κs. search needs)
+    (λ c. refused _ 6 (search said depth 40 fits 20000))
+    panels-proper-requires
+    (λ c. refused _ 7 (search said depth 40 fits 20000))
+    patches-proper-requires
+    (λ c. refused _ 8 (search said depth 40 fits 20000))
     planes-divide-requires
-    returns-2
-    returns-3)
+    (λ c. refused _ 9 (search said depth 40 fits 20000))
+    (λ c. accepted _ (search said depth 40 fits 20000)))

@@ -3,23 +3,23 @@ use mathlib.Core.Path.{refl}
 use denote.Ref.{now}
 use borrow.Author.Needs.{needs}
 use Rattle.survey.specs.Contract.{lentOf}
-use Rattle.survey.proofs.Gates.{eye-handed, gate-handed}
-use Rattle.survey.proofs.Calls.{painted-from, refused, paintable, counter-rises, countable, accepted}
+use Rattle.survey.proofs.Handed.{eye-handed, gate-handed, painted-from}
+use Rattle.survey.proofs.Calls.{refused, paintable, counter-rises, countable, accepted}
 use Rattle.survey.proofs.ring_survey.Statement.{statement}
 use Rattle.survey.proofs.ring_survey.Tie as tie
 
 returns : tie.Need-returns
 returns c =
     let e = c .before .before .before .before .before .before .before .fits in
-    refused _ _ _ _ (gate-handed _ _ _ _ _ _ (e .eye-x) (e .eye-y) (e .eye-z) (c .before .ring-gate .ensures)) (c .if1 .taken)
+    refused _ _ _ (gate-handed (e .eye-x) (e .eye-y) (e .eye-z) _ _ _ _ (c .before .ring-gate .ensures)) (c .if1 .taken)
 
 paint-requires : tie.Need-paint-requires
 paint-requires c κs =
     let v = c .before .before in
     let s = c .before .before .before .before .before .before .before .before .before .before in
     let e = s .fits in
-    paintable _ _ _ (lentOf (now (s .args .picture)) (now (s .args .counts)) (now (s .args .unlit)) (now (s .args .counter)))
-    (gate-handed _ _ _ _ _ _ (e .eye-x) (e .eye-y) (e .eye-z) (v .before .before .ring-gate .ensures))
+    paintable _ _ (lentOf (now (s .args .picture)) (now (s .args .counts)) (now (s .args .unlit)) (now (s .args .counter)))
+    (gate-handed (e .eye-x) (e .eye-y) (e .eye-z) _ _ _ _ (v .before .before .ring-gate .ensures))
     (v .before .if1 .left)
     (eye-handed (e .eye-x) (e .eye-y) (e .eye-z) (v .vector .ensures))
 
@@ -29,8 +29,8 @@ count-cells-requires c κs =
     let v = p .before .before .before in
     let s = c .before .before .before .before .before .before .before .before .before .before .before .before .before .before .before .before .before in
     let e = s .fits in
-    countable _ _ _ (lentOf (now (s .args .picture)) (now (s .args .counts)) (now (s .args .unlit)) (now (s .args .counter)))
-    (gate-handed _ _ _ _ _ _ (e .eye-x) (e .eye-y) (e .eye-z) (v .before .before .ring-gate .ensures))
+    countable _ _ (lentOf (now (s .args .picture)) (now (s .args .counts)) (now (s .args .unlit)) (now (s .args .counter)))
+    (gate-handed (e .eye-x) (e .eye-y) (e .eye-z) _ _ _ _ (v .before .before .ring-gate .ensures))
     (v .before .if1 .left)
     (painted-from (eye-handed (e .eye-x) (e .eye-y) (e .eye-z) (v .vector .ensures)) (p .paint .ensures))
 
@@ -41,8 +41,8 @@ add-counter c =
     let e = s .fits in
     record {
       fits =
-          counter-rises _ _ _ (lentOf (now (s .args .picture)) (now (s .args .counts)) (now (s .args .unlit)) (now (s .args .counter)))
-          (gate-handed _ _ _ _ _ _ (e .eye-x) (e .eye-y) (e .eye-z) (v .before .before .ring-gate .ensures))
+          counter-rises _ _ (lentOf (now (s .args .picture)) (now (s .args .counts)) (now (s .args .unlit)) (now (s .args .counter)))
+          (gate-handed (e .eye-x) (e .eye-y) (e .eye-z) _ _ _ _ (v .before .before .ring-gate .ensures))
           (v .before .if1 .left);
     }
 
@@ -53,8 +53,8 @@ returns-2 c =
     let v = c .before .before .before .before .before .before .before .before .before .before .before .before in
     let s = c .before .before .before .before .before .before .before .before .before .before .before .before .before .before .before .before .before .before .before .before in
     let e = s .fits in
-    accepted _ _ _ (lentOf (now (s .args .picture)) (now (s .args .counts)) (now (s .args .unlit)) (now (s .args .counter)))
-    (gate-handed _ _ _ _ _ _ (e .eye-x) (e .eye-y) (e .eye-z) (v .before .before .ring-gate .ensures))
+    accepted _ _ (lentOf (now (s .args .picture)) (now (s .args .counts)) (now (s .args .unlit)) (now (s .args .counter)))
+    (gate-handed (e .eye-x) (e .eye-y) (e .eye-z) _ _ _ _ (v .before .before .ring-gate .ensures))
     (v .before .if1 .left)
     (painted-from (eye-handed (e .eye-x) (e .eye-y) (e .eye-z) (v .vector .ensures)) (p .paint .ensures))
     (n .count-cells .ensures)

@@ -1,54 +1,90 @@
--- `paint_rows` meets its contract: the rows before the band are in their places.
-use Prim.Native.Nat.{_-_}
+-- `paint_rows` meets its contract: the rows before the band are in their places, and the first patches of the walk are ready.
+use mathlib.Core.Path.{sym, _∙_}
+use Prim.Native.Nat.{_+_, _-_}
 use native.Mathlib.Omega.{arith}
-use Rattle.geometry.specs.Machine.{vecOf}
-use Rattle.model.specs.Window.{direction}
-use Rattle.painting.specs.Laying.{walkOf}
-use Rattle.painting.specs.Framing.{RowsUpTo}
-use Rattle.painting.proofs.RowsPlaced.{still-framed, rows-start, rows-end}
+use borrow.Author.Needs.{needs}
+use lib.ListN.{length}
+use lib.Seq.{length-take-le}
+use Rattle.painting.proofs.RowsPlaced.{still-framed}
+use Rattle.painting.proofs.ReadyWalk.{room-stays, ready-drawable, ready-reached}
+use Rattle.painting.proofs.Progress.{Progress, progress-start, progress-goes, progress-less, progress-end}
 use Rattle.painting.proofs.picture.paint_rows.Statement.{statement}
 use Rattle.painting.proofs.picture.paint_rows.Tie as tie
 
 abbrev Inv-loop : tie.InvT-loop
-Inv-loop bytes l order eye ex ey ez lows highs width height lens picture₀ unlit₀ from₀ picture unlit from =
-    RowsUpTo (vecOf eye) (direction (record { width = width; height = height; lens = lens })) (walkOf bytes order)
-    width height picture₀ unlit₀ picture unlit from
+Inv-loop bytes l order sight edges₀ rows₀ picture₀ unlit₀ planes height all ready₀ from₀ edges rows picture unlit ready from =
+    Progress bytes l sight order edges₀ edges rows₀ rows picture₀ picture unlit₀ unlit ready from
 
 abbrev μ-loop : tie.MeasureT-loop
-μ-loop bytes l order eye ex ey ez lows highs width height lens picture₀ unlit₀ from₀ picture unlit from = height - from
+μ-loop bytes l order sight edges₀ rows₀ picture₀ unlit₀ planes height all ready₀ from₀ edges rows picture unlit ready from =
+    (sight .raster .height - from) + (length order - ready)
+
+row-planes-requires : tie.Need-row-planes-requires Inv-loop μ-loop
+row-planes-requires c κs = c .before .before .before .before .before .pre .0 .sight .raster-bounded
+
+cast-height : tie.Need-cast-height Inv-loop μ-loop
+cast-height c = omega (arith, c .before .before .before .before .before .before .before .pre .0 .low)
 
 loop-holds : tie.Need-loop-holds Inv-loop μ-loop
-loop-holds c = rows-start
+loop-holds c = progress-start
 
 band-end-requires : tie.Need-band-end-requires Inv-loop μ-loop
 band-end-requires c κs = c .loop-test .taken
 
+slice-aggregate-paint-band : tie.Need-slice-aggregate-paint-band Inv-loop μ-loop
+slice-aggregate-paint-band c = sym (length-take-le (c .before .before .before .loop .ready) _ (c .before .before .before .loop .inv .ready-is .most))
+
 paint-band-requires : tie.Need-paint-band-requires Inv-loop μ-loop
 paint-band-requires c κs =
-    let b = c .before .before .before .before .before .before .before .before .before .before .before .pre in (
-      b .0,
-      b .1,
-      b .2,
-      b .3,
-      still-framed (c .before .before .before .before .loop .inv .same-cells) (c .before .before .before .before .loop .inv .same-unlit) (b .4),
-      omega (arith, c .before .before .band-end .ensures .0),
-      c .before .before .band-end .ensures .1,
+    let p = c .before .before .before .before .before .before .before .before .before .before .before .before .before .before .before .pre in
+    let v = c .before .before .before .before .before .before .before .loop .inv in
+    let room = room-stays (v .long-edges) (v .long-rows) (p .1) in (
+      ready-drawable (p .0) (v .ready-is),
+      ready-reached (p .0) (v .ready-is) room,
+      omega (arith, length-take-le (c .before .before .before .before .before .before .before .loop .ready) (c .before .before .before .before .before .before .before .before .before .before .before .before .before .before .before .args .order .now) (v .ready-is .most), p .0 .few, v .ready-is .most),
+      still-framed (v .same-cells) (v .same-unlit) (p .2),
+      omega (arith, c .before .before .before .before .before .band-end .ensures .0),
+      c .before .before .before .before .before .band-end .ensures .1,
+    )
+
+wanted-requires : tie.Need-wanted-requires Inv-loop μ-loop
+wanted-requires c κs = (c .before .before .before .before .before .before .before .before .before .before .before .before .loop .inv .ready-is .most, c .before .before .before .before .before .before .before .before .before .before .before .before .before .before .before .before .before .before .before .before .pre .0 .few)
+
+extend-ready-requires : tie.Need-extend-ready-requires Inv-loop μ-loop
+extend-ready-requires c κs =
+    let p = c .before .before .before .before .before .before .before .before .before .before .before .before .before .before .before .before .before .before .before .before .before .before .before .pre in
+    let v = c .before .before .before .before .before .before .before .before .before .before .before .before .before .before .before .loop .inv in
+    let more = c .before .before .wanted .ensures in (
+      p .0,
+      c .before .before .before .before .before .before .before .before .before .before .before .before .before .before .before .before .before .row-planes .ensures,
+      room-stays (v .long-edges) (v .long-rows) (p .1),
+      v .ready-is,
+      more .0 .0,
+      more .0 .1,
     )
 
 loop-less : tie.Need-loop-less Inv-loop μ-loop
-loop-less c = omega (arith, c .before .before .before .before .before .before .before .band-end .ensures .0, c .before .before .before .before .before .before .before .band-end .ensures .1)
+loop-less c = progress-less (c .before .before .before .before .before .before .before .before .before .before .before .paint-band .ensures) (c .before .before .before .before .before .before .before .before .before .before .before .before .before .before .before .before .before .band-end .ensures .0) (c .before .before .before .before .before .before .before .before .before .before .before .before .before .before .before .before .before .band-end .ensures .1) (c .before .before .before .before .before .before .before .before .before .before .before .before .before .before .before .before .before .before .before .loop .inv .ready-is .most) (c .before .before .before .before .before .before .wanted .ensures .0) (c .before .before .before .before .before .before .wanted .ensures .1)
 
 loop-again : tie.Need-loop-again Inv-loop μ-loop
-loop-again c = c .before .before .before .before .paint-band .ensures _ _ (c .before .before .before .before .before .before .before .before .before .loop .inv)
+loop-again c =
+    progress-goes (c .before .before .before .before .before .before .before .before .before .before .before .before .before .before .before .before .before .before .before .loop .inv) (c .before .before .before .before .before .before .before .before .before .before .before .paint-band .ensures) (c .before .before .before .before .before .before .before .before .before .before .before .paint-band .kept .1 .1 .1 .1 .1 .1 .1 .0) (c .before .before .before .before .before .before .before .before .before .before .before .paint-band .kept .1 .1 .1 .1 .1 .1 .1 .1 .0)
+    (c .before .before .before .extend-ready .ensures) (c .before .before .before .extend-ready .kept .1 .1 .1 .1 .1 .1 .1 .0) (c .before .before .before .extend-ready .kept .1 .1 .1 .1 .1 .1 .1 .1 .0)
 
 same-length : tie.Need-same-length Inv-loop μ-loop
-same-length c = c .before .loop .inv .same-cells
+same-length c = c .before .loop .inv .long-edges
 
 same-length-2 : tie.Need-same-length-2 Inv-loop μ-loop
-same-length-2 c = c .before .loop .inv .same-unlit
+same-length-2 c = c .before .loop .inv .long-rows
+
+same-length-3 : tie.Need-same-length-3 Inv-loop μ-loop
+same-length-3 c = c .before .loop .inv .same-cells
+
+same-length-4 : tie.Need-same-length-4 Inv-loop μ-loop
+same-length-4 c = c .before .loop .inv .same-unlit
 
 returns : tie.Need-returns Inv-loop μ-loop
-returns c = rows-end (c .before .loop .inv) (c .loop-test .left) (c .before .before .before .before .before .before .before .before .pre .4)
+returns c = progress-end (c .before .loop .inv) (c .loop-test .left) (c .before .before .before .before .before .before .before .before .before .pre .2)
 
 pub paint-rows-spec : {M : Type 1} → statement M
 paint-rows-spec =
@@ -56,11 +92,18 @@ paint-rows-spec =
     (tie.spec
     Inv-loop
     μ-loop
+    row-planes-requires
+    cast-height
     loop-holds
     band-end-requires
+    slice-aggregate-paint-band
     paint-band-requires
+    wanted-requires
+    extend-ready-requires
     loop-less
     loop-again
     same-length
     same-length-2
+    same-length-3
+    same-length-4
     returns)

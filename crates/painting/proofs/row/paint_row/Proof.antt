@@ -1,28 +1,28 @@
 -- `paint_row` meets its contract: the first k patches of the walk are painted.
 use mathlib.Core.Path.{_∙_}
-use Prim.Native.Nat.{_-_}
+use Prim.Native.Nat.{ℕ, _-_}
 use native.Mathlib.Omega.{arith}
 use borrow.Author.Needs.{needs}
 use lib.ListN.{length}
 use Rattle.geometry.specs.Machine.{vecOf}
 use Rattle.model.specs.Format.{decode, patchNumbered}
-use Rattle.spans.specs.Row.{along}
+use Rattle.geometry.specs.Raster.{rayAt}
 use Rattle.painting.proofs.WalkPainted.{PaintedUpTo, walk-starts, as-long, row-of-set, walk-ends, walk-goes, walk-full}
 use Rattle.painting.proofs.row.paint_row.Statement.{statement}
 use Rattle.painting.proofs.row.paint_row.Tie as tie
 
 abbrev Inv-loop : tie.InvT-loop
-Inv-loop bytes l order eye ex ey ez base step cells₀ row₀ k₀ cells row k =
-    PaintedUpTo (vecOf eye) (along (vecOf base) (vecOf step)) (patchNumbered (decode bytes)) order (length cells₀) cells row k
+Inv-loop bytes l order sight table j cells₀ row₀ k₀ cells row k =
+    PaintedUpTo (vecOf (sight .eye)) (λ (i : ℕ). rayAt (sight .raster) i j) (patchNumbered (decode bytes)) order (length cells₀) cells row k
 
 abbrev μ-loop : tie.MeasureT-loop
-μ-loop bytes l order eye ex ey ez base step cells₀ row₀ k₀ cells row k = length order - k
+μ-loop bytes l order sight table j cells₀ row₀ k₀ cells row k = length order - k
 
 clear-requires : tie.Need-clear-requires Inv-loop μ-loop
 clear-requires c κs = tt
 
 cast-fresh : tie.Need-cast-fresh Inv-loop μ-loop
-cast-fresh c = omega (arith, c .before .before .clear .kept .0, c .before .before .before .before .before .before .before .pre .4)
+cast-fresh c = omega (arith, c .before .before .clear .kept .0, c .before .before .before .before .before .before .before .pre .2)
 
 fresh-requires : tie.Need-fresh-requires Inv-loop μ-loop
 fresh-requires c κs = search needs
@@ -44,11 +44,10 @@ lay-patch-requires c κs =
     let n = c .before .before .before in
     let l = n .before in
     let b = l .before .before .before .before .before .before .before .before .before in (
-      b .pre .0,
-      b .pre .2,
-      b .pre .3,
-      b .pre .1 .patch (l .loop .k) (n .loop-test .taken),
-      row-of-set (l .loop .inv) (omega (arith, l .before .before .before .before .clear .kept .0, b .pre .4)),
+      b .pre .0 .checked,
+      b .pre .0 .each (l .loop .k) (n .loop-test .taken),
+      b .pre .1,
+      row-of-set (l .loop .inv) (omega (arith, l .before .before .before .before .clear .kept .0, b .pre .2)),
     )
 
 same-length : tie.Need-same-length Inv-loop μ-loop

@@ -4,8 +4,8 @@ use borrow.Author.Needs.{needs}
 use borrow.Author.Tests.{not-true, not-false}
 use Rattle.format.specs.Layout.{nodeNumber}
 use Rattle.scene.specs.Tests.{properChildren}
-use Rattle.scene.proofs.Loops.{Passed, none-passed, one-passed, refused, accepted}
-use Rattle.scene.proofs.Named.{order-asked}
+use Rattle.model.proofs.Loops.{Passed, none-passed, one-passed, refused, accepted}
+use Rattle.scene.proofs.ChildOrder.{order-asked}
 use Rattle.scene.proofs.children.children_in_order.Statement.{statement}
 use Rattle.scene.proofs.children.children_in_order.Tie as tie
 

@@ -1,6 +1,6 @@
 use borrow.Author.Tests.{not-true, not-false}
-use Rattle.scene.proofs.Loops.{first-no, second-decides}
-use Rattle.scene.proofs.Named.{proper-both}
+use Rattle.model.proofs.Loops.{first-no, second-decides}
+use Rattle.scene.proofs.ChildOrder.{proper-both}
 use borrow.Author.Needs.{needs}
 use Rattle.scene.proofs.children.children_proper.Statement.{statement}
 use Rattle.scene.proofs.children.children_proper.Tie as tie

@@ -1,5 +1,5 @@
 use native.Mathlib.Omega.{arith}
-use Rattle.scene.proofs.Named.{none-named, not-after, after-parent}
+use Rattle.scene.proofs.ChildOrder.{none-named, not-after, after-parent}
 use Rattle.scene.proofs.children.proper_child.Statement.{statement}
 use Rattle.scene.proofs.children.proper_child.Tie as tie
 

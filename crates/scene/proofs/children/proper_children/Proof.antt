@@ -1,7 +1,7 @@
 use Rattle.format.specs.Machine.{nodeOf}
 use borrow.Author.Tests.{not-true, not-false}
-use Rattle.scene.proofs.Named.{children-both}
-use Rattle.scene.proofs.Loops.{first-no, second-decides}
+use Rattle.scene.proofs.ChildOrder.{children-both}
+use Rattle.model.proofs.Loops.{first-no, second-decides}
 use borrow.Author.Needs.{needs}
 use Rattle.scene.proofs.children.proper_children.Statement.{statement}
 use Rattle.scene.proofs.children.proper_children.Tie as tie

@@ -4,7 +4,7 @@ use Prim.Native.Nat.{ℕ, _-_}
 use borrow.Author.Needs.{needs}
 use Rattle.model.specs.Questions.{pointInRange}
 use Rattle.format.specs.Layout.{cornerNumber}
-use Rattle.scene.proofs.Loops.{Passed, none-passed, one-passed, refused, accepted}
+use Rattle.model.proofs.Loops.{Passed, none-passed, one-passed, refused, accepted}
 use Rattle.scene.proofs.InRange.{corners-asked}
 use Rattle.scene.proofs.coordinates.corners_in_range.Statement.{statement}
 use Rattle.scene.proofs.coordinates.corners_in_range.Tie as tie

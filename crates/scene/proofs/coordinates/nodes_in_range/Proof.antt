@@ -5,7 +5,7 @@ use Prim.Native.Nat.{ℕ, _-_}
 use borrow.Author.Needs.{needs}
 use Rattle.model.specs.Questions.{planeInRange}
 use Rattle.format.specs.Layout.{nodeNumber}
-use Rattle.scene.proofs.Loops.{Passed, none-passed, one-passed, refused, accepted}
+use Rattle.model.proofs.Loops.{Passed, none-passed, one-passed, refused, accepted}
 use Rattle.scene.proofs.InRange.{nodes-asked}
 use Rattle.scene.proofs.coordinates.nodes_in_range.Statement.{statement}
 use Rattle.scene.proofs.coordinates.nodes_in_range.Tie as tie

@@ -4,7 +4,7 @@ use borrow.Author.Needs.{needs}
 use borrow.Author.Tests.{not-true, not-false}
 use Rattle.format.specs.Layout.{patchNumber}
 use Rattle.scene.specs.Tests.{panelInRange}
-use Rattle.scene.proofs.Loops.{Passed, none-passed, one-passed, refused, accepted}
+use Rattle.model.proofs.Loops.{Passed, none-passed, one-passed, refused, accepted}
 use Rattle.scene.proofs.NeverFalling.{panels-asked}
 use Rattle.scene.proofs.panels.panels_in_range.Statement.{statement}
 use Rattle.scene.proofs.panels.panels_in_range.Tie as tie

@@ -5,7 +5,7 @@ use borrow.Author.Tests.{not-true, not-false}
 use Rattle.model.specs.Format.{NodeRecord, decode}
 use Rattle.format.specs.Layout.{nodeNumber}
 use Rattle.scene.specs.Tests.{runNeverFalls}
-use Rattle.scene.proofs.Loops.{Passed, none-passed, one-passed, refused, accepted}
+use Rattle.model.proofs.Loops.{Passed, none-passed, one-passed, refused, accepted}
 use Rattle.scene.proofs.NeverFalling.{falls-asked, run-inside}
 use Rattle.scene.proofs.panels.panels_never_fall.Statement.{statement}
 use Rattle.scene.proofs.panels.panels_never_fall.Tie as tie

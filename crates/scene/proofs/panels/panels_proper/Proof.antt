@@ -1,5 +1,5 @@
 use borrow.Author.Tests.{not-true, not-false}
-use Rattle.scene.proofs.Loops.{first-no, second-decides}
+use Rattle.model.proofs.Loops.{first-no, second-decides}
 use Rattle.scene.proofs.NeverFalling.{panels-both}
 use borrow.Author.Needs.{needs}
 use Rattle.scene.proofs.panels.panels_proper.Statement.{statement}

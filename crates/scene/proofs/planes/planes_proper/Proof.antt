@@ -5,7 +5,7 @@ use borrow.Author.Tests.{not-true, not-false}
 use Rattle.model.specs.Format.{NodeRecord}
 use Rattle.model.specs.Questions.{offOneLine}
 use Rattle.format.specs.Layout.{nodeNumber}
-use Rattle.scene.proofs.Loops.{Passed, none-passed, one-passed, refused, accepted}
+use Rattle.model.proofs.Loops.{Passed, none-passed, one-passed, refused, accepted}
 use Rattle.scene.proofs.OffOneLine.{planes-asked, node-bounded}
 use Rattle.scene.proofs.planes.planes_proper.Statement.{statement}
 use Rattle.scene.proofs.planes.planes_proper.Tie as tie

@@ -5,7 +5,7 @@ use borrow.Author.Tests.{not-true, not-false}
 use Rattle.model.specs.Format.{PatchRecord}
 use Rattle.model.specs.Questions.{within}
 use Rattle.format.specs.Layout.{patchNumber}
-use Rattle.scene.proofs.Loops.{Passed, none-passed, one-passed, refused, accepted}
+use Rattle.model.proofs.Loops.{Passed, none-passed, one-passed, refused, accepted}
 use Rattle.scene.proofs.RunTables.{counts-asked}
 use Rattle.scene.proofs.runs.all_counted.Statement.{statement}
 use Rattle.scene.proofs.runs.all_counted.Tie as tie

@@ -1,6 +1,6 @@
 use mathlib.Core.Path.{sym, _∙_}
 use borrow.Author.Tests.{not-true, not-false}
-use Rattle.scene.proofs.Loops.{first-no, second-decides}
+use Rattle.model.proofs.Loops.{first-no, second-decides}
 use Rattle.scene.proofs.RunTables.{corner-runs-both}
 use borrow.Author.Needs.{needs}
 use Rattle.scene.proofs.runs.corner_runs_follow.Statement.{statement}

@@ -6,12 +6,12 @@ use borrow.Author.Needs.{needs}
 use borrow.Fn.Kinds.{In}
 use borrow.Fn.PlainCycle.{Measures, is, falls, and}
 use Rattle.model.proofs.Ranges.{range-length}
-use Rattle.walk.proofs.SceneNodes.{no-node}
+use Rattle.checked.proofs.Nodes.{no-node}
 use Rattle.walk.proofs.Descents.{descent, assembled, nothing-below}
 use Rattle.walk.proofs.order.walk_below.Reads as walk-below
 use Rattle.walk.proofs.order.walk_below.Kinds as walk-below-kinds
 use Rattle.walk.proofs.order.+walk_below.Lts-walk_below as lts
-use Rattle.walk.proofs.scene.tree_node.Reads as tree-node
+use Rattle.checked.proofs.node.Reads as node
 use Rattle.walk.proofs.order.near_first.Reads as near-first
 use Rattle.walk.proofs.order.write_run.Reads as write-run
 use Rattle.walk.proofs.order.+walk_below.{statement}
@@ -29,8 +29,8 @@ below t = and 2 walk-below-kinds.ps (falls 2 walk-below-kinds.ps _<_ μ t) walk-
 
 abbrev calls : ℕ → lts.Claims
 calls t = (
-  tree-node.Asked,
-  tree-node.Learnt,
+  node.Asked,
+  node.Learnt,
   near-first.Asked,
   near-first.Learnt,
   below t,
@@ -45,8 +45,8 @@ module _ (t : ℕ) where
       let s = c .before .before .before .before in
       nothing-below _ _ _ (no-node _ (s .args .l) (s .pre .1 .0) (s .args .k) (c .if1 .taken))
 
-  tree-node-requires : lts.Need-tree-node-requires (calls t) (given t) walk-below.Post
-  tree-node-requires c κs =
+  node-requires : lts.Need-node-requires (calls t) (given t) walk-below.Post
+  node-requires c κs =
       let s = c .before .before .before .before in
       (s .pre .1 .0, c .if1 .left)
 
@@ -57,7 +57,7 @@ module _ (t : ℕ) where
   near-requires c κs =
       let n = c .before in
       let s = n .before .before .before .before .before .before in
-      let d = descent (n .before .tree-node .ensures) (n .near-first .ensures) in (
+      let d = descent (n .before .node .ensures) (n .near-first .ensures) in (
         omega (arith, d .near-above, s .pre .0, n .before .before .if1 .left),
         (s .pre .1 .0, s .pre .1 .1, omega (arith, d .size, s .pre .1 .2)),
       )
@@ -67,8 +67,8 @@ module _ (t : ℕ) where
       let w = c .before .before .before .walk-below in
       let n = c .before .before .before .before .before in
       let s = n .before .before .before .before .before .before in
-      let d = descent (n .before .tree-node .ensures) (n .near-first .ensures) in (
-        omega (arith, n .before .tree-node .ensures .run-inside, s .pre .1 .0 .laid .few-patches),
+      let d = descent (n .before .node .ensures) (n .near-first .ensures) in (
+        omega (arith, n .before .node .ensures .run-inside, s .pre .1 .0 .laid .few-patches),
         omega (arith, w .ensures .ended, w .kept .1 .1 .1 .1 .0, d .size, s .pre .1 .2),
       )
 
@@ -78,7 +78,7 @@ module _ (t : ℕ) where
       let w = c .before .before .before .before .before .before .before .walk-below in
       let n = c .before .before .before .before .before .before .before .before .before in
       let s = n .before .before .before .before .before .before in
-      let d = descent (n .before .tree-node .ensures) (n .near-first .ensures) in (
+      let d = descent (n .before .node .ensures) (n .near-first .ensures) in (
         omega (arith, d .far-above, s .pre .0, n .before .before .if1 .left),
         (
           s .pre .1 .0,
@@ -86,7 +86,7 @@ module _ (t : ℕ) where
           omega (
             arith,
             r .ensures .ended,
-            range-length (n .before .tree-node .result .patches .first) (n .before .tree-node .result .patches .count),
+            range-length (n .before .node .result .patches .first) (n .before .node .result .patches .count),
             r .kept .1 .1 .0,
             w .ensures .ended,
             w .kept .1 .1 .1 .1 .0,
@@ -105,7 +105,7 @@ module _ (t : ℕ) where
   returns-2 : lts.Need-returns-2 (calls t) (given t) walk-below.Post
   returns-2 c =
       let n = c .before .before .before .before .before .before .before .before .before .before .before .before in
-      assembled (descent (n .before .tree-node .ensures) (n .near-first .ensures))
+      assembled (descent (n .before .node .ensures) (n .near-first .ensures))
       (n .before .before .before .before .before .before .pre .1 .2)
       (c .before .before .before .before .before .before .before .before .before .before .walk-below .ensures)
       (c .before .before .before .before .before .before .write-run .ensures)
@@ -115,5 +115,5 @@ pub +walk-below-spec : {M : Type 1} → statement M
 +walk-below-spec =
     close μ
     (λ t.
-    lts.spec (calls t) (given t) walk-below.Post (returns t) (tree-node-requires t) (near-first-requires t)
+    lts.spec (calls t) (given t) walk-below.Post (returns t) (node-requires t) (near-first-requires t)
     (near-requires t) (write-run-requires t) (far-requires t) (same-length t) (returns-2 t))

@@ -1,0 +1,8 @@
+-- Laws of question 8.
+mod Edges
+mod Corners
+mod PatchTables
+mod Projected
+mod Asked
+mod Axes
+mod Along

@@ -1,0 +1,38 @@
+-- What the questions before question 8 tell of a scene and of a patch in hand.
+use mathlib.Core.Path.{_≡_}
+use mathlib.Core.Bool.{true}
+use mathlib.Core.List.{List}
+use Prim.Native.Nat.{ℕ, _≤_, _<_}
+use lib.Dec.{T}
+use Rattle.model.specs.Patch.{normal, flat}
+use Rattle.model.specs.Format.{decode}
+use Rattle.model.specs.Questions.{coordinatesInRange}
+use Rattle.geometry.specs.declared.Vector.{Vector}
+use Rattle.geometry.specs.Machine.{VectorIs}
+use Rattle.format.specs.declared.layout.Layout.{Layout}
+use Rattle.format.specs.declared.patch.Patch.{Patch}
+use Rattle.format.specs.Layout.{LaidOut, RunsInside}
+use Rattle.format.specs.Patch.{cornerOf, patchOf}
+use Rattle.format.specs.Bounds.{VecWithin}
+
+-- a scene whose answers to questions 1, 2, 3 and 6 are yes, with its layout
+pub record Cornered (bytes : List ℕ) (l : Layout) : Type 0 where
+  pub laid : LaidOut bytes l
+  pub inside : RunsInside bytes l
+  pub coordinates : T (coordinatesInRange (decode bytes))
+
+-- a patch in hand after questions 3 and 6
+pub record PatchBounded (p : Patch) : Type 0 where
+  pub three : 3 ≤ p .count
+  pub eight : p .count ≤ 8
+  pub corners-within : (k : ℕ) → k < p .count → VecWithin 10000 (cornerOf p k)
+
+-- with its normal
+pub record WithNormal (p : Patch) (n : Vector) : Type 0 where
+  pub bounded : PatchBounded p
+  pub normal-is : VectorIs 800000000 (normal (patchOf p)) n
+
+-- and found flat
+pub record FoundFlat (p : Patch) (n : Vector) : Type 0 where
+  pub with-normal : WithNormal p n
+  pub is-flat : flat (patchOf p) ≡ true

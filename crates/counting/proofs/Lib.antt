@@ -1,0 +1,2 @@
+-- Cells counted in four counters for each number.
+pub mod Counted

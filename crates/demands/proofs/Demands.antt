@@ -1,0 +1,176 @@
+-- Demands 1, 2 and 3, from the survey's contract alone.
+use mathlib.Core.Path.{_≡_, sym, _∙_, ap, subst}
+use mathlib.Core.Bool.{Bool, not}
+use mathlib.Core.Logic.{_↔_}
+use mathlib.Core.List.{List, [], _∷_}
+use Prim.Native.Nat.{ℕ, _*_, _<_}
+use native.Mathlib.Nat.{zero-add, mul-comm}
+use lib.Dec.{T, T-not, eqb}
+use lib.ListN.{length, getD, take, drop, length-map}
+use Rattle.model.specs.Lists.{every, range, occurrences}
+use Rattle.model.specs.Patch.{Patch}
+use Rattle.model.specs.Ray.{IsClosest, closest}
+use Rattle.model.specs.View.{View, viewWidth, viewHeight, viewDirection}
+use Rattle.model.specs.Lent.{Lent}
+use Rattle.model.specs.Format.{decode}
+use Rattle.model.specs.Row.{rowOf, rowLength}
+use Rattle.model.specs.Picture.{picture, counts, countEntries, unlitLists, cellPanel}
+use Rattle.model.specs.Questions.{Question, answer, sceneQuestions, callQuestions, questions, surveyAnswer}
+use Rattle.model.specs.Survey.{callPicture, callCounts, callUnlit, callCounter}
+use Rattle.model.specs.Removal.{isChosen, kept, TakenAway}
+use Rattle.model.proofs.Tests.{both}
+use Rattle.model.proofs.Ranges.{range-length, rows-part, rows-length}
+use Rattle.model.proofs.Answers.{AcceptedCall, accepted-call, all-yes, answer-yes, answer-done}
+use Rattle.model.proofs.Closest.{closest-right}
+use Rattle.model.proofs.Counts.{counts-at}
+use Rattle.model.proofs.Pictures.{picture-length, picture-at, picture-total}
+use Rattle.model.proofs.Removal.{pictures-counts, cell-differs, cell-shows}
+use Rattle.rows.proofs.Rows.{row-length, row-congr}
+use Rattle.survey.proofs.Refusal.{left-old}
+use Rattle.survey.proofs.PanelNumbers.{panel-bounded}
+use Rattle.survey.specs.Contract.{callOn, results, leftBy, Surveyed}
+use Rattle.demands.specs.Demands.{patchesIn, cell, RefusesRightly, ClosestPanels, ChosenTakenAway, DemandThree, PairSurveyed}
+
+-- an accepted call leaves the results
+pub accepted-leaves :
+    {bytes : List ℕ} {v : View} {before after : Lent} {result : ℕ} →
+    Surveyed bytes v before after result →
+    result ≡ 0 →
+    after ≡ results (callOn bytes v before)
+accepted-leaves {bytes} {v} {before} h e =
+    h .left
+    ∙ ap (λ (n : ℕ). leftBy n (results (callOn bytes v before)) before) (sym (h .answered) ∙ e)
+
+-- the answer is 0 exactly if every question says yes, where no question has the number 0
+all-yes-says : {A : Type 0} (qs : List (Question A)) (a : A) → T (every (λ (q : Question A). not (eqb (q .number) 0)) qs)
+    → (answer qs a ≡ 0) ↔ T (every (λ (q : Question A). q .test a) qs)
+all-yes-says [] a h = (λ e. tt, λ t. answer-done a)
+all-yes-says {A} (q ∷ qs) a h =
+    let p = both (not (eqb (q .number) 0)) (every (λ (q : Question A). not (eqb (q .number) 0)) qs) .0 h in
+    let rest = all-yes-says qs a (p .1) in
+    let pair = both (q .test a) (every (λ (q : Question A). q .test a) qs) in (
+      λ e. let y = all-yes q qs a (λ z. T-not (eqb (q .number) 0) (p .0) (subst (λ (n : ℕ). T (eqb n 0)) (sym z) tt)) e in
+          pair .1 (y .0, rest .0 (y .1)),
+      λ t. answer-yes q qs a (pair .0 t .0) ∙ rest .1 (pair .0 t .1),
+    )
+
+-- Demand 1.
+pub refuses-rightly :
+    {bytes : List ℕ} {v : View} {before after : Lent} {result : ℕ} →
+    Surveyed bytes v before after result →
+    RefusesRightly (callOn bytes v before) before after result
+unfolding surveyAnswer questions sceneQuestions callQuestions
+refuses-rightly {bytes} {v} {before} {after} {result} h =
+    let c = callOn bytes v before in
+    let says = all-yes-says questions c tt in
+    record {
+      exactly = (λ e. says .0 (sym (h .answered) ∙ e), λ t. h .answered ∙ says .1 t);
+      numbered = h .answered;
+      painted = accepted-leaves h;
+      untouched = λ f. h .left ∙ sym (left-old (surveyAnswer c) (results c) before (λ z. f (h .answered ∙ z)));
+    }
+
+module _ (bytes : List ℕ) (v : View) (before : Lent) (accepted : AcceptedCall (callOn bytes v before)) where
+  abbrev cellRow : ℕ → List ℕ
+  cellRow j = rowOf (viewWidth v) (λ (i : ℕ). eqb (closest (v .eye) (viewDirection v i j) (patchesIn bytes)) 0)
+
+  unlit-row :
+      (j : ℕ) → j < viewHeight v →
+      take rowLength (drop (j * rowLength) (callUnlit (callOn bytes v before)))
+      ≡ rowOf (viewWidth v) (λ (i : ℕ). eqb (cell v (callPicture (callOn bytes v before)) i j) 0)
+  unfolding callUnlit unlitLists callPicture
+  unlit-row j h =
+      rows-part rowLength cellRow (λ k. row-length (viewWidth v) _) 0 (viewHeight v) j h
+      ∙ ap cellRow (zero-add j)
+      ∙ row-congr (viewWidth v) _ _
+      (λ i k. ap (λ (n : ℕ). eqb n 0) (sym (picture-at (v .eye) (viewWidth v) (viewHeight v) (viewDirection v) (patchesIn bytes) i j k h)))
+
+  results-closest : ClosestPanels bytes v (results (callOn bytes v before))
+  unfolding callPicture callCounts callUnlit unlitLists counts
+  results-closest =
+      record {
+        cells =
+            λ i j h k.
+            subst (IsClosest (v .eye) (viewDirection v i j) (patchesIn bytes))
+            (sym (picture-at (v .eye) (viewWidth v) (viewHeight v) (viewDirection v) (patchesIn bytes) i j h k))
+            (closest-right (v .eye) (viewDirection v i j) (patchesIn bytes));
+        whole = picture-length (v .eye) (viewWidth v) (viewHeight v) (viewDirection v) (patchesIn bytes);
+        counted = λ n h. counts-at (callPicture (callOn bytes v before)) n h;
+        entries =
+            length-map (range 0 countEntries) (λ (n : ℕ). occurrences n (callPicture (callOn bytes v before)))
+            ∙ range-length 0 countEntries;
+        summed = picture-total (v .eye) (viewWidth v) (viewHeight v) (viewDirection v) (patchesIn bytes)
+            (panel-bounded (decode bytes) (accepted .scene .panels));
+        rows = unlit-row;
+        rowCount = rows-length rowLength cellRow (λ k. row-length (viewWidth v) _) 0 (viewHeight v) ∙ mul-comm rowLength (viewHeight v);
+      }
+
+module _
+    (firstBytes secondBytes : List ℕ)
+    (v : View)
+    (before₁ before₂ : Lent)
+    (chosen : ℕ → Bool)
+    (taken : TakenAway chosen (patchesIn firstBytes) (patchesIn secondBytes))
+  where
+    taken-away :
+        ChosenTakenAway firstBytes chosen v (results (callOn firstBytes v before₁))
+        (results (callOn secondBytes v before₂))
+    unfolding callPicture callCounts
+    taken-away =
+        let first = patchesIn firstBytes in
+        let second = patchesIn secondBytes in
+        let same = pictures-counts chosen first second taken (v .eye) (viewWidth v) (viewHeight v) (viewDirection v) in
+        let at = picture-at (v .eye) (viewWidth v) (viewHeight v) (viewDirection v) first in
+        record {
+          equal = (λ e. same .0 (sym e), λ f. sym (same .1 f));
+          closest =
+              λ i j h k.
+              subst (IsClosest (v .eye) (viewDirection v i j) first) (sym (at i j h k)) (closest-right (v .eye) (viewDirection v i j) first);
+          differ =
+              λ i j h k.
+              let c = cell-differs chosen first second taken (v .eye) (viewWidth v) (viewHeight v) (viewDirection v) i j h k in
+              (λ f. c .0 (λ e. f (sym e)), λ t e. c .1 t (sym e));
+          shown =
+              λ i j h k t.
+              subst (IsClosest (v .eye) (viewDirection v i j) (kept chosen first))
+              (sym (cell-shows chosen first second taken (v .eye) (viewWidth v) (viewHeight v) (viewDirection v) i j h k))
+              (closest-right (v .eye) (viewDirection v i j) (kept chosen first));
+        }
+
+-- Demand 2.
+pub closest-panels :
+    {bytes : List ℕ} {v : View} {before after : Lent} {result : ℕ} →
+    Surveyed bytes v before after result →
+    result ≡ 0 →
+    ClosestPanels bytes v after
+closest-panels {bytes} {v} {before} h e =
+    subst (ClosestPanels bytes v) (sym (accepted-leaves h e))
+    (results-closest bytes v before (accepted-call (callOn bytes v before) .0 (sym (h .answered) ∙ e)))
+
+-- Demand 3.
+pub chosen-panels-taken-away :
+    {firstBytes secondBytes : List ℕ} {v : View} {before₁ after₁ before₂ after₂ : Lent} {result₁ result₂ : ℕ} →
+    Surveyed firstBytes v before₁ after₁ result₁ →
+    Surveyed secondBytes v before₂ after₂ result₂ →
+    DemandThree firstBytes secondBytes v after₁ after₂ result₁ result₂
+chosen-panels-taken-away {firstBytes} {secondBytes} {v} {before₁} {after₁} {before₂} {after₂} h k chosen e f taken =
+    subst (λ (l : Lent). ChosenTakenAway firstBytes chosen v l after₂) (sym (accepted-leaves h e))
+    (subst (λ (l : Lent). ChosenTakenAway firstBytes chosen v (results (callOn firstBytes v before₁)) l) (sym (accepted-leaves k f))
+    (taken-away firstBytes secondBytes v before₁ before₂ chosen taken))
+
+-- a call with the same view
+pub surveyed-from :
+    {bytes : List ℕ} {u v : View} {before after : Lent} {result : ℕ} →
+    u ≡ v →
+    Surveyed bytes u before after result →
+    Surveyed bytes v before after result
+surveyed-from {bytes} {before = before} {after = after} {result = result} e h =
+    subst (λ (x : View). Surveyed bytes x before after result) e h
+
+-- both calls, and demand 3
+pub pair-surveyed :
+    {firstBytes secondBytes : List ℕ} {v : View} {before₁ after₁ before₂ after₂ : Lent} {result₁ result₂ : ℕ} →
+    Surveyed firstBytes v before₁ after₁ result₁ →
+    Surveyed secondBytes v before₂ after₂ result₂ →
+    PairSurveyed firstBytes secondBytes v before₁ after₁ before₂ after₂ result₁ result₂
+pair-surveyed h k = record { first-call = h; second-call = k; demand-three = chosen-panels-taken-away h k }

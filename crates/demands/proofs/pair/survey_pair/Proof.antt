@@ -1,0 +1,28 @@
+-- `demands::pair::survey_pair` meets its contract: demand 3 follows from the contracts of its two calls.
+use borrow.Author.Needs.{needs}
+use Rattle.survey.proofs.Handed.{same-view}
+use Rattle.demands.proofs.Demands.{surveyed-from, pair-surveyed}
+use Rattle.demands.proofs.pair.survey_pair.Statement.{statement}
+use Rattle.demands.proofs.pair.survey_pair.Tie as tie
+
+returns : tie.Need-returns
+returns c =
+    let second = c .before .before .before .before .before .before in
+    let first = c .before .before .before .before .before .before .before .before .before .before .before .before .before .before .before .before .before in
+    let e = c .before .before .before .before .before .before .before .before .before .before .before .before .before .before .before .before .before .before .before .before .before .before .before .before .before .before .before .before .before .before .fits in
+    let view = same-view (e .eye-x) (e .eye-y) (e .eye-z) _ in
+    pair-surveyed (surveyed-from view (first .ring-survey .ensures)) (surveyed-from view (second .ring-survey2 .ensures))
+
+pub survey-pair-spec : {M : Type 1} → statement M
+survey-pair-spec =
+    tie.close
+    (tie.spec
+    (λ c κs. search needs)
+    (λ c κs. search needs)
+    (λ c. search needs)
+    (λ c. search needs)
+    (λ c. search needs)
+    (λ c. search needs)
+    (λ c. search needs)
+    (λ c. search needs)
+    returns)

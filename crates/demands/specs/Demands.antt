@@ -1,0 +1,86 @@
+-- Demands 1 to 3 as statements about calls.
+use mathlib.Core.Path.{_≡_}
+use mathlib.Core.Bool.{Bool}
+use mathlib.Core.Logic.{_↔_}
+use mathlib.Core.List.{List, sum}
+use Prim.Native.Nat.{ℕ, _+_, _*_, _<_}
+use lib.Dec.{T, eqb}
+use lib.ListN.{length, getD, take, drop}
+use Rattle.model.specs.Lists.{every, occurrences}
+use Rattle.model.specs.Patch.{Patch}
+use Rattle.model.specs.Ray.{IsClosest}
+use Rattle.model.specs.View.{View, viewWidth, viewHeight, viewDirection}
+use Rattle.model.specs.Lent.{Lent}
+use Rattle.model.specs.Format.{decode, patchTable}
+use Rattle.model.specs.Row.{rowOf, rowLength}
+use Rattle.model.specs.Picture.{countEntries}
+use Rattle.model.specs.Call.{Call}
+use Rattle.model.specs.Questions.{Question, questions, surveyAnswer}
+use Rattle.model.specs.Removal.{isChosen, kept, TakenAway}
+use Rattle.survey.specs.Contract.{results, Surveyed}
+
+-- the patches of a scene
+abbrev pub patchesIn : List ℕ → List Patch
+patchesIn bytes = patchTable (decode bytes)
+
+-- cell (i, j) of a view's picture
+abbrev pub cell : View → List ℕ → ℕ → ℕ → ℕ
+cell v picture i j = getD picture (j * viewWidth v + i) 0
+
+-- Demand 1: "every call ends with a full picture or with the one numbered refusal that document 01 gives, a scene is accepted exactly if it keeps the rules there,
+-- and a refusal leaves picture, counts, unlit lists and station counter untouched."
+pub record RefusesRightly (c : Call) (before after : Lent) (result : ℕ) : Type 0 where
+  pub exactly : (result ≡ 0) ↔ T (every (λ (q : Question Call). q .test c) questions)
+  pub numbered : result ≡ surveyAnswer c
+  pub painted : result ≡ 0 → after ≡ results c
+  pub untouched : (result ≡ 0 → ⊥) → after ≡ before
+
+-- Demand 2, of an accepted call: "Each cell of an accepted scene's picture holds the panel that Fuchs, Kedem and Naylor define: the polygon closest to the eye along
+-- that cell's sight line. A polygon is met only strictly inside its edges; at one and the same nearest point the lowest panel number shows; where none is met the
+-- cell holds 0. All of it is exact in whole numbers, and each count is the number of such cells." The counts "add up to width × height"; the unlit lists are the
+-- rows of the cells that hold 0.
+pub record ClosestPanels (bytes : List ℕ) (v : View) (after : Lent) : Type 0 where
+  pub cells :
+      (i j : ℕ) → i < viewWidth v → j < viewHeight v →
+      IsClosest (v .eye) (viewDirection v i j) (patchesIn bytes) (cell v (after .picture) i j)
+  pub whole : length (after .picture) ≡ viewWidth v * viewHeight v
+  pub counted : (n : ℕ) → n < countEntries → getD (after .counts) n 0 ≡ occurrences n (after .picture)
+  pub entries : length (after .counts) ≡ countEntries
+  pub summed : sum _+_ 0 (after .counts) ≡ viewWidth v * viewHeight v
+  pub rows :
+      (j : ℕ) → j < viewHeight v →
+      take rowLength (drop (j * rowLength) (after .unlit))
+      ≡ rowOf (viewWidth v) (λ (i : ℕ). eqb (cell v (after .picture) i j) 0)
+  pub rowCount : length (after .unlit) ≡ viewHeight v * rowLength
+
+-- Demand 3, of two accepted calls with one view (station and window), on a scene and on one that "has just the first's patches less all those of the chosen panels":
+-- "The two pictures are equal, cell by cell, exactly when every chosen panel's count, from the call on the first scene, is zero. Equal or not, each cell of the
+-- first holds its closest panel .., or 0; the pictures differ in exactly the cells where the first shows a chosen panel, and in each of these the second shows
+-- the closest of the panels kept, or 0." Of the cell's closest among the panels kept: "among the first scene's patches with those of chosen panels left out".
+pub record ChosenTakenAway (bytes : List ℕ) (chosen : ℕ → Bool) (v : View) (first second : Lent) : Type 0 where
+  pub equal :
+      (first .picture ≡ second .picture) ↔ ((n : ℕ) → T (isChosen chosen n) → getD (first .counts) n 0 ≡ 0)
+  pub closest :
+      (i j : ℕ) → i < viewWidth v → j < viewHeight v →
+      IsClosest (v .eye) (viewDirection v i j) (patchesIn bytes) (cell v (first .picture) i j)
+  pub differ :
+      (i j : ℕ) → i < viewWidth v → j < viewHeight v →
+      (¬ (cell v (first .picture) i j ≡ cell v (second .picture) i j)) ↔ T (isChosen chosen (cell v (first .picture) i j))
+  pub shown :
+      (i j : ℕ) → i < viewWidth v → j < viewHeight v → T (isChosen chosen (cell v (first .picture) i j)) →
+      IsClosest (v .eye) (viewDirection v i j) (kept chosen (patchesIn bytes)) (cell v (second .picture) i j)
+
+-- Demand 3, for any chosen panels: "All this holds whatever the two trees are and whatever the lent buffers held before." The calls' contracts stand beside it below.
+abbrev pub DemandThree :
+    (firstBytes secondBytes : List ℕ) (v : View) (first second : Lent) (firstResult secondResult : ℕ) → Type 0
+DemandThree firstBytes secondBytes v first second firstResult secondResult =
+    (chosen : ℕ → Bool) → firstResult ≡ 0 → secondResult ≡ 0 →
+    TakenAway chosen (patchesIn firstBytes) (patchesIn secondBytes) →
+    ChosenTakenAway firstBytes chosen v first second
+
+-- Both calls, each by the survey's contract, and demand 3 of them.
+pub record PairSurveyed
+    (firstBytes secondBytes : List ℕ) (v : View) (before₁ after₁ before₂ after₂ : Lent) (result₁ result₂ : ℕ) : Type 0 where
+  pub first-call : Surveyed firstBytes v before₁ after₁ result₁
+  pub second-call : Surveyed secondBytes v before₂ after₂ result₂
+  pub demand-three : DemandThree firstBytes secondBytes v after₁ after₂ result₁ result₂

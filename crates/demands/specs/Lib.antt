@@ -1,0 +1,2 @@
+-- The statements of demands 1 to 3.
+pub mod Demands

@@ -1,0 +1,117 @@
+// Question 9: the planes divide the patches as the tree says.
+mod beyond;
+mod held;
+mod planes;
+
+use crate::beyond::settled;
+use crate::held::run_held;
+use crate::planes::Plane;
+use crate::planes::Sides;
+use crate::planes::plane_of;
+use checked::node;
+use extents::subtrees::fill_extents;
+use format::layout::Layout;
+use format::records::Node;
+ghost use mathlib.Core.Path.{_≡_};
+ghost use mathlib.Core.List.{map};
+ghost use Prim.Native.Nat.{_<_};
+ghost use Rattle.model.specs.Lists.{every};
+ghost use Rattle.model.specs.Tree.{contents, mapTree, divides};
+ghost use Rattle.model.specs.Format.{decode, patchNumbered};
+ghost use Rattle.model.specs.Questions.{planesDivide};
+ghost use Rattle.checked.specs.Checked.{Checked, treeBelow};
+ghost use Rattle.extents.specs.Extents.{ExtentsFrom};
+ghost use Rattle.division.specs.Division.{Against, NodeAsked, held, nodeDivides};
+
+// every patch at and below node k is held; the child's test comes before its call, as most children are settled by it
+fn subtree_held(
+    bytes: &[u8],
+    l: Layout,
+    k: usize,
+    plane: Plane,
+    wanted: Sides,
+    boxes: &[i64],
+) -> bool
+    requires { ⌜ Against (now bytes) l plane (now boxes) × (k < l .nodes) ⌝ }
+    ensures { λ r. ⌜ r ≡ every (held plane wanted) (map (patchNumbered (decode (now (bytes .entry)))) (contents (treeBelow (now (bytes .entry)) k))) ⌝ }
+{
+    let n = node(bytes, l, k);
+    if !run_held(bytes, l, n.patches.first, n.patches.count, plane, wanted) {
+        return false;
+    }
+    if !settled(l.nodes, n.positive, plane, wanted, boxes) {
+        if !subtree_held(bytes, l, n.positive, plane, wanted, boxes) {
+            return false;
+        }
+    }
+    if settled(l.nodes, n.negative, plane, wanted, boxes) {
+        return true;
+    }
+    subtree_held(bytes, l, n.negative, plane, wanted, boxes)
+}
+
+// every patch at and below node k, if there is one, is held
+fn below_held(bytes: &[u8], l: Layout, k: usize, plane: Plane, wanted: Sides, boxes: &[i64]) -> bool
+    requires { ⌜ Against (now bytes) l plane (now boxes) ⌝ }
+    ensures { λ r. ⌜ r ≡ every (held plane wanted) (map (patchNumbered (decode (now (bytes .entry)))) (contents (treeBelow (now (bytes .entry)) k))) ⌝ }
+{
+    if settled(l.nodes, k, plane, wanted, boxes) {
+        return true;
+    }
+    subtree_held(bytes, l, k, plane, wanted, boxes)
+}
+
+// question 9 at one node
+fn node_divides(bytes: &[u8], l: Layout, n: Node, boxes: &[i64]) -> bool
+    requires { ⌜ NodeAsked (now bytes) l n (now boxes) ⌝ }
+    ensures { λ r. ⌜ r ≡ nodeDivides (now (bytes .entry)) n ⌝ }
+{
+    let plane = plane_of(n);
+    let on = Sides {
+        negative: false,
+        positive: false,
+    };
+    if !run_held(bytes, l, n.patches.first, n.patches.count, plane, on) {
+        return false;
+    }
+    let front = Sides {
+        negative: false,
+        positive: true,
+    };
+    if !below_held(bytes, l, n.positive, plane, front, boxes) {
+        return false;
+    }
+    let back = Sides {
+        negative: true,
+        positive: false,
+    };
+    below_held(bytes, l, n.negative, plane, back, boxes)
+}
+
+// question 9 at and below node k
+fn divides_below(bytes: &[u8], l: Layout, k: usize, boxes: &[i64]) -> bool
+    requires { ⌜ Checked (now bytes) l × ExtentsFrom (now bytes) l 0 (now boxes) ⌝ }
+    ensures { λ r. ⌜ r ≡ divides (mapTree (patchNumbered (decode (now (bytes .entry)))) (treeBelow (now (bytes .entry)) k)) ⌝ }
+{
+    if l.nodes <= k {
+        return true;
+    }
+    let n = node(bytes, l, k);
+    if !node_divides(bytes, l, n, boxes) {
+        return false;
+    }
+    if !divides_below(bytes, l, n.positive, boxes) {
+        return false;
+    }
+    divides_below(bytes, l, n.negative, boxes)
+}
+
+// question 9
+pub fn planes_divide(bytes: &[u8], l: Layout) -> bool
+    requires { ⌜ Checked (now bytes) l ⌝ }
+    ensures { λ r. ⌜ r ≡ planesDivide (decode (now (bytes .entry))) ⌝ }
+{
+    let mut boxes = [0i64; 12288];
+    fill_extents(bytes, l, &mut boxes);
+    divides_below(bytes, l, 0, &boxes)
+}

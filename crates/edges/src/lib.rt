@@ -1,0 +1,93 @@
+// The edge functions of a patch: what a raster sees of its edge vectors, turned to the patch's side.
+use checked::corner;
+use checked::corner_run;
+use format::layout::Layout;
+use geometry::Raster;
+use geometry::Vector;
+use geometry::edge_function;
+use spans::table::store_function;
+ghost use mathlib.Core.Path.{_≡_};
+ghost use Prim.Native.Nat.{_+_, _*_, _≤_, _<_};
+ghost use lib.ListN.{length};
+ghost use Rattle.integer.specs.Magnitude.{Within};
+ghost use Rattle.model.specs.Vector.{minus, times, cross};
+ghost use Rattle.model.specs.Format.{decode, patchNumbered};
+ghost use Rattle.geometry.specs.Machine.{vecOf, Bounded, VectorIs};
+ghost use Rattle.format.specs.Layout.{patchNumber};
+ghost use Rattle.checked.specs.Checked.{Checked};
+ghost use Rattle.edges.specs.Edges.{EyeSign, nextCorner, SightBounded, EdgesWritten};
+
+// the rays of a picture, with the eye that they go from
+pub struct Sight {
+    pub eye: Vector,
+    pub raster: Raster,
+}
+
+// the sign of patch k's eye product
+fn eye_sign(bytes: &[u8], l: Layout, k: usize, eye: Vector) -> i64
+    requires { ⌜ Checked (now bytes) l × (k < l .patches) × Bounded 10000 eye ⌝ }
+    ensures { λ r. ⌜ EyeSign (vecOf eye) (patchNumbered (decode (now (bytes .entry))) k) r ⌝ }
+{
+    let first = corner_run(bytes, l, k).first;
+    let a = corner(bytes, l, first);
+    let b = corner(bytes, l, first + 1);
+    let c = corner(bytes, l, first + 2);
+    let normal = geometry::plane_normal(a, b, c);
+    integer::sign(geometry::eye_product(eye, a, normal))
+}
+
+// sign · ((v − eye) × (w − eye)), for the sign of the eye product: one edge vector of a patch, turned to the patch's side
+fn oriented_edge(eye: Vector, v: Vector, w: Vector, sign: i64) -> Vector
+    requires { ⌜ Bounded 10000 eye × Bounded 10000 v × Bounded 10000 w × Within 1 sign ⌝ }
+    ensures { λ r. ⌜ VectorIs 800000000 (times sign (cross (minus (vecOf v) (vecOf eye)) (minus (vecOf w) (vecOf eye)))) r ⌝ }
+{
+    let edge = geometry::edge_vector(eye, v, w);
+    Vector {
+        x: integer::product(sign, edge.x),
+        y: integer::product(sign, edge.y),
+        z: integer::product(sign, edge.z),
+    }
+}
+
+// the corner's place after place i: after the last comes the first
+fn next_place(count: usize, i: usize) -> usize
+    requires { ⌜ i < count ⌝ }
+    ensures { λ r. ⌜ r ≡ nextCorner count i ⌝ }
+{
+    let next = i + 1;
+    if next < count {
+        return next;
+    }
+    0
+}
+
+// writes the edge functions of patch k where its corners stand in the corner table
+fn write_edges(bytes: &[u8], l: Layout, k: usize, sight: Sight, sign: i64, table: &mut [i64])
+    requires { ⌜ Checked (now bytes) l × (k < l .patches) × SightBounded sight
+        × EyeSign (vecOf (sight .eye)) (patchNumbered (decode (now bytes)) k) sign × (3 * l .corners ≤ length (now table)) ⌝ }
+    ensures { λ r. ⌜ EdgesWritten sight (patchNumbered (decode (now (bytes .entry))) k)
+        (patchNumber (now (bytes .entry)) l k .cornerRun) (now (table .entry)) (now (table .exit)) ⌝ }
+{
+    let run = corner_run(bytes, l, k);
+    let first = run.first;
+    let count = run.count;
+    let mut from = corner(bytes, l, first);
+    let mut i = 0;
+    while i < count {
+        let to = corner(bytes, l, first + next_place(count, i));
+        let edge = oriented_edge(sight.eye, from, to, sign);
+        store_function(table, first + i, edge_function(sight.raster, edge));
+        from = to;
+        i += 1;
+    }
+}
+
+// The same, with the sign of the eye product. As the corner runs of the patches follow each other, none writes over another's.
+pub fn patch_edges(bytes: &[u8], l: Layout, k: usize, sight: Sight, table: &mut [i64])
+    requires { ⌜ Checked (now bytes) l × (k < l .patches) × SightBounded sight × (3 * l .corners ≤ length (now table)) ⌝ }
+    ensures { λ r. ⌜ EdgesWritten sight (patchNumbered (decode (now (bytes .entry))) k)
+        (patchNumber (now (bytes .entry)) l k .cornerRun) (now (table .entry)) (now (table .exit)) ⌝ }
+{
+    let sign = eye_sign(bytes, l, k, sight.eye);
+    write_edges(bytes, l, k, sight, sign, table);
+}

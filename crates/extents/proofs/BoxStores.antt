@@ -1,0 +1,77 @@
+-- Points, boxes and extents stored in a list of numbers.
+use mathlib.Core.Path.{_≡_, ap₂, _∙_}
+use mathlib.Core.List.{List}
+use Prim.Native.Nat.{ℕ, _+_, _*_, _≤_, _<_}
+use native.Mathlib.Omega.{arith}
+use lib.IntN.{ℤ, pos}
+use lib.ListN.{length, getD, set, length-set}
+use lib.Seq.{getD-set-same, getD-set-other}
+use Rattle.integer.specs.Magnitude.{Within}
+use Rattle.geometry.specs.Machine.{Bounded}
+use Rattle.geometry.specs.declared.Vector.{Vector}
+use Rattle.extents.specs.Boxes.{pointAt, Stored}
+use Rattle.extents.proofs.BoxLaws.{stored, same}
+
+module _ (l : List ℤ) where
+  earlier : {i : ℕ} (j : ℕ) (v : ℤ) → i < j → getD (set l j v) i (pos 0) ≡ getD l i (pos 0)
+  earlier {i} j v h = getD-set-other l j i v (pos 0) (λ e. absurd (omega arith))
+
+  later : {i : ℕ} (j : ℕ) (v : ℤ) → j < i → getD (set l j v) i (pos 0) ≡ getD l i (pos 0)
+  later {i} j v h = getD-set-other l j i v (pos 0) (λ e. absurd (omega arith))
+
+  here : (i : ℕ) {z : ℤ} → i < length l → Within 10000 z → getD (set l i (stored z)) i (pos 0) ≡ z
+  here i h w = getD-set-same l i _ (pos 0) h ∙ same w
+
+module _ (l : List ℤ) (k : ℕ) (v : Vector) where
+  abbrev put1 : List ℤ
+  put1 = set l (3 * k) (stored (v .x))
+
+  abbrev put2 : List ℤ
+  put2 = set put1 (3 * k + 1) (stored (v .y))
+
+  abbrev put3 : List ℤ
+  put3 = set put2 (3 * k + 2) (stored (v .z))
+
+  pub put-long : length put3 ≡ length l
+  put-long = simp length-set
+
+  after-point : (i : ℕ) → 3 * k + 2 < i → getD put3 i (pos 0) ≡ getD l i (pos 0)
+  after-point i h = later put2 _ _ h ∙ later put1 _ _ (omega arith) ∙ later l _ _ (omega arith)
+
+  -- each number stands where it was put, as none is put there after it
+  pub point-stored : 3 * k + 3 ≤ length l → Bounded 10000 v → Stored pointAt l put3 k v
+  point-stored room h =
+      record {
+        long = put-long;
+        stands = λ t. record { x = x-stands t; y = y-stands t; z = z-stands t };
+        beside = λ j m t.
+            record {
+              x = after-point (3 * j) (omega arith) t;
+              y = after-point (3 * j + 1) (omega arith) t;
+              z = after-point (3 * j + 2) (omega arith) t;
+            };
+      }
+    where
+      x-stands : getD put3 (3 * k) (pos 0) ≡ v .x
+      x-stands = earlier put2 _ _ (omega arith) ∙ earlier put1 _ _ (omega arith) ∙ here l _ (omega arith) (h .x-within)
+
+      y-stands : getD put3 (3 * k + 1) (pos 0) ≡ v .y
+      y-stands = earlier put2 _ _ (omega arith) ∙ here put1 _ (simp length-set (omega arith)) (h .y-within)
+
+      z-stands : getD put3 (3 * k + 2) (pos 0) ≡ v .z
+      z-stands = here put2 _ (simp length-set (omega arith)) (h .z-within)
+
+-- two of them one after the other, of which the second is stored first
+pub pair-stored :
+    {X Y : Type 0} (at : List ℤ → ℕ → X) (joined : X → X → Y) {before mid after : List ℤ} {k : ℕ} {a b : X} →
+    Stored at before mid (2 * k + 1) b →
+    Stored at mid after (2 * k) a →
+    Stored (λ (l : List ℤ) (i : ℕ). joined (at l (2 * i)) (at l (2 * i + 1))) before after k (joined a b)
+pair-stored at joined {k = k} second first =
+    record {
+      long = first .long ∙ second .long;
+      stands = ap₂ joined (first .stands) (first .beside (2 * k + 1) (omega arith) ∙ second .stands);
+      beside = λ j h.
+          ap₂ joined (first .beside (2 * j) (omega arith) ∙ second .beside (2 * j) (omega arith))
+          (first .beside (2 * j + 1) (omega arith) ∙ second .beside (2 * j + 1) (omega arith));
+    }

@@ -1,0 +1,184 @@
+-- Every limit that stands in the definitions as a number, tried by computing: the numbers at the limit pass, the next ones do not.
+use mathlib.Core.Bool.{Bool, true, false, not, _&&_}
+use mathlib.Core.List.{List, [], _∷_, _++_}
+use Prim.Native.Nat.{ℕ, _+_, _%_}
+use lib.Dec.{T, eqb}
+use lib.IntN.{pos, negℤ, _-ℤ_}
+use lib.Signed.{leZ}
+use lib.ListN.{length, getD, take, replicate}
+use Rattle.model.specs.Lists.{every}
+use Rattle.model.specs.Vector.{Vec, Plane, vec, origin, isZero}
+use Rattle.model.specs.Patch.{Patch, cornersCounted}
+use Rattle.model.specs.Format.{Scene, u16At, u32At, signed16}
+use Rattle.model.specs.Row.{rowOf, usedPart}
+use Rattle.model.specs.Picture.{counts}
+use Rattle.model.specs.Call.{Call}
+use Rattle.model.specs.Questions.{hasHeader, hasSections, coordinatesInRange, properChild, panelsInRange, viewInRange, lengthsFit, counterBelowEnd, rowFits}
+use Rattle.model.specs.Removal.{isChosen}
+use Rattle.model.proofs.Encode.{HeaderLine, headerBytes}
+use Rattle.model.proofs.Computing.{everything}
+use Rattle.model.proofs.Scenes.{square, fittingCall}
+
+-- a test, numbers that pass it, and numbers that do not
+record Limit : Type 0 where
+  test : ℕ → Bool
+  passing : List ℕ
+  failing : List ℕ
+
+abbrev limit : (ℕ → Bool) → List ℕ → List ℕ → Limit
+limit t ps fs = record { test = t; passing = ps; failing = fs }
+
+-- the limit stands where it is said to
+abbrev holdsAt : Limit → Bool
+holdsAt l = every (l .test) (l .passing) && every (λ (n : ℕ). not (l .test n)) (l .failing)
+
+-- ---- questions 1 and 2, by the header
+
+-- a scene of some length, whose header says that length: all its sections are empty
+abbrev long : ℕ → List ℕ
+long n =
+    take n
+    (headerBytes (record { version = 1; reserved = 0; whole = n; start = 32; nodeSize = 0; patchSize = 0; cornerSize = 0 })
+    ++ replicate n 0)
+
+abbrev sections : ℕ → ℕ → ℕ → ℕ → List ℕ
+sections s n p c =
+    headerBytes
+    (record { version = 1; reserved = 0; whole = s + n + p + c; start = s; nodeSize = n; patchSize = p; cornerSize = c })
+
+abbrev headed : ℕ → ℕ → List ℕ
+headed v r =
+    headerBytes (record { version = v; reserved = r; whole = 32; start = 32; nodeSize = 0; patchSize = 0; cornerSize = 0 })
+
+abbrev headerLimits : List Limit
+headerLimits =
+    limit (λ n. hasHeader (long n)) (32 ∷ 57376 ∷ []) (31 ∷ 57377 ∷ [])
+    ∷ limit (λ n. hasHeader (headed n 0)) (1 ∷ []) (0 ∷ 2 ∷ [])
+    ∷ limit (λ n. hasHeader (headed 1 n)) (0 ∷ []) (1 ∷ [])
+    ∷ limit (λ n. hasSections (sections n 0 0 0)) (32 ∷ []) (31 ∷ 33 ∷ [])
+    -- 1,024 nodes of 26 bytes, 1,024 patches of 6, 4,096 corners of 6
+    ∷ limit (λ n. hasSections (sections 32 n 0 0)) (26 ∷ 26624 ∷ []) (25 ∷ 27 ∷ 26650 ∷ [])
+    ∷ limit (λ n. hasSections (sections 32 0 n 0)) (6 ∷ 6144 ∷ []) (5 ∷ 7 ∷ 6150 ∷ [])
+    ∷ limit (λ n. hasSections (sections 32 0 0 n)) (6 ∷ 24576 ∷ []) (5 ∷ 7 ∷ 24582 ∷ [])
+    ∷ []
+
+-- ---- questions 3, 5, 6 and 7, of a scene's records
+
+-- a number on one of the axes, to either side
+abbrev onAxes : (Vec → Bool) → ℕ → Bool
+onAxes test n =
+    test (vec (pos n) (pos 0) (pos 0))
+    && test (vec (pos 0) (pos n) (pos 0))
+    && test (vec (pos 0) (pos 0) (pos n))
+    && test (vec (negℤ (pos n)) (pos 0) (pos 0))
+    && test (vec (pos 0) (negℤ (pos n)) (pos 0))
+    && test (vec (pos 0) (pos 0) (negℤ (pos n)))
+
+-- no number on an axis passes, to either side
+abbrev offAxes : (Vec → Bool) → ℕ → Bool
+offAxes test = onAxes (λ v. not (test v))
+
+abbrev oneNode : Plane → Scene
+oneNode s =
+    record {
+      nodes = record { plane = s; positive = 65535; negative = 65535; patchRun = record { first = 0; count = 0 } } ∷ [];
+      patches = [];
+      corners = [];
+    }
+
+abbrev oneCorner : Vec → Scene
+oneCorner v = record { nodes = []; patches = []; corners = v ∷ [] }
+
+abbrev onePanel : ℕ → Scene
+onePanel n =
+    record {
+      nodes = [];
+      patches = record { panel = n; cornerRun = record { first = 0; count = 0 } } ∷ [];
+      corners = [];
+    }
+
+abbrev ofCorners : ℕ → Patch
+ofCorners n = record { panel = 1; corners = replicate n origin }
+
+-- the tests of a coordinate's place: a corner, a node's three points, the eye
+abbrev placed : List (Vec → Bool)
+placed =
+    (λ v. coordinatesInRange (oneCorner v))
+    ∷ (λ v. coordinatesInRange (oneNode (record { a = v; b = origin; c = origin })))
+    ∷ (λ v. coordinatesInRange (oneNode (record { a = origin; b = v; c = origin })))
+    ∷ (λ v. coordinatesInRange (oneNode (record { a = origin; b = origin; c = v })))
+    ∷ (λ v. viewInRange (fittingCall [] v 4 4 4))
+    ∷ []
+
+abbrev sceneLimits : List Limit
+sceneLimits =
+    limit (λ n. every (λ (t : Vec → Bool). onAxes t n) placed) (0 ∷ 10000 ∷ []) []
+    ∷ limit (λ n. every (λ (t : Vec → Bool). offAxes t n) placed) (10001 ∷ []) []
+    -- node 1 of three has the children 2 and none
+    ∷ limit (properChild 3 1) (2 ∷ 65535 ∷ []) (1 ∷ 3 ∷ 65534 ∷ 65536 ∷ [])
+    ∷ limit (λ n. cornersCounted (ofCorners n)) (3 ∷ 8 ∷ []) (2 ∷ 9 ∷ [])
+    ∷ limit (λ n. panelsInRange (onePanel n)) (1 ∷ 1024 ∷ []) (0 ∷ 1025 ∷ [])
+    ∷ []
+
+-- ---- questions 10 to 13, of a call
+
+abbrev lent : ℕ → ℕ → ℕ → ℕ → Call
+lent p n u k =
+    record {
+      scene = [];
+      eye = origin;
+      camera = record { window = record { width = 4; height = 3; lens = 4 } };
+      lengths = record { picture = p; counts = n; unlit = u };
+      counter = k;
+    }
+
+-- every other column shows a square, so that n columns need half as many segments
+abbrev everyOther : ℕ → Vec
+everyOther i = vec (pos 0) (pos (i % 2)) (pos 0)
+
+abbrev callLimits : List Limit
+callLimits =
+    limit (λ n. viewInRange (fittingCall [] origin n 4 4)) (1 ∷ 256 ∷ []) (0 ∷ 257 ∷ [])
+    ∷ limit (λ n. viewInRange (fittingCall [] origin 4 n 4)) (1 ∷ 128 ∷ []) (0 ∷ 129 ∷ [])
+    ∷ limit (λ n. viewInRange (fittingCall [] origin 4 4 n)) (1 ∷ 4096 ∷ []) (0 ∷ 4097 ∷ [])
+    -- a window of 4 by 3 cells
+    ∷ limit (λ n. lengthsFit (lent n 1025 768 0)) (12 ∷ []) (11 ∷ 13 ∷ [])
+    ∷ limit (λ n. lengthsFit (lent 12 n 768 0)) (1025 ∷ []) (1024 ∷ 1026 ∷ [])
+    ∷ limit (λ n. lengthsFit (lent 12 1025 n 0)) (768 ∷ []) (767 ∷ 769 ∷ [])
+    ∷ limit (λ n. counterBelowEnd (lent 12 1025 768 n)) (0 ∷ 4294967294 ∷ []) (4294967295 ∷ [])
+    -- 128 segments, and 129
+    ∷ limit
+    (λ n. rowFits n origin everyOther (record { panel = 1; corners = square (pos 100) (pos 50) } ∷ []))
+    (256 ∷ [])
+    (257 ∷ [])
+    ∷ []
+
+-- ---- the bytes' numbers, the rows and the counts
+
+abbrev formLimits : List Limit
+formLimits =
+    limit (λ n. eqb (u16At (n ∷ n ∷ []) 0) 65535) (255 ∷ []) (254 ∷ [])
+    ∷ limit (λ n. eqb (u32At (n ∷ n ∷ n ∷ n ∷ []) 0) 4294967295) (255 ∷ []) (254 ∷ [])
+    -- two's complement: the numbers that are not negative, and how far below 0 the last and the first of the others are
+    ∷ limit (λ n. leZ (pos 0) (signed16 n)) (0 ∷ 32767 ∷ []) (32768 ∷ 65535 ∷ [])
+    ∷ limit (λ n. isZero (signed16 65535 -ℤ negℤ (pos n))) (1 ∷ []) (0 ∷ 2 ∷ [])
+    ∷ limit (λ n. isZero (signed16 32768 -ℤ negℤ (pos n))) (32768 ∷ []) (32767 ∷ 32769 ∷ [])
+    -- a row has 256 numbers, row 1 of the lists those from 256 on
+    ∷ limit (λ n. eqb (length (rowOf 4 (λ i. true))) n) (256 ∷ []) (255 ∷ 257 ∷ [])
+    ∷ limit (λ n. eqb (length (usedPart (replicate n 1) 0)) 256) (256 ∷ 257 ∷ []) (255 ∷ [])
+    ∷ limit (λ n. eqb (length (usedPart (replicate n 1) 1)) 256) (512 ∷ 513 ∷ []) (511 ∷ [])
+    -- a count for "nothing" and one for each panel up to 1,024
+    ∷ limit (λ n. eqb (length (counts [])) n) (1025 ∷ []) (1024 ∷ 1026 ∷ [])
+    ∷ limit (λ n. eqb (getD (counts (n ∷ [])) n 0) 1) (0 ∷ 1024 ∷ []) (1025 ∷ [])
+    ∷ []
+
+-- ---- demand 3
+
+-- "Chosen panels are any numbers from 1 to 1,024": with every number chosen
+abbrev chosenLimits : List Limit
+chosenLimits = limit (isChosen (λ n. true)) (1 ∷ 1024 ∷ []) (0 ∷ 1025 ∷ []) ∷ []
+
+-- At each limit the definitions say what document 01 says.
+pub limits-hold : T (every holdsAt (headerLimits ++ sceneLimits ++ callLimits ++ formLimits ++ chosenLimits))
+unfolding everything
+limits-hold = tt

@@ -1,0 +1,59 @@
+-- Runs that follow each other: each begins where the one before it ended, and the last ends where the table ends.
+use mathlib.Core.Path.{_≡_}
+use mathlib.Core.List.{List, [], _∷_, map, List·Memᴰ, List·Memᴰ·not-nil, Memᴰ·map}
+use Prim.Native.Nat.{ℕ, zero, suc, _+_, _≤_, _<_}
+use native.Mathlib.Nat.{add-zero, add-suc, suc-add}
+use native.Mathlib.Omega.{arith}
+use lib.Dec.{T, eqb, eqb→eq}
+use Rattle.model.specs.Lists.{range}
+use Rattle.model.specs.Format.{Run}
+use Rattle.model.specs.Questions.{runsFollow}
+use Rattle.model.proofs.Tests.{both, of-cons}
+use Rattle.model.proofs.Ranges.{in-range}
+
+abbrev pub runEnd : Run → ℕ
+runEnd r = r .first + r .count
+
+-- a run that lies between two places
+pub record Between (start end : ℕ) (r : Run) : Type 0 where
+  pub begins : start ≤ r .first
+  pub ends : runEnd r ≤ end
+
+module _ (end : ℕ) where
+  -- the first run begins at the start, and the others follow its end
+  pub first-follows :
+      (start : ℕ) (r : Run) (rs : List Run) → T (runsFollow start end (r ∷ rs)) →
+      (r .first ≡ start) × T (runsFollow (start + r .count) end rs)
+  unfolding runsFollow
+  first-follows start r rs t =
+      let u = both (eqb (r .first) start) (runsFollow (start + r .count) end rs) .0 t in
+      (eqb→eq (r .first) start (u .0), u .1)
+
+  pub starts-before : (start : ℕ) (rs : List Run) → T (runsFollow start end rs) → start ≤ end
+  unfolding runsFollow
+  starts-before start [] t = omega (arith, eqb→eq)
+  starts-before start (r ∷ rs) t = omega (arith, starts-before (start + r .count) rs (first-follows start r rs t .1))
+
+  pub runs-between : (start : ℕ) (rs : List Run) → T (runsFollow start end rs) → (r : Run) → List·Memᴰ r rs → Between start end r
+  runs-between start [] t = λ r m. absurd (List·Memᴰ·not-nil m)
+  runs-between start (r ∷ rs) t =
+      let u = first-follows start r rs t in
+      let later = runs-between (start + r .count) rs (u .1) in
+      of-cons (Between start end)
+      (record { begins = omega (arith, u .0); ends = omega (arith, u .0, starts-before (start + r .count) rs (u .1)) })
+      (λ q m. record { begins = omega (arith, later q m .begins); ends = later q m .ends })
+
+  -- a run ends before those after it begin
+  pub runs-in-turn :
+      (run : ℕ → Run) (start i n : ℕ) → T (runsFollow start end (map run (range i n))) →
+      (j k : ℕ) → j < k → k < n →
+      runEnd (run (i + j)) ≤ run (i + k) .first
+  runs-in-turn run start i zero t j k b h = absurd (omega arith)
+  runs-in-turn run start i (suc n) t zero k b h =
+      let u = first-follows start (run i) (map run (range (suc i) n)) t in
+      let m : List·Memᴰ (run (i + k)) (map run (range (suc i) n)) = Memᴰ·map run (in-range (suc i) n (i + k) .1 (omega arith, omega arith)) in
+      rw add-zero (omega (arith, u .0, runs-between (start + run i .count) (map run (range (suc i) n)) (u .1) (run (i + k)) m .begins))
+  runs-in-turn run start i (suc n) t (suc j) zero b h = absurd (omega arith)
+  runs-in-turn run start i (suc n) t (suc j) (suc k) b h =
+      rw (add-suc i j, ← suc-add i j, add-suc i k, ← suc-add i k)
+      (runs-in-turn run (start + run i .count) (suc i) n (first-follows start (run i) (map run (range (suc i) n)) t .1) j k (omega arith) (omega arith))

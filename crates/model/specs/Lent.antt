@@ -1,0 +1,21 @@
+-- What is lent to the survey call, and how long it is: a further buffer is one more field of each record here.
+use mathlib.Core.List.{List}
+use Prim.Native.Nat.{ℕ}
+use lib.ListN.{length}
+
+-- what the lent buffers and the station counter hold
+pub record Lent : Type 0 where
+  pub picture : List ℕ
+  pub counts : List ℕ
+  pub unlit : List ℕ
+  pub counter : ℕ
+
+-- the lengths of the lent buffers
+pub record Lengths : Type 0 where
+  pub picture : ℕ
+  pub counts : ℕ
+  pub unlit : ℕ
+
+abbrev pub lengthsOf : Lent → Lengths
+lengthsOf l =
+    record { picture = length (l .picture); counts = length (l .counts); unlit = length (l .unlit) }

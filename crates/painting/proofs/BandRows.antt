@@ -1,0 +1,120 @@
+-- A band of rows, painted with the part of a walk that is ready: a full row is what the whole walk leaves.
+use mathlib.Core.Path.{_≡_, refl, sym, _∙_, ap, subst}
+use mathlib.Core.Logic.{_⊎_, inl, inr}
+use mathlib.Core.Bool.{Bool, true, false, not, _&&_, true≢false}
+use mathlib.Core.List.{List, [], _++_, map-append, append-nil}
+use Prim.Native.Nat.{ℕ, _+_, _≤_, _<_}
+use native.Mathlib.Omega.{arith}
+use lib.ListN.{length}
+use Rattle.model.specs.Vector.{Vec}
+use Rattle.model.specs.Patch.{Patch}
+use Rattle.model.specs.Format.{decode, patchNumbered}
+use Rattle.model.specs.Row.{rowLength}
+use Rattle.model.specs.Questions.{unlitAfter}
+use Rattle.geometry.specs.Machine.{vecOf}
+use Rattle.geometry.specs.Raster.{rayAt}
+use Rattle.format.proofs.Tables.{same-table}
+use Rattle.rows.proofs.Rows.{row-congr}
+use Rattle.edges.specs.declared.Sight.{Sight}
+use Rattle.painting.specs.declared.picture.Band.{Band}
+use Rattle.painting.specs.Painting.{shownAfter}
+use Rattle.painting.specs.Laying.{walkOf}
+use Rattle.painting.specs.Framing.{Framed, withRow, RowPlaced, RowDone, RowsUpTo}
+use Rattle.painting.specs.Bands.{BandPainted}
+use Rattle.painting.proofs.FirstShown.{unlit-stays, shown-stays}
+use Rattle.painting.proofs.RowsPlaced.{still-framed, rows-go, rows-stay}
+
+-- a full row is what the whole walk leaves
+full-placed :
+    {eye : Vec} {ray : ℕ → Vec} (done rest : List Patch) {width j : ℕ} {picture unlit picture′ unlit′ : List ℕ} →
+    ((i : ℕ) → i < width → unlitAfter eye ray done i ≡ false) →
+    RowPlaced eye ray done width j picture unlit picture′ unlit′ →
+    RowPlaced eye ray (done ++ rest) width j picture unlit picture′ unlit′
+full-placed {eye} {ray} done rest {width} {j} {picture} {unlit} full placed =
+    record {
+      cells-are =
+          placed .cells-are
+          ∙ ap (λ (cells : List ℕ). withRow width j cells picture)
+          (same-table (shownAfter eye ray done) (shownAfter eye ray (done ++ rest)) 0 0 width
+          (λ k h. sym (shown-stays eye ray done rest (0 + k) (full (0 + k) (omega arith)))));
+      row-is =
+          placed .row-is
+          ∙ ap (λ (row : List ℕ). withRow rowLength j row unlit)
+          (row-congr width _ _ (λ i h. full i h ∙ sym (unlit-stays eye ray done rest i (full i h))));
+    }
+
+-- the rest of a walk that a row does not wait for: none where the walk is whole, and any where the row is full
+module _
+    (bytes : List ℕ) (s : Sight) (order : List ℕ) {j : ℕ} {picture unlit picture′ unlit′ : List ℕ} {whole full : Bool}
+    (done : RowDone (vecOf (s .eye)) (λ (i : ℕ). rayAt (s .raster) i j) (walkOf bytes order) (s .raster .width) j picture unlit picture′ unlit′ full)
+  where
+    placed-all :
+        (not whole && not full) ≡ false → (rest : List ℕ) → (whole ≡ true → rest ≡ []) →
+        RowPlaced (vecOf (s .eye)) (λ (i : ℕ). rayAt (s .raster) i j) (walkOf bytes (order ++ rest)) (s .raster .width) j picture unlit picture′ unlit′
+    placed-all e rest none = go whole full e none (done .full-says)
+      where
+        Placed : List Patch → Type 0
+        Placed walk = RowPlaced (vecOf (s .eye)) (λ (i : ℕ). rayAt (s .raster) i j) walk (s .raster .width) j picture unlit picture′ unlit′
+
+        go :
+            (w f : Bool) → (not w && not f) ≡ false → (w ≡ true → rest ≡ []) →
+            (f ≡ true → (i : ℕ) → i < s .raster .width → unlitAfter (vecOf (s .eye)) (λ (i : ℕ). rayAt (s .raster) i j) (walkOf bytes order) i ≡ false) →
+            Placed (walkOf bytes (order ++ rest))
+        go true f e none says = subst (λ (ns : List ℕ). Placed (walkOf bytes ns)) (sym (ap (order ++_) (none refl) ∙ append-nil order)) (done .placed)
+        go false true e none says =
+            subst Placed (sym (map-append (patchNumbered (decode bytes)) order rest))
+            (full-placed (walkOf bytes order) (walkOf bytes rest) (says refl) (done .placed))
+        go false false e none says = absurd (true≢false e)
+
+-- of a band that begins with row `from`, the rows before row j are in their places
+pub record BandUpTo
+    (bytes : List ℕ) (s : Sight) (order : List ℕ) (band : Band) (picture unlit picture′ unlit′ : List ℕ) (j : ℕ) : Type 0 where
+  pub above : band .from ≤ j
+  pub below : j ≤ band .to
+  pub same-cells : length picture′ ≡ length picture
+  pub same-unlit : length unlit′ ≡ length unlit
+  pub rows :
+      (rest : List ℕ) → (band .whole ≡ true → rest ≡ []) →
+      RowsUpTo (vecOf (s .eye)) (rayAt (s .raster)) (walkOf bytes (order ++ rest)) (s .raster .width) (s .raster .height) picture unlit (band .from) →
+      RowsUpTo (vecOf (s .eye)) (rayAt (s .raster)) (walkOf bytes (order ++ rest)) (s .raster .width) (s .raster .height) picture′ unlit′ j
+
+module _ {bytes : List ℕ} {s : Sight} {order : List ℕ} {band : Band} {picture unlit : List ℕ} where
+  pub band-start : band .from ≤ band .to → BandUpTo bytes s order band picture unlit picture unlit (band .from)
+  band-start h = record { above = omega arith; below = h; same-cells = refl; same-unlit = refl; rows = λ rest none inv. inv }
+
+  module _
+      {picture′ unlit′ picture″ unlit″ : List ℕ} {j : ℕ} {full : Bool} (b : BandUpTo bytes s order band picture unlit picture′ unlit′ j)
+      (framed : Framed (s .raster .width) (s .raster .height) picture unlit) (h : j < s .raster .height)
+      (done :
+      RowDone (vecOf (s .eye)) (λ (i : ℕ). rayAt (s .raster) i j) (walkOf bytes order) (s .raster .width) j picture′ unlit′ picture″ unlit″ full)
+    where
+      abbrev now-framed : Framed (s .raster .width) (s .raster .height) picture′ unlit′
+      now-framed = still-framed (b .same-cells) (b .same-unlit) framed
+
+      pub band-go :
+          {waits : Bool} → waits ≡ (not (band .whole) && not full) → waits ≡ false → j < band .to →
+          length picture″ ≡ length picture′ → length unlit″ ≡ length unlit′ →
+          BandUpTo bytes s order band picture unlit picture″ unlit″ (j + 1)
+      band-go e f k p u =
+          record {
+            above = omega (arith, b .above);
+            below = omega arith;
+            same-cells = p ∙ b .same-cells;
+            same-unlit = u ∙ b .same-unlit;
+            rows = λ rest none inv. rows-go (b .rows rest none inv) now-framed h (placed-all bytes s order done (sym e ∙ f) rest none);
+          }
+
+      -- row j waits for more of the walk
+      pub band-waits : {waits : Bool} → waits ≡ (not (band .whole) && not full) → waits ≡ true → BandPainted bytes s order band picture unlit picture″ unlit″ j
+      band-waits e f =
+          record {
+            above = b .above;
+            below = b .below;
+            all = λ t. absurd (true≢false (sym f ∙ e ∙ ap (λ (w : Bool). not w && not full) t));
+            rows = λ rest none inv. rows-stay (b .rows rest none inv) now-framed h (done .placed);
+          }
+
+  pub band-end :
+      {picture′ unlit′ : List ℕ} {j : ℕ} → BandUpTo bytes s order band picture unlit picture′ unlit′ j → band .to ≤ j →
+      BandPainted bytes s order band picture unlit picture′ unlit′ j
+  band-end b h = record { above = b .above; below = b .below; all = λ t. omega (arith, b .below); rows = b .rows }

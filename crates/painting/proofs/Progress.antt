@@ -1,0 +1,97 @@
+-- A picture in the making: the rows before row `from` are in their places, and the first `ready` patches of the walk are ready.
+use mathlib.Core.Path.{_≡_, refl, sym, _∙_, ap, subst}
+use mathlib.Core.Logic.{⊎-elim}
+use mathlib.Core.Bool.{Bool, true, false}
+use mathlib.Core.List.{List, _++_}
+use Prim.Native.Nat.{ℕ, _+_, _-_, _≤_, _<_}
+use native.Mathlib.Omega.{arith}
+use lib.Dec.{eqb, ltb}
+use lib.IntN.{ℤ}
+use lib.ListN.{length, take, drop, take-append-drop, drop-of-length-le}
+use borrow.Author.Tests.{lt-ltb, eqb-true, eqb-false}
+use Rattle.model.proofs.Tests.{lt-or-ge}
+use Rattle.geometry.specs.Machine.{vecOf}
+use Rattle.geometry.specs.Raster.{rayAt}
+use Rattle.format.specs.declared.layout.Layout.{Layout}
+use Rattle.edges.specs.declared.Sight.{Sight}
+use Rattle.painting.specs.declared.picture.Band.{Band}
+use Rattle.painting.specs.Laying.{walkOf}
+use Rattle.painting.specs.Painting.{RowsPainted}
+use Rattle.painting.specs.Framing.{Framed, RowsUpTo}
+use Rattle.painting.specs.Bands.{BandPainted}
+use Rattle.painting.specs.Ready.{ReadyUpTo}
+use Rattle.painting.proofs.RowsPlaced.{still-framed, rows-start, rows-end}
+use Rattle.painting.proofs.ReadyWalk.{ready-none}
+
+pub record Progress
+    (bytes : List ℕ) (l : Layout) (s : Sight) (order : List ℕ) (edges edges′ : List ℤ) (rows rows′ picture picture′ unlit unlit′ : List ℕ) (ready from : ℕ) : Type 0 where
+  pub long-edges : length edges′ ≡ length edges
+  pub long-rows : length rows′ ≡ length rows
+  pub same-cells : length picture′ ≡ length picture
+  pub same-unlit : length unlit′ ≡ length unlit
+  pub ready-is : ReadyUpTo bytes l s order edges′ rows′ ready
+  pub rows-are :
+      RowsUpTo (vecOf (s .eye)) (rayAt (s .raster)) (walkOf bytes order) (s .raster .width) (s .raster .height) picture′ unlit′ from
+
+module _ {bytes : List ℕ} {l : Layout} {s : Sight} {order : List ℕ} {edges : List ℤ} {rows picture unlit : List ℕ} where
+  pub progress-start : Progress bytes l s order edges edges rows rows picture picture unlit unlit 0 0
+  progress-start =
+      record {
+        long-edges = refl;
+        long-rows = refl;
+        same-cells = refl;
+        same-unlit = refl;
+        ready-is = ready-none bytes l s order edges rows;
+        rows-are = rows-start picture unlit;
+      }
+
+  module _ {edges′ : List ℤ} {rows′ picture′ unlit′ : List ℕ} {ready from : ℕ} (p : Progress bytes l s order edges edges′ rows rows′ picture picture′ unlit unlit′ ready from) where
+    -- a band is painted, and more patches are made ready
+    pub progress-goes :
+        {edges″ : List ℤ} {rows″ picture″ unlit″ : List ℕ} {to row more : ℕ} →
+        BandPainted bytes s (take ready order) (record { from = from; to = to; whole = eqb ready (length order) }) picture′ unlit′ picture″ unlit″ row →
+        length picture″ ≡ length picture′ → length unlit″ ≡ length unlit′ →
+        ReadyUpTo bytes l s order edges″ rows″ more → length edges″ ≡ length edges′ → length rows″ ≡ length rows′ →
+        Progress bytes l s order edges edges″ rows rows″ picture picture″ unlit unlit″ more row
+    progress-goes {picture″ = picture″} {unlit″} {row = row} band a b now c d =
+        record {
+          long-edges = c ∙ p .long-edges;
+          long-rows = d ∙ p .long-rows;
+          same-cells = a ∙ p .same-cells;
+          same-unlit = b ∙ p .same-unlit;
+          ready-is = now;
+          rows-are =
+              subst (λ (ns : List ℕ). RowsUpTo (vecOf (s .eye)) (rayAt (s .raster)) (walkOf bytes ns) (s .raster .width) (s .raster .height) picture″ unlit″ row) whole
+              (band .rows (drop ready order) (λ t. drop-of-length-le order {i = ready} (omega (arith, eqb-true ready (length order) t)))
+              (subst (λ (ns : List ℕ). RowsUpTo (vecOf (s .eye)) (rayAt (s .raster)) (walkOf bytes ns) (s .raster .width) (s .raster .height) picture′ unlit′ from) (sym whole)
+              (p .rows-are)));
+        }
+      where
+        whole : take ready order ++ drop ready order ≡ order
+        whole = take-append-drop ready order
+
+    pub progress-end :
+        s .raster .height ≤ from → Framed (s .raster .width) (s .raster .height) picture unlit →
+        RowsPainted (vecOf (s .eye)) (rayAt (s .raster)) (walkOf bytes order) (s .raster .width) (s .raster .height) picture′ unlit′
+    progress-end h framed = rows-end (p .rows-are) h (still-framed (p .same-cells) (p .same-unlit) framed)
+
+-- each round paints a row or makes a patch ready
+pub progress-less :
+    {bytes : List ℕ} {s : Sight} {part : List ℕ} {from to all ready row more height : ℕ} {picture unlit picture′ unlit′ : List ℕ} →
+    BandPainted bytes s part (record { from = from; to = to; whole = eqb ready all }) picture unlit picture′ unlit′ row →
+    from < to → to ≤ height → ready ≤ all → (ready ≤ more) × (more ≤ all) → (ltb row to ≡ true → ready < all → ready < more) →
+    (height - row) + (all - more) < (height - from) + (all - ready)
+progress-less {from = from} {to} {all} {ready} {row} {more} {height} band h k l (a, b) grows =
+    ⊎-elim
+    (λ (short : row < to).
+    let m : ready < more = grows (lt-ltb row to short) (left short) in
+    omega (arith, band .above))
+    (λ (done : to ≤ row). omega (arith, band .below))
+    (lt-or-ge row to)
+  where
+    left : row < to → ready < all
+    left short = go (eqb ready all) refl
+      where
+        go : (t : Bool) → eqb ready all ≡ t → ready < all
+        go true e = let z : row ≡ to = band .all e in absurd (omega arith)
+        go false e = let z = eqb-false ready all e in omega arith
