@@ -1,6 +1,6 @@
 /* Holds include/ring.h to document 01: every number is written here a second time, from the paper
  * and not from the header, and every call is declared a second time. A header that says anything
- * else does not compile; a library that lacks a call does not link. tests/header.sh sees to both,
+ * else does not compile; a library that lacks a call does not link. tests/header.py sees to both,
  * and that this file names all that the header does. */
 #include "ring.h"
 

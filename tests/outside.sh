@@ -6,13 +6,20 @@ cd "$(dirname "${BASH_SOURCE[0]}")/.."
 cases=${1:-3000}
 seed=${2:-1}
 
-rt staticlib survey | tail -n 1
+built=$(mktemp)
+log=$(mktemp)
+trap 'rm -f "$built" "$log"; kill $(jobs -p) 2>/dev/null || true' EXIT
+
+# What runs in the background is beside the next, as each keeps one core busy.
+rt staticlib survey >"$built" 2>&1 &
 export SURVEY_LIB_DIR=$PWD/target/staticlib
 tests/tools.sh
-python3 tests/header.py "$SURVEY_LIB_DIR"
 for text in samples/stations/*.txt; do
     python3 tools/scene.py build "$text" - | cmp - "crates/stations/data/$(basename "$text" .txt)"
 done
+wait $! || { cat "$built"; exit 1; }
+tail -n 1 "$built"
+python3 tests/header.py "$SURVEY_LIB_DIR"
 tests/console.sh "$SURVEY_LIB_DIR"
 outside() { # PROGRAM WORD...
     (cd tests/outside && cargo run --quiet --release --offline --features library --bin "$@")
@@ -24,9 +31,7 @@ can_fail() {
 }
 (cd tests/outside && cargo build --quiet --release --offline --features library)
 tests/bills.sh "$PWD/target/bin/ringbill"
-log=$(mktemp)
-trap 'rm -f "$log"' EXIT
-can_fail >"$log" 2>&1 &   # beside the next, as each keeps one core busy
+can_fail >"$log" 2>&1 &
 outside differential -- --cases "$cases" --seed "$seed" --ringbill "$PWD/target/bin/ringbill"
 wait $! && status=0 || status=$?
 cat "$log"

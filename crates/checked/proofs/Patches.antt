@@ -9,13 +9,13 @@ use Rattle.model.specs.Format.{PatchRecord, Scene, patchTable}
 use Rattle.model.specs.Questions.{runsFollow, patchRunsFollow, cornerRunsFollow, runsProper, patchesProper}
 use Rattle.model.proofs.Tests.{both, every-true}
 
-pub corners-counted : (s : Scene) → T (cornerRunsFollow s) → (p : Patch) → List·Memᴰ p (patchTable s) → T (cornersCounted p)
+corners-counted : (s : Scene) → T (cornerRunsFollow s) → (p : Patch) → List·Memᴰ p (patchTable s) → T (cornersCounted p)
 unfolding cornerRunsFollow
 corners-counted s t =
     every-true cornersCounted (patchTable s) .0
     (both (runsFollow 0 (length (s .corners)) (map (λ (p : PatchRecord). p .cornerRun) (s .patches))) (every cornersCounted (patchTable s)) .0 t .1)
 
-pub patch-proper : (s : Scene) → T (patchesProper s) → (p : Patch) → List·Memᴰ p (patchTable s) → T (flat p) × T (strictlyConvex p)
+patch-proper : (s : Scene) → T (patchesProper s) → (p : Patch) → List·Memᴰ p (patchTable s) → T (flat p) × T (strictlyConvex p)
 unfolding patchesProper
 patch-proper s t p m = both (flat p) (strictlyConvex p) .0 (every-true (λ (p : Patch). flat p && strictlyConvex p) (patchTable s) .0 t p m)
 

@@ -15,7 +15,7 @@ use Rattle.model.specs.Format.{u16At, i16At}
 use Rattle.model.specs.Questions.{surveyAnswer}
 use Rattle.model.specs.Survey.{callCounts}
 use Rattle.model.specs.Lent.{Lent}
-use Rattle.survey.specs.Contract.{lentOf, cameraOf, viewFrom, lengthsAre, gateCall, results, leftBy, Surveyed}
+use Rattle.survey.specs.Contract.{lentOf, cameraOf, viewFrom, lengthsBy, gateCall, results, leftBy, Surveyed}
 use Rattle.console.specs.Input.{inputCall, countsBy, inputCounts}
 
 -- the counts of what is left
@@ -45,13 +45,13 @@ pub surveyed-input :
     (r ≡ surveyAnswer (inputCall input (length counts))) × (after .counts ≡ inputCounts input counts)
 unfolding inputCall inputCounts
 surveyed-input input {bytes} {picture} {counts} {unlit} {eye} {w} {h} {l} s scene eyes width height lens cells rows =
-    let call : Call = gateCall bytes (viewFrom eye (cameraOf w h l)) (lengthsAre (length picture) (length counts) (length unlit)) 0 in
+    let call : Call = gateCall bytes (viewFrom eye (cameraOf w h l)) (lengthsBy (length picture) (length counts) (length unlit)) 0 in
     let asked : call ≡ inputCall input (length counts) =
-    (λ i. gateCall (scene i) (viewFrom (eyes i) (cameraOf w h l)) (lengthsAre (cells i) (length counts) (rows i)) 0)
+    (λ i. gateCall (scene i) (viewFrom (eyes i) (cameraOf w h l)) (lengthsBy (cells i) (length counts) (rows i)) 0)
     ∙ (λ i.
     gateCall (drop 12 input)
     (viewFrom (vec (i16At input 0) (i16At input 2) (i16At input 4)) (cameraOf (width i) (height i) (lens i)))
-    (lengthsAre (min (width i * height i) 32768) (length counts) (min (height i * 256) 32768))
+    (lengthsBy (min (width i * height i) 32768) (length counts) (min (height i * 256) 32768))
     0) in (
       s .answered ∙ ap surveyAnswer asked,
       ap (λ (x : Lent). x .counts) (s .left)

@@ -12,7 +12,7 @@ use mir.Val.{toZ, ofZ}
 use Rattle.integer.specs.Magnitude.{Within}
 use Rattle.integer.proofs.Magnitude.{within-stored}
 use Rattle.model.specs.Vector.{Vec, isZero, side}
-use Rattle.model.proofs.Tests.{is-true}
+use Rattle.model.proofs.Tests.{is-true, same-test, true-of}
 use Rattle.model.proofs.Patches.{is-zero}
 use Rattle.model.specs.Patch.{patchPlane, normal, flat, strictlyConvex}
 use Rattle.geometry.specs.declared.Vector.{Vector}
@@ -23,7 +23,7 @@ use Rattle.convexity.specs.Bounds.{PatchBounded, WithNormal}
 use Rattle.convexity.specs.Tests.{wrap}
 use Rattle.convexity.specs.Projected.{Projected, projectedAt, ProjectionBounded, turnsProjected, convexProjected}
 use Rattle.convexity.specs.declared.projection.Projection.{Projection}
-use Rattle.model.proofs.Loops.{each, agree}
+use Rattle.model.proofs.Loops.{each}
 use Rattle.geometry.proofs.Zeros.{zero-word}
 use Rattle.convexity.proofs.Edges.{wrap-below}
 use Rattle.convexity.proofs.Corners.{turnAt, flat-asked, convex-asked, turns-asked}
@@ -32,12 +32,12 @@ use Rattle.convexity.proofs.Asked.{asked-others, all-others}
 use Rattle.convexity.proofs.Axes.{Axis, x-axis, y-axis, z-axis, along, across, Shown, slanted, no-plane, turns-as-projected}
 
 -- ---- the coordinates across an axis
-abbrev firsts : Axis → Patch → List ℤ
+abbrev pub firsts : Axis → Patch → List ℤ
 firsts x-axis p = p .y
 firsts y-axis p = p .z
 firsts z-axis p = p .x
 
-abbrev seconds : Axis → Patch → List ℤ
+abbrev pub seconds : Axis → Patch → List ℤ
 seconds x-axis p = p .z
 seconds y-axis p = p .x
 seconds z-axis p = p .y
@@ -58,12 +58,12 @@ table-within b x-table k h = b .corners-within k h .x-within
 table-within b y-table k h = b .corners-within k h .y-within
 table-within b z-table k h = b .corners-within k h .z-within
 
-first-table : (a : Axis) (p : Patch) → TableOf p (firsts a p)
+pub first-table : (a : Axis) (p : Patch) → TableOf p (firsts a p)
 first-table x-axis p = y-table
 first-table y-axis p = z-table
 first-table z-axis p = x-table
 
-second-table : (a : Axis) (p : Patch) → TableOf p (seconds a p)
+pub second-table : (a : Axis) (p : Patch) → TableOf p (seconds a p)
 second-table x-axis p = z-table
 second-table y-axis p = x-table
 second-table z-axis p = y-table
@@ -138,7 +138,7 @@ module _ {p : Patch} {n : Vector} (w : WithNormal p n) where
           shown
 
       pub convex-as-projected : convexProjected (projection a p n) (firsts a p) (seconds a p) ≡ strictlyConvex (patchOf p)
-      convex-as-projected = agree forth back
+      convex-as-projected = same-test _ _ (λ t. is-true (forth (true-of t))) (λ t. is-true (back (true-of t)))
         where
           place : ℕ → Projected
           place k = projectedAt (firsts a p) (seconds a p) k

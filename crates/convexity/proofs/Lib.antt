@@ -6,3 +6,6 @@ mod Projected
 mod Asked
 mod Axes
 mod Along
+mod FewCorners
+mod ThreeCorners
+mod FourCorners

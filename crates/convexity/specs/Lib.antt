@@ -2,3 +2,5 @@
 pub mod Tests
 pub mod Bounds
 pub mod Projected
+pub mod Four
+pub mod Three

@@ -1,9 +1,10 @@
 // A flat patch projected along an axis: each corner by its two other coordinates.
+use geometry::Vector;
 ghost use mathlib.Core.Path.{_≡_};
 ghost use Prim.Native.Nat.{_+_, _≤_, _<_};
 ghost use lib.IntN.{_*ℤ_};
 ghost use Rattle.integer.specs.Magnitude.{Within};
-ghost use Rattle.geometry.specs.Machine.{NumberIs};
+ghost use Rattle.geometry.specs.Machine.{Bounded, NumberIs};
 ghost use Rattle.convexity.specs.Tests.{wrap};
 ghost use Rattle.convexity.specs.Projected.{projected, projectedOf, projectedAt, ThreeWithin, ProjectionBounded, turnPart, asked, turnsProjectedAt, convexProjected};
 
@@ -14,9 +15,9 @@ pub struct Projection {
 }
 
 // a corner projected along an axis: its two other coordinates
-struct Point {
-    u: i64,
-    v: i64,
+pub struct Point {
+    pub u: i64,
+    pub v: i64,
 }
 
 fn point_of(u: i16, v: i16) -> Point
@@ -35,6 +36,28 @@ fn point_at<'a>(u: &'a [i16; 8], v: &'a [i16; 8], k: usize) -> Point
     point_of(u[k], v[k])
 }
 
+// a corner projected along each axis, with its coordinates in the order of the cross product
+pub fn across_x(v: Vector) -> Point
+    requires { ⌜ Bounded 10000 v ⌝ }
+    ensures { λ r. ⌜ projectedOf r ≡ projected (v .y) (v .z) ⌝ }
+{
+    Point { u: v.y, v: v.z }
+}
+
+pub fn across_y(v: Vector) -> Point
+    requires { ⌜ Bounded 10000 v ⌝ }
+    ensures { λ r. ⌜ projectedOf r ≡ projected (v .z) (v .x) ⌝ }
+{
+    Point { u: v.z, v: v.x }
+}
+
+pub fn across_z(v: Vector) -> Point
+    requires { ⌜ Bounded 10000 v ⌝ }
+    ensures { λ r. ⌜ projectedOf r ≡ projected (v .x) (v .y) ⌝ }
+{
+    Point { u: v.x, v: v.y }
+}
+
 // the part of (b − a) × (c − a) along the axis
 fn turn_part(a: Point, b: Point, c: Point) -> i64
     requires { ⌜ ThreeWithin (projectedOf a) (projectedOf b) (projectedOf c) ⌝ }
@@ -49,7 +72,7 @@ fn turn_part(a: Point, b: Point, c: Point) -> i64
 }
 
 // Of corners on one plane it has the sign of n · ((b − a) × (c − a)), if the part of n along the axis is not 0.
-fn turn_along(projection: Projection, a: Point, b: Point, c: Point) -> i64
+pub fn turn_along(projection: Projection, a: Point, b: Point, c: Point) -> i64
     requires { ⌜ Within 800000000 (projection .part) × ThreeWithin (projectedOf a) (projectedOf b) (projectedOf c) ⌝ }
     ensures { λ r. ⌜ NumberIs 640000000000000000 (projection .part *ℤ turnPart (projectedOf a) (projectedOf b) (projectedOf c)) r ⌝ }
 {

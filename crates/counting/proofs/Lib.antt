@@ -1,2 +1,2 @@
 -- Cells counted in four counters for each number.
-pub mod Counted
+mod Counted

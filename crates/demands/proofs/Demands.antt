@@ -6,18 +6,17 @@ use mathlib.Core.List.{List, [], _∷_}
 use Prim.Native.Nat.{ℕ, _*_, _<_}
 use native.Mathlib.Nat.{zero-add, mul-comm}
 use lib.Dec.{T, T-not, eqb}
-use lib.ListN.{length, getD, take, drop, length-map}
+use lib.ListN.{take, drop, length-map}
 use Rattle.model.specs.Lists.{every, range, occurrences}
-use Rattle.model.specs.Patch.{Patch}
 use Rattle.model.specs.Ray.{IsClosest, closest}
 use Rattle.model.specs.View.{View, viewWidth, viewHeight, viewDirection}
 use Rattle.model.specs.Lent.{Lent}
 use Rattle.model.specs.Format.{decode}
 use Rattle.model.specs.Row.{rowOf, rowLength}
-use Rattle.model.specs.Picture.{picture, counts, countEntries, unlitLists, cellPanel}
+use Rattle.model.specs.Picture.{counts, countEntries, unlitLists}
 use Rattle.model.specs.Questions.{Question, answer, sceneQuestions, callQuestions, questions, surveyAnswer}
-use Rattle.model.specs.Survey.{callPicture, callCounts, callUnlit, callCounter}
-use Rattle.model.specs.Removal.{isChosen, kept, TakenAway}
+use Rattle.model.specs.Survey.{callPicture, callCounts, callUnlit}
+use Rattle.model.specs.Removal.{kept, TakenAway}
 use Rattle.model.proofs.Tests.{both}
 use Rattle.model.proofs.Ranges.{range-length, rows-part, rows-length}
 use Rattle.model.proofs.Answers.{AcceptedCall, accepted-call, all-yes, answer-yes, answer-done}
@@ -25,9 +24,9 @@ use Rattle.model.proofs.Closest.{closest-right}
 use Rattle.model.proofs.Counts.{counts-at}
 use Rattle.model.proofs.Pictures.{picture-length, picture-at, picture-total}
 use Rattle.model.proofs.Removal.{pictures-counts, cell-differs, cell-shows}
-use Rattle.rows.proofs.Rows.{row-length, row-congr}
+use Rattle.segments.proofs.Rows.{row-length, row-congr}
 use Rattle.survey.proofs.Refusal.{left-old}
-use Rattle.survey.proofs.PanelNumbers.{panel-bounded}
+use Rattle.rendering.proofs.PanelNumbers.{panel-bounded}
 use Rattle.survey.specs.Contract.{callOn, results, leftBy, Surveyed}
 use Rattle.demands.specs.Demands.{patchesIn, cell, RefusesRightly, ClosestPanels, ChosenTakenAway, DemandThree, PairSurveyed}
 

@@ -6,7 +6,7 @@ use mathlib.Core.List.{List, [], _∷_, List·Memᴰ, List·Memᴰ·head, List·
 use Prim.Native.Nat.{ℕ, _≤_, _<_}
 use native.Mathlib.Omega.{arith}
 use native.Mathlib.Decide.{decLt}
-use lib.Dec.{T, lit<}
+use lib.Dec.{lit<}
 use lib.IntN.{ℤ, pos, negℤ, _+ℤ_, _-ℤ_, +ℤ-idl}
 use lib.Signed.{_<ℤ_, _≤ℤ_}
 use mir.Syntax.{w64}
@@ -18,7 +18,7 @@ use Rattle.model.specs.Lists.{every, any}
 use Rattle.model.specs.Patch.{Patch}
 use Rattle.model.specs.Tree.{contents}
 use Rattle.model.specs.Format.{decode, patchNumbered}
-use Rattle.model.proofs.Tests.{is-true, any-true}
+use Rattle.model.proofs.Tests.{is-true, any-true, true-of}
 use Rattle.model.proofs.Ranges.{of-map}
 use Rattle.geometry.specs.Machine.{vecOf, NumberIs}
 use Rattle.geometry.specs.declared.Vector.{Vector}
@@ -68,11 +68,7 @@ free-stored {n} {low} {high} {il} {ih} a b c d e f y =
 
 module _ {A : Type 0} (test : A → Bool) where
   any-passes : (l : List A) {a : A} → List·Memᴰ a l → test a ≡ true → any test l ≡ true
-  any-passes l m e = true-of (any test l) (any-true test l .1 (_, m, is-true e))
-    where
-      true-of : (b : Bool) → T b → b ≡ true
-      true-of true t = refl
-      true-of false t = absurd t
+  any-passes l m e = true-of (any-true test l .1 (_, m, is-true e))
 
   none-passes : (l : List A) → ((a : A) → List·Memᴰ a l → test a ≡ false) → any test l ≡ false
   none-passes [] f = refl

@@ -5,3 +5,4 @@ mod Branches
 mod BoxCorners
 mod BoxTold
 mod BoxSides
+mod EveryNode

@@ -101,7 +101,7 @@ fn all_held(e: Extent, plane: Plane, wanted: Sides) -> bool
 }
 
 // nothing at and below node k is left to look at: there is no such node, or its extent answers for all
-pub fn settled(nodes: usize, k: usize, plane: Plane, wanted: Sides, boxes: &[i64]) -> bool
+pub fn settled(nodes: usize, k: usize, plane: Plane, wanted: Sides, boxes: &[i16]) -> bool
     requires { ⌜ PlaneBounded plane × ChildExtent nodes k (now boxes) ⌝ }
     ensures { λ r. ⌜ Settled nodes k (now (boxes .entry)) plane wanted r ⌝ }
 {

@@ -30,7 +30,7 @@ fn subtree_held(
     k: usize,
     plane: Plane,
     wanted: Sides,
-    boxes: &[i64],
+    boxes: &[i16],
 ) -> bool
     requires { ⌜ Against (now bytes) l plane (now boxes) × (k < l .nodes) ⌝ }
     ensures { λ r. ⌜ r ≡ every (held plane wanted) (map (patchNumbered (decode (now (bytes .entry)))) (contents (treeBelow (now (bytes .entry)) k))) ⌝ }
@@ -50,19 +50,8 @@ fn subtree_held(
     subtree_held(bytes, l, n.negative, plane, wanted, boxes)
 }
 
-// every patch at and below node k, if there is one, is held
-fn below_held(bytes: &[u8], l: Layout, k: usize, plane: Plane, wanted: Sides, boxes: &[i64]) -> bool
-    requires { ⌜ Against (now bytes) l plane (now boxes) ⌝ }
-    ensures { λ r. ⌜ r ≡ every (held plane wanted) (map (patchNumbered (decode (now (bytes .entry)))) (contents (treeBelow (now (bytes .entry)) k))) ⌝ }
-{
-    if settled(l.nodes, k, plane, wanted, boxes) {
-        return true;
-    }
-    subtree_held(bytes, l, k, plane, wanted, boxes)
-}
-
 // question 9 at one node
-fn node_divides(bytes: &[u8], l: Layout, n: Node, boxes: &[i64]) -> bool
+fn node_divides(bytes: &[u8], l: Layout, n: Node, boxes: &[i16]) -> bool
     requires { ⌜ NodeAsked (now bytes) l n (now boxes) ⌝ }
     ensures { λ r. ⌜ r ≡ nodeDivides (now (bytes .entry)) n ⌝ }
 {
@@ -78,32 +67,35 @@ fn node_divides(bytes: &[u8], l: Layout, n: Node, boxes: &[i64]) -> bool
         negative: false,
         positive: true,
     };
-    if !below_held(bytes, l, n.positive, plane, front, boxes) {
-        return false;
+    if !settled(l.nodes, n.positive, plane, front, boxes) {
+        if !subtree_held(bytes, l, n.positive, plane, front, boxes) {
+            return false;
+        }
     }
     let back = Sides {
         negative: true,
         positive: false,
     };
-    below_held(bytes, l, n.negative, plane, back, boxes)
-}
-
-// question 9 at and below node k
-fn divides_below(bytes: &[u8], l: Layout, k: usize, boxes: &[i64]) -> bool
-    requires { ⌜ Checked (now bytes) l × ExtentsFrom (now bytes) l 0 (now boxes) ⌝ }
-    ensures { λ r. ⌜ r ≡ divides (mapTree (patchNumbered (decode (now (bytes .entry)))) (treeBelow (now (bytes .entry)) k)) ⌝ }
-{
-    if l.nodes <= k {
+    if settled(l.nodes, n.negative, plane, back, boxes) {
         return true;
     }
-    let n = node(bytes, l, k);
-    if !node_divides(bytes, l, n, boxes) {
-        return false;
+    subtree_held(bytes, l, n.negative, plane, back, boxes)
+}
+
+// question 9 at every node: after question 5 the tree has them all
+fn nodes_divide(bytes: &[u8], l: Layout, boxes: &[i16]) -> bool
+    requires { ⌜ Checked (now bytes) l × ExtentsFrom (now bytes) l 0 (now boxes) ⌝ }
+    ensures { λ r. ⌜ r ≡ divides (mapTree (patchNumbered (decode (now (bytes .entry)))) (treeBelow (now (bytes .entry)) 0)) ⌝ }
+{
+    let n = l.nodes;
+    let mut k = 0;
+    while k < n {
+        if !node_divides(bytes, l, node(bytes, l, k), boxes) {
+            return false;
+        }
+        k += 1;
     }
-    if !divides_below(bytes, l, n.positive, boxes) {
-        return false;
-    }
-    divides_below(bytes, l, n.negative, boxes)
+    true
 }
 
 // question 9
@@ -111,7 +103,7 @@ pub fn planes_divide(bytes: &[u8], l: Layout) -> bool
     requires { ⌜ Checked (now bytes) l ⌝ }
     ensures { λ r. ⌜ r ≡ planesDivide (decode (now (bytes .entry))) ⌝ }
 {
-    let mut boxes = [0i64; 12288];
+    let mut boxes = [0i16; 12288];
     fill_extents(bytes, l, &mut boxes);
-    divides_below(bytes, l, 0, &boxes)
+    nodes_divide(bytes, l, &boxes)
 }

@@ -1,9 +1,9 @@
 -- The edges of a patch by the corner that they begin at,
-pub mod Orientation
-pub mod Places
+mod Orientation
+mod Places
 -- its corner run among those of the scene,
 pub mod Runs
-pub mod Rounds
+mod Rounds
 -- and its edge functions in a table.
-pub mod Writes
+mod Writes
 pub mod Meeting

@@ -1,5 +1,5 @@
 -- The patches of a scene by their corner runs: their corners are in range, and the runs lie one after the other, so that what is written into one leaves
--- those before it.
+-- the others.
 use mathlib.Core.Path.{_≡_, sym, _∙_, ap, subst}
 use mathlib.Core.Logic.{_⊎_, inl, inr, ⊎-elim}
 use mathlib.Core.List.{List, map, map-map}

@@ -16,9 +16,9 @@ use Rattle.geometry.specs.declared.EdgeFunction.{EdgeFunction}
 use Rattle.geometry.specs.Machine.{vecOf}
 use Rattle.geometry.specs.Raster.{seenBy, FunctionIs}
 use Rattle.format.proofs.Tables.{same-table}
-use Rattle.spans.specs.Row.{functionAt, functionsIn, FunctionStored}
+use Rattle.spans.specs.Row.{functionAt, FunctionStored}
 use Rattle.edges.specs.declared.Sight.{Sight}
-use Rattle.edges.specs.Edges.{orientedEdges, EdgesWritten}
+use Rattle.edges.specs.Edges.{EdgesWritten}
 use Rattle.edges.proofs.Places.{edgeNumbered, fromCorner, oriented-table, oriented-at}
 
 pub function-by : (r : Raster) {u v : Vec} {f : EdgeFunction} → FunctionIs (seenBy r u) f → u ≡ v → FunctionIs (seenBy r v) f

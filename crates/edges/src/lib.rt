@@ -7,15 +7,13 @@ use geometry::Vector;
 use geometry::edge_function;
 use spans::table::store_function;
 ghost use mathlib.Core.Path.{_≡_};
-ghost use Prim.Native.Nat.{_+_, _*_, _≤_, _<_};
-ghost use lib.ListN.{length};
-ghost use Rattle.integer.specs.Magnitude.{Within};
+ghost use Prim.Native.Nat.{_<_};
 ghost use Rattle.model.specs.Vector.{minus, times, cross};
 ghost use Rattle.model.specs.Format.{decode, patchNumbered};
 ghost use Rattle.geometry.specs.Machine.{vecOf, Bounded, VectorIs};
 ghost use Rattle.format.specs.Layout.{patchNumber};
 ghost use Rattle.checked.specs.Checked.{Checked};
-ghost use Rattle.edges.specs.Edges.{EyeSign, nextCorner, SightBounded, EdgesWritten};
+ghost use Rattle.edges.specs.Edges.{EyeSign, nextCorner, EdgesAsked, EdgeAsked, EdgesWritten};
 
 // the rays of a picture, with the eye that they go from
 pub struct Sight {
@@ -38,7 +36,7 @@ fn eye_sign(bytes: &[u8], l: Layout, k: usize, eye: Vector) -> i64
 
 // sign · ((v − eye) × (w − eye)), for the sign of the eye product: one edge vector of a patch, turned to the patch's side
 fn oriented_edge(eye: Vector, v: Vector, w: Vector, sign: i64) -> Vector
-    requires { ⌜ Bounded 10000 eye × Bounded 10000 v × Bounded 10000 w × Within 1 sign ⌝ }
+    requires { ⌜ EdgeAsked eye v w sign ⌝ }
     ensures { λ r. ⌜ VectorIs 800000000 (times sign (cross (minus (vecOf v) (vecOf eye)) (minus (vecOf w) (vecOf eye)))) r ⌝ }
 {
     let edge = geometry::edge_vector(eye, v, w);
@@ -63,8 +61,7 @@ fn next_place(count: usize, i: usize) -> usize
 
 // writes the edge functions of patch k where its corners stand in the corner table
 fn write_edges(bytes: &[u8], l: Layout, k: usize, sight: Sight, sign: i64, table: &mut [i64])
-    requires { ⌜ Checked (now bytes) l × (k < l .patches) × SightBounded sight
-        × EyeSign (vecOf (sight .eye)) (patchNumbered (decode (now bytes)) k) sign × (3 * l .corners ≤ length (now table)) ⌝ }
+    requires { ⌜ EdgesAsked (now bytes) l k sight (now table) × EyeSign (vecOf (sight .eye)) (patchNumbered (decode (now bytes)) k) sign ⌝ }
     ensures { λ r. ⌜ EdgesWritten sight (patchNumbered (decode (now (bytes .entry))) k)
         (patchNumber (now (bytes .entry)) l k .cornerRun) (now (table .entry)) (now (table .exit)) ⌝ }
 {
@@ -84,7 +81,7 @@ fn write_edges(bytes: &[u8], l: Layout, k: usize, sight: Sight, sign: i64, table
 
 // The same, with the sign of the eye product. As the corner runs of the patches follow each other, none writes over another's.
 pub fn patch_edges(bytes: &[u8], l: Layout, k: usize, sight: Sight, table: &mut [i64])
-    requires { ⌜ Checked (now bytes) l × (k < l .patches) × SightBounded sight × (3 * l .corners ≤ length (now table)) ⌝ }
+    requires { ⌜ EdgesAsked (now bytes) l k sight (now table) ⌝ }
     ensures { λ r. ⌜ EdgesWritten sight (patchNumbered (decode (now (bytes .entry))) k)
         (patchNumber (now (bytes .entry)) l k .cornerRun) (now (table .entry)) (now (table .exit)) ⌝ }
 {

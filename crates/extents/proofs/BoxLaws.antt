@@ -1,10 +1,10 @@
 -- Boxes, and what lies in them.
-use mathlib.Core.Path.{_≡_, subst, _∙_}
+use mathlib.Core.Path.{_≡_, ap, subst, _∙_}
 use mathlib.Core.Logic.{_⊎_, inl, inr}
 use Prim.Native.Nat.{_≤_, _<_}
 use lib.Dec.{lit<}
 use lib.IntN.{ℤ}
-use mir.Syntax.{w64}
+use mir.Syntax.{w16, w64}
 use mir.Val.{toZ, ofZ}
 use lib.Signed.{_≤ℤ_, ≤ℤ-refl}
 use Rattle.integer.specs.Magnitude.{Within}
@@ -13,7 +13,7 @@ use Rattle.integer.proofs.Order.{≤ℤ-trans}
 use Rattle.model.specs.Vector.{Vec}
 use Rattle.geometry.specs.Machine.{vecOf, Bounded}
 use Rattle.geometry.specs.declared.Vector.{Vector}
-use Rattle.extents.specs.Boxes.{AtMost, InBox, Covers, BoxBounded, Extreme, ExtremeCorner, upward, downward, Joined, Met}
+use Rattle.extents.specs.Boxes.{AtMost, InBox, Covers, BoxBounded, Extreme, ExtremeCorner, upward, downward, Joined, Common}
 use Rattle.extents.specs.declared.boxes.Bounds.{Bounds}
 
 pub at-most-refl : (u : Vec) → AtMost u u
@@ -40,6 +40,10 @@ stored z = toZ w64 (ofZ w64 z)
 
 pub same : {z : ℤ} → Within 10000 z → stored z ≡ z
 same h = within-stored w64 h (lit< tt)
+
+-- the same of two bytes
+pub kept : {z r : ℤ} → Within 10000 z → r ≡ stored z → toZ w16 (ofZ w16 r) ≡ z
+kept h e = ap (λ (n : ℤ). toZ w16 (ofZ w16 n)) (e ∙ same h) ∙ within-stored w16 h (lit< tt)
 
 -- ---- the first of two numbers in an order of numbers
 
@@ -100,11 +104,11 @@ module _ {b c r : Bounds} where
   pub joined-bounded : Joined b c r → BoxBounded r
   joined-bounded j = record { low-bounded = extreme-bounded upward (j .low-is); high-bounded = extreme-bounded downward (j .high-is) }
 
-  pub met-first : Met b c r → Covers r b
-  met-first j = record { low-most = first-below (j .low-is); high-least = first-above (j .high-is) }
+  pub common-first : Common b c r → Covers r b
+  common-first j = record { low-most = first-below (j .low-is); high-least = first-above (j .high-is) }
 
-  pub met-second : Met b c r → Covers r c
-  met-second j = record { low-most = second-below (j .low-is); high-least = second-above (j .high-is) }
+  pub common-second : Common b c r → Covers r c
+  common-second j = record { low-most = second-below (j .low-is); high-least = second-above (j .high-is) }
 
-  pub met-bounded : Met b c r → BoxBounded r
-  met-bounded j = record { low-bounded = extreme-bounded downward (j .low-is); high-bounded = extreme-bounded upward (j .high-is) }
+  pub common-bounded : Common b c r → BoxBounded r
+  common-bounded j = record { low-bounded = extreme-bounded downward (j .low-is); high-bounded = extreme-bounded upward (j .high-is) }

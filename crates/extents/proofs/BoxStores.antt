@@ -6,11 +6,8 @@ use native.Mathlib.Omega.{arith}
 use lib.IntN.{ℤ, pos}
 use lib.ListN.{length, getD, set, length-set}
 use lib.Seq.{getD-set-same, getD-set-other}
-use Rattle.integer.specs.Magnitude.{Within}
-use Rattle.geometry.specs.Machine.{Bounded}
 use Rattle.geometry.specs.declared.Vector.{Vector}
 use Rattle.extents.specs.Boxes.{pointAt, Stored}
-use Rattle.extents.proofs.BoxLaws.{stored, same}
 
 module _ (l : List ℤ) where
   earlier : {i : ℕ} (j : ℕ) (v : ℤ) → i < j → getD (set l j v) i (pos 0) ≡ getD l i (pos 0)
@@ -19,28 +16,29 @@ module _ (l : List ℤ) where
   later : {i : ℕ} (j : ℕ) (v : ℤ) → j < i → getD (set l j v) i (pos 0) ≡ getD l i (pos 0)
   later {i} j v h = getD-set-other l j i v (pos 0) (λ e. absurd (omega arith))
 
-  here : (i : ℕ) {z : ℤ} → i < length l → Within 10000 z → getD (set l i (stored z)) i (pos 0) ≡ z
-  here i h w = getD-set-same l i _ (pos 0) h ∙ same w
+  here : (i : ℕ) {a z : ℤ} → i < length l → a ≡ z → getD (set l i a) i (pos 0) ≡ z
+  here i h e = getD-set-same l i _ (pos 0) h ∙ e
 
-module _ (l : List ℤ) (k : ℕ) (v : Vector) where
+-- the numbers a, b and c are the parts of v
+module _ (l : List ℤ) (k : ℕ) (a b c : ℤ) where
   abbrev put1 : List ℤ
-  put1 = set l (3 * k) (stored (v .x))
+  put1 = set l (3 * k) a
 
   abbrev put2 : List ℤ
-  put2 = set put1 (3 * k + 1) (stored (v .y))
+  put2 = set put1 (3 * k + 1) b
 
   abbrev put3 : List ℤ
-  put3 = set put2 (3 * k + 2) (stored (v .z))
+  put3 = set put2 (3 * k + 2) c
 
-  pub put-long : length put3 ≡ length l
+  put-long : length put3 ≡ length l
   put-long = simp length-set
 
   after-point : (i : ℕ) → 3 * k + 2 < i → getD put3 i (pos 0) ≡ getD l i (pos 0)
   after-point i h = later put2 _ _ h ∙ later put1 _ _ (omega arith) ∙ later l _ _ (omega arith)
 
   -- each number stands where it was put, as none is put there after it
-  pub point-stored : 3 * k + 3 ≤ length l → Bounded 10000 v → Stored pointAt l put3 k v
-  point-stored room h =
+  pub point-stored : 3 * k + 3 ≤ length l → {v : Vector} → a ≡ v .x → b ≡ v .y → c ≡ v .z → Stored pointAt l put3 k v
+  point-stored room {v} ea eb ec =
       record {
         long = put-long;
         stands = λ t. record { x = x-stands t; y = y-stands t; z = z-stands t };
@@ -53,13 +51,13 @@ module _ (l : List ℤ) (k : ℕ) (v : Vector) where
       }
     where
       x-stands : getD put3 (3 * k) (pos 0) ≡ v .x
-      x-stands = earlier put2 _ _ (omega arith) ∙ earlier put1 _ _ (omega arith) ∙ here l _ (omega arith) (h .x-within)
+      x-stands = earlier put2 _ _ (omega arith) ∙ earlier put1 _ _ (omega arith) ∙ here l _ (omega arith) ea
 
       y-stands : getD put3 (3 * k + 1) (pos 0) ≡ v .y
-      y-stands = earlier put2 _ _ (omega arith) ∙ here put1 _ (simp length-set (omega arith)) (h .y-within)
+      y-stands = earlier put2 _ _ (omega arith) ∙ here put1 _ (simp length-set (omega arith)) eb
 
       z-stands : getD put3 (3 * k + 2) (pos 0) ≡ v .z
-      z-stands = here put2 _ (simp length-set (omega arith)) (h .z-within)
+      z-stands = here put2 _ (simp length-set (omega arith)) ec
 
 -- two of them one after the other, of which the second is stored first
 pub pair-stored :

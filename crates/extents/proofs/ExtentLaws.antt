@@ -2,7 +2,8 @@
 use mathlib.Core.Path.{_≡_, sym, subst}
 use mathlib.Core.Logic.{_⊎_, inl, inr}
 use mathlib.Core.List.{List, List·Memᴰ, Memᴰ·map}
-use Prim.Native.Nat.{ℕ, _+_, _≤_, _<_}
+use Prim.Native.Nat.{ℕ, zero, suc, _+_, _-_, _≤_, _<_}
+use native.Mathlib.Nat.{add-zero}
 use native.Mathlib.Omega.{arith}
 use borrow.Author.Count.{below-none, below-more}
 use lib.IntN.{ℤ}
@@ -19,12 +20,12 @@ use Rattle.format.specs.Layout.{cornerNumber}
 use Rattle.format.specs.declared.layout.Layout.{Layout}
 use Rattle.format.specs.declared.records.Run.{Run}
 use Rattle.checked.specs.Checked.{CornersAre}
-use Rattle.extents.specs.Boxes.{InBox, Covers, BoxBounded, Extreme, upward, downward, Joined, Met}
+use Rattle.extents.specs.Boxes.{InBox, Covers, BoxBounded, Extreme, upward, downward, Joined, Common}
 use Rattle.extents.specs.Extents.{Widened, takesCorner, Along, Encloses, Wider, ExtentBounded, takesPatch, PatchTaken}
 use Rattle.extents.specs.declared.boxes.Bounds.{Bounds}
 use Rattle.extents.specs.declared.boxes.Extent.{Extent}
 use Rattle.model.proofs.Ranges.{in-range}
-use Rattle.extents.proofs.BoxLaws.{at-most-refl, covers-refl, covers-trans, in-wider, joined-first, joined-second, joined-bounded, met-first, met-second, met-bounded}
+use Rattle.extents.proofs.BoxLaws.{at-most-refl, covers-refl, covers-trans, in-wider, joined-first, joined-second, joined-bounded, common-first, common-second, common-bounded}
 
 pub wider-refl : (e : Extent) → Wider e e
 wider-refl e = record { outer-covers = covers-refl (e .outer); inner-covers = covers-refl (e .inner) }
@@ -47,15 +48,15 @@ encloses-wider h e =
       z-along = along-less (i .low-most .z-most) (i .high-least .z-most) (e .z-along);
     }
 
-module _ {e f : Extent} {o i : Bounds} (j : Joined (e .outer) (f .outer) o) (m : Met (e .inner) (f .inner) i) where
+module _ {e f : Extent} {o i : Bounds} (j : Joined (e .outer) (f .outer) o) (m : Common (e .inner) (f .inner) i) where
   pub extent-first : Wider e (record { outer = o; inner = i })
-  extent-first = record { outer-covers = joined-first j; inner-covers = met-first m }
+  extent-first = record { outer-covers = joined-first j; inner-covers = common-first m }
 
   pub extent-second : Wider f (record { outer = o; inner = i })
-  extent-second = record { outer-covers = joined-second j; inner-covers = met-second m }
+  extent-second = record { outer-covers = joined-second j; inner-covers = common-second m }
 
   pub extent-bounded : ExtentBounded (record { outer = o; inner = i })
-  extent-bounded = record { outer-bounded = joined-bounded j; inner-bounded = met-bounded m }
+  extent-bounded = record { outer-bounded = joined-bounded j; inner-bounded = common-bounded m }
 
 -- ---- one thing after another taken in
 
@@ -126,21 +127,23 @@ two-along axis {p} {u} {v} {low} {high} {low′} {high′} m n l g h k = record 
     sinks (inr e) = (v, n, ≤ℤ-trans (≡→≤ (sym e)) h)
 
 pub patch-extent :
-    (bytes : List ℕ) (l : Layout) {e : Extent} {k : ℕ} {run : Run} {a c : Vector} {both outer inner : Bounds} →
-    CornersAre bytes l k run → VectorIs 10000 (cornerNumber bytes l (run .first)) a → VectorIs 10000 (cornerNumber bytes l (run .first + 2)) c →
+    (bytes : List ℕ) (l : Layout) {e : Extent} {k : ℕ} {run : Run} {a b c : Vector} {both wide three outer inner : Bounds} →
+    CornersAre bytes l k run → VectorIs 10000 (cornerNumber bytes l (run .first)) a → VectorIs 10000 (cornerNumber bytes l (run .first + 1)) b →
+    VectorIs 10000 (cornerNumber bytes l (run .first + 2)) c →
     Joined (record { low = a; high = a }) (record { low = c; high = c }) both →
-    Widened Covers BoxBounded (takesCorner bytes l (run .first)) (e .outer) outer (run .count) → Met (e .inner) both inner →
+    Joined (e .outer) both wide → Joined wide (record { low = b; high = b }) three →
+    Widened Covers BoxBounded (takesCorner bytes l (run .first + 3)) three outer (run .count - 3) → Common (e .inner) both inner →
     PatchTaken e (record { outer = outer; inner = inner }) (patchNumbered (decode bytes) k)
-patch-extent bytes l {e} {k} {run} {a} {c} {both} {outer} {inner} are ea ec j w m =
+patch-extent bytes l {e} {k} {run} {a} {b} {c} {both} {wide} {three} {outer} {inner} are ea eb ec j o t w m =
     record {
-      wider = record { outer-covers = w .covers; inner-covers = met-first m };
-      bounded = record { outer-bounded = w .bounded; inner-bounded = met-bounded m };
+      wider = record { outer-covers = covers-trans (joined-first o) wide-in; inner-covers = common-first m };
+      bounded = record { outer-bounded = w .bounded; inner-bounded = common-bounded m };
       encloses =
           record {
             corners-in =
                 rw (are .corners-are)
                 (of-map (InBox outer) (cornerNumber bytes l) (range (run .first) (run .count))
-                (of-range (λ (k : ℕ). InBox outer (cornerNumber bytes l k)) (run .first) (run .count) (w .each)));
+                (of-range (λ (k : ℕ). InBox outer (cornerNumber bytes l k)) (run .first) (run .count) each));
             x-along = two-along (λ (v : Vec). v .x) first third (j .low-is .x-extreme) (j .high-is .x-extreme) (s .low-most .x-most) (s .high-least .x-most);
             y-along = two-along (λ (v : Vec). v .y) first third (j .low-is .y-extreme) (j .high-is .y-extreme) (s .low-most .y-most) (s .high-least .y-most);
             z-along = two-along (λ (v : Vec). v .z) first third (j .low-is .z-extreme) (j .high-is .z-extreme) (s .low-most .z-most) (s .high-least .z-most);
@@ -151,7 +154,28 @@ patch-extent bytes l {e} {k} {run} {a} {c} {both} {outer} {inner} are ea ec j w 
     p = patchNumbered (decode bytes) k
 
     s : Covers inner both
-    s = met-second m
+    s = common-second m
+
+    wide-in : Covers wide outer
+    wide-in = covers-trans (joined-first t) (w .covers)
+
+    both-in : Covers both outer
+    both-in = covers-trans (joined-second o) wide-in
+
+    -- a corner that was joined by itself
+    own : {v : Vector} (i : ℕ) → Covers (record { low = v; high = v }) outer → VectorIs 10000 (cornerNumber bytes l i) v → InBox outer (cornerNumber bytes l i)
+    own {v} i h is =
+        subst (InBox outer) (is .value) (in-wider h (record { low-most = at-most-refl (vecOf v); high-least = at-most-refl (vecOf v) }))
+
+    moved : {i i′ : ℕ} → i ≡ i′ → InBox outer (cornerNumber bytes l i) → InBox outer (cornerNumber bytes l i′)
+    moved e h = subst (λ (i : ℕ). InBox outer (cornerNumber bytes l i)) e h
+
+    each : (i : ℕ) → i < run .count → InBox outer (cornerNumber bytes l (run .first + i))
+    each zero h = moved (sym (add-zero (run .first))) (own (run .first) (covers-trans (joined-first j) both-in) ea)
+    each (suc zero) h = own (run .first + 1) (covers-trans (joined-second t) (w .covers)) eb
+    each (suc (suc zero)) h = own (run .first + 2) (covers-trans (joined-second j) both-in) ec
+    each (suc (suc (suc i))) h =
+        let e : run .first + 3 + i ≡ run .first + suc (suc (suc i)) = omega arith in moved e (w .each i (omega arith))
 
     corner-of : {i : ℕ} {v : Vec} → run .first ≤ i → i < run .first + run .count → v ≡ cornerNumber bytes l i → List·Memᴰ v (p .corners)
     corner-of {i} low high e =

@@ -16,7 +16,7 @@ use Rattle.model.proofs.Ranges.{of-range}
 use Rattle.format.specs.declared.layout.Layout.{Layout}
 use Rattle.format.specs.declared.records.Node.{Node}
 use Rattle.checked.specs.Checked.{Checked, treeBelow, NodeIs}
-use Rattle.extents.specs.Boxes.{Joined, Met}
+use Rattle.extents.specs.Boxes.{Joined, Common}
 use Rattle.extents.specs.Boxes.{Stored}
 use Rattle.extents.specs.Extents.{Widened, Encloses, Wider, ExtentBounded, takesPatch, extentAt, ExtentOf, ExtentsFrom, ChildExtent, ChildJoined}
 use Rattle.extents.specs.declared.boxes.Bounds.{Bounds}
@@ -77,7 +77,7 @@ module _ {nodes k : ℕ} {boxes : List ℤ} {e : Extent} where
   no-child h i = record { wider = wider-refl e; wider-child = λ j. absurd (omega arith); bounded = i }
 
   pub child-joined :
-      {f : Extent} {o i : Bounds} → f ≡ extentAt boxes k → Joined (e .outer) (f .outer) o → Met (e .inner) (f .inner) i →
+      {f : Extent} {o i : Bounds} → f ≡ extentAt boxes k → Joined (e .outer) (f .outer) o → Common (e .inner) (f .inner) i →
       ChildJoined nodes k boxes e (record { outer = o; inner = i })
   child-joined {f} {o} {i} eq j m =
       record {

@@ -60,7 +60,7 @@ pub record Joined (b c r : Bounds) : Type 0 where
   pub high-is : ExtremeCorner downward (b .high) (c .high) (r .high)
 
 -- the box that both hold; its low end may lie above its high end
-pub record Met (b c r : Bounds) : Type 0 where
+pub record Common (b c r : Bounds) : Type 0 where
   pub low-is : ExtremeCorner downward (b .low) (c .low) (r .low)
   pub high-is : ExtremeCorner upward (b .high) (c .high) (r .high)
 

@@ -1,11 +1,12 @@
 // Boxes along the axes, the extents that two of them make, and the table of the extents of all nodes.
 use geometry::Vector;
 ghost use mathlib.Core.Path.{_≡_};
-ghost use Prim.Native.Nat.{_+_, _*_, _≤_};
-ghost use lib.ListN.{length};
+ghost use Prim.Native.Nat.{_+_, _*_, _≤_, _<_};
+ghost use lib.ListN.{length, getD};
+ghost use lib.IntN.{pos};
 ghost use Rattle.integer.specs.Magnitude.{Within};
 ghost use Rattle.geometry.specs.Machine.{Bounded};
-ghost use Rattle.extents.specs.Boxes.{Extreme, ExtremeCorner, upward, downward, BoxBounded, Joined, Met, pointAt, boxAt, Stored};
+ghost use Rattle.extents.specs.Boxes.{Extreme, ExtremeCorner, upward, downward, BoxBounded, Joined, Common, pointAt, boxAt, Stored};
 ghost use Rattle.extents.specs.Extents.{ExtentBounded, extentAt};
 
 pub struct Bounds {
@@ -76,9 +77,9 @@ pub fn joined_box(b: Bounds, c: Bounds) -> Bounds
 }
 
 // the box that both hold
-pub fn met_box(b: Bounds, c: Bounds) -> Bounds
+pub fn common_box(b: Bounds, c: Bounds) -> Bounds
     requires { ⌜ BoxBounded b × BoxBounded c ⌝ }
-    ensures { λ r. ⌜ Met b c r ⌝ }
+    ensures { λ r. ⌜ Common b c r ⌝ }
 {
     Bounds {
         low: greatest_corner(b.low, c.low),
@@ -86,33 +87,53 @@ pub fn met_box(b: Bounds, c: Bounds) -> Bounds
     }
 }
 
-fn point_at(boxes: &[i64], k: usize) -> Vector
+// a number in the list has two bytes, so that the list stays in the processor's nearest store
+fn narrow(z: i64) -> i16
+    requires { ⌜ Within 10000 z ⌝ }
+    ensures { λ r. ⌜ r ≡ z ⌝ }
+{
+    z as i16
+}
+
+fn wide(z: i16) -> i64
+    ensures { λ r. ⌜ r ≡ z ⌝ }
+{
+    z as i64
+}
+
+fn number_at(boxes: &[i16], at: usize) -> i64
+    requires { ⌜ (at < length (now boxes)) × Within 10000 (getD (now boxes) at (pos 0)) ⌝ }
+    ensures { λ r. ⌜ r ≡ getD (now (boxes .entry)) at (pos 0) ⌝ }
+{
+    wide(boxes[at])
+}
+
+fn point_at(boxes: &[i16], k: usize) -> Vector
     requires { ⌜ (3 * k + 3 ≤ length (now boxes)) × Bounded 10000 (pointAt (now boxes) k) ⌝ }
     ensures { λ r. ⌜ r ≡ pointAt (now (boxes .entry)) k ⌝ }
 {
     let at = POINT_SIZE * k;
     Vector {
-        x: boxes[at],
-        y: boxes[at + 1],
-        z: boxes[at + 2],
+        x: number_at(boxes, at),
+        y: number_at(boxes, at + 1),
+        z: number_at(boxes, at + 2),
     }
 }
 
-fn store_point(boxes: &mut [i64], k: usize, v: Vector)
+fn store_point(boxes: &mut [i16], k: usize, v: Vector)
     requires { ⌜ (3 * k + 3 ≤ length (now boxes)) × Bounded 10000 v ⌝ }
     ensures { λ r. ⌜ Stored pointAt (now (boxes .entry)) (now (boxes .exit)) k v ⌝ }
 {
     let at = POINT_SIZE * k;
-    // a slice takes a signed number from a whole local alone
-    let x = v.x;
-    let y = v.y;
-    let z = v.z;
+    let x = narrow(v.x);
+    let y = narrow(v.y);
+    let z = narrow(v.z);
     boxes[at] = x;
     boxes[at + 1] = y;
     boxes[at + 2] = z;
 }
 
-fn box_at(boxes: &[i64], k: usize) -> Bounds
+fn box_at(boxes: &[i16], k: usize) -> Bounds
     requires { ⌜ (6 * k + 6 ≤ length (now boxes)) × BoxBounded (boxAt (now boxes) k) ⌝ }
     ensures { λ r. ⌜ r ≡ boxAt (now (boxes .entry)) k ⌝ }
 {
@@ -122,7 +143,7 @@ fn box_at(boxes: &[i64], k: usize) -> Bounds
     }
 }
 
-fn store_box(boxes: &mut [i64], k: usize, b: Bounds)
+fn store_box(boxes: &mut [i16], k: usize, b: Bounds)
     requires { ⌜ (6 * k + 6 ≤ length (now boxes)) × BoxBounded b ⌝ }
     ensures { λ r. ⌜ Stored boxAt (now (boxes .entry)) (now (boxes .exit)) k b ⌝ }
 {
@@ -131,7 +152,7 @@ fn store_box(boxes: &mut [i64], k: usize, b: Bounds)
 }
 
 // the extent of node k
-pub fn extent_at(boxes: &[i64], k: usize) -> Extent
+pub fn extent_at(boxes: &[i16], k: usize) -> Extent
     requires { ⌜ (12 * k + 12 ≤ length (now boxes)) × ExtentBounded (extentAt (now boxes) k) ⌝ }
     ensures { λ r. ⌜ r ≡ extentAt (now (boxes .entry)) k ⌝ }
 {
@@ -141,7 +162,7 @@ pub fn extent_at(boxes: &[i64], k: usize) -> Extent
     }
 }
 
-pub fn store_extent(boxes: &mut [i64], k: usize, e: Extent)
+pub fn store_extent(boxes: &mut [i16], k: usize, e: Extent)
     requires { ⌜ (12 * k + 12 ≤ length (now boxes)) × ExtentBounded e ⌝ }
     ensures { λ r. ⌜ Stored extentAt (now (boxes .entry)) (now (boxes .exit)) k e ⌝ }
 {

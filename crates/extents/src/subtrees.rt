@@ -1,9 +1,9 @@
 // The extents of the nodes: boxes that bound all corners at and below them.
 use crate::boxes::Bounds;
 use crate::boxes::Extent;
+use crate::boxes::common_box;
 use crate::boxes::extent_at;
 use crate::boxes::joined_box;
-use crate::boxes::met_box;
 use crate::boxes::store_extent;
 use checked::corner;
 use checked::corner_run;
@@ -32,18 +32,20 @@ fn corners_box(bytes: &[u8], l: Layout, first: usize, count: usize, b: Bounds) -
     wide
 }
 
-// the extent widened to a patch, whose corners are a run; how far it reaches is seen by two of them
+// the extent widened to a patch, whose corners are a run of 3 or more; how far it reaches is seen by two of them
 fn patch_extent(bytes: &[u8], l: Layout, k: usize, e: Extent) -> Extent
     requires { ⌜ PatchAsked (now bytes) l k × ExtentBounded e ⌝ }
     ensures { λ r. ⌜ PatchTaken e r (patchNumbered (decode (now (bytes .entry))) k) ⌝ }
 {
     let run = corner_run(bytes, l, k);
     let a = corner(bytes, l, run.first);
+    let b = corner(bytes, l, run.first + 1);
     let c = corner(bytes, l, run.first + 2);
     let both = joined_box(Bounds { low: a, high: a }, Bounds { low: c, high: c });
+    let wide = joined_box(joined_box(e.outer, both), Bounds { low: b, high: b });
     Extent {
-        outer: corners_box(bytes, l, run.first, run.count, e.outer),
-        inner: met_box(e.inner, both),
+        outer: corners_box(bytes, l, run.first + 3, run.count - 3, wide),
+        inner: common_box(e.inner, both),
     }
 }
 
@@ -62,7 +64,7 @@ fn patches_extent(bytes: &[u8], l: Layout, first: usize, count: usize, e: Extent
 }
 
 // the extent widened to that of a child, if there is one
-fn with_child(e: Extent, boxes: &[i64], nodes: usize, k: usize) -> Extent
+fn with_child(e: Extent, boxes: &[i16], nodes: usize, k: usize) -> Extent
     requires { ⌜ ExtentBounded e × ChildExtent nodes k (now boxes) ⌝ }
     ensures { λ r. ⌜ ChildJoined nodes k (now (boxes .entry)) e r ⌝ }
 {
@@ -72,7 +74,7 @@ fn with_child(e: Extent, boxes: &[i64], nodes: usize, k: usize) -> Extent
     let child = extent_at(boxes, k);
     Extent {
         outer: joined_box(e.outer, child.outer),
-        inner: met_box(e.inner, child.inner),
+        inner: common_box(e.inner, child.inner),
     }
 }
 
@@ -103,7 +105,7 @@ fn no_extent() -> Extent
 }
 
 // the extent of node k, from its own patches and the extents of its children
-fn node_extent(bytes: &[u8], l: Layout, k: usize, boxes: &[i64]) -> Extent
+fn node_extent(bytes: &[u8], l: Layout, k: usize, boxes: &[i16]) -> Extent
     requires { ⌜ NodeAsked (now bytes) l k (now boxes) ⌝ }
     ensures { λ r. ⌜ ExtentOf (now (bytes .entry)) k r ⌝ }
 {
@@ -114,7 +116,7 @@ fn node_extent(bytes: &[u8], l: Layout, k: usize, boxes: &[i64]) -> Extent
 }
 
 // the extents of all nodes, from the last one down: children have higher numbers than their parents
-pub fn fill_extents(bytes: &[u8], l: Layout, boxes: &mut [i64])
+pub fn fill_extents(bytes: &[u8], l: Layout, boxes: &mut [i16])
     requires { ⌜ Checked (now bytes) l × (12 * l .nodes ≤ length (now boxes)) ⌝ }
     ensures { λ r. ⌜ ExtentsFrom (now (bytes .entry)) l 0 (now (boxes .exit)) ⌝ }
 {

@@ -17,8 +17,8 @@ use Rattle.geometry.specs.Raster.{FunctionIs}
 pub given : {C : Type 0} {H P : C → Type 0} → ((c : C) → H c) → ((c : C) → H c → P c) → (c : C) → P c
 given fact need c = need c (fact c)
 
-pub both : {A B : Type 0} → A → B → A × B
-both a b = (a, b)
+pub pair : {A B : Type 0} → A → B → A × B
+pair a b = (a, b)
 
 -- what the machine computed from bounded numbers: `number (search (machine, result) depth 40 fits 20000, tt, tt, refl)`
 pub number :

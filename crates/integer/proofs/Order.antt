@@ -1,12 +1,12 @@
 -- The order of ℤ. The tests `ltZ` and `leZ` are those of the difference against 0, so every law is one of differences: to show a < b, name a
 -- w with 0 < w and show b − a ≡ w by `ring`.
 use mathlib.Core.Path.{_≡_, refl, sym, _∙_, ap, ap₂, subst}
-use mathlib.Core.Logic.{_⊎_, inl, inr, _≢_}
-use mathlib.Core.Bool.{Bool, true, false, not, true≢false}
+use mathlib.Core.Logic.{_⊎_, inl, inr}
+use mathlib.Core.Bool.{Bool, true, false, not}
 use mathlib.Core.List.{[], _∷_}
 use Prim.Native.Nat.{ℕ, zero, suc, _+_, zero-le}
 use native.Mathlib.Omega.{arith}
-use lib.Dec.{T, leb, ltb, leb·zero, leb·suc-zero, leb·suc-suc, le→leb, lt→ltb, ltb→lt, eqb, eqb→eq, eqb-refl}
+use lib.Dec.{T, leb, ltb, leb·zero, leb·suc-zero, leb·suc-suc, le→leb, lt→ltb, ltb→lt}
 use lib.IntN.{ℤ, pos, negsuc, sucℤ, predℤ, negℤ, _+ℤ_, _-ℤ_, suc-pred, +ℤ-idr, +ℤ-invr, +ℤ-sucℤ, +ℤ-predℤ, -ℤ-one}
 use lib.Signed.{ltZ, leZ, _≤ℤ_, _<ℤ_, leZ-yes, ltZ-yes, ≤ℤ-refl, clashℤ}
 use Rattle.integer.proofs.Ring.{induct}
@@ -105,9 +105,6 @@ pub ≤ℤ-trans : {a b c : ℤ} → a ≤ℤ b → b ≤ℤ c → a ≤ℤ c
 pub ≤ℤ-<ℤ-trans : {a b c : ℤ} → a ≤ℤ b → b <ℤ c → a <ℤ c
 ≤ℤ-<ℤ-trans {a} {b} {c} h k = <-by (+-nonneg-pos (≤-diff h) (<-diff k)) (ring (a ∷ b ∷ c ∷ []) (search reify depth 40 fits 200000, tt))
 
-pub <ℤ-trans : {a b c : ℤ} → a <ℤ b → b <ℤ c → a <ℤ c
-<ℤ-trans h k = ≤ℤ-<ℤ-trans (<→≤ h) k
-
 -- negation turns an order round
 pub neg-< : {a b : ℤ} → a <ℤ b → negℤ b <ℤ negℤ a
 neg-< {a} {b} h = <-by (<-diff h) (ring (a ∷ b ∷ []) (search reify depth 40 fits 200000, tt))
@@ -168,15 +165,6 @@ pub ≤-suc : {a b : ℤ} → (a +ℤ pos 1) ≤ℤ b → a <ℤ b
 pub +-mono-≤ : {a b c d : ℤ} → a ≤ℤ b → c ≤ℤ d → (a +ℤ c) ≤ℤ (b +ℤ d)
 +-mono-≤ {a} {b} {c} {d} h k = ≤-by (+-nonneg (≤-diff h) (≤-diff k)) (ring (a ∷ b ∷ c ∷ d ∷ []) (search reify depth 40 fits 200000, tt))
 
-pub +-mono-< : {a b c d : ℤ} → a <ℤ b → c ≤ℤ d → (a +ℤ c) <ℤ (b +ℤ d)
-+-mono-< {a} {b} {c} {d} h k = <-by (+-pos-nonneg (<-diff h) (≤-diff k)) (ring (a ∷ b ∷ c ∷ d ∷ []) (search reify depth 40 fits 200000, tt))
-
-pub +-cancel-< : {a b : ℤ} (c : ℤ) → (a +ℤ c) <ℤ (b +ℤ c) → a <ℤ b
-+-cancel-< {a} {b} c h = <-by (<-diff h) (ring (a ∷ b ∷ c ∷ []) (search reify depth 40 fits 200000, tt))
-
-pub +-cancel-≤ : {a b : ℤ} (c : ℤ) → (a +ℤ c) ≤ℤ (b +ℤ c) → a ≤ℤ b
-+-cancel-≤ {a} {b} c h = ≤-by (≤-diff h) (ring (a ∷ b ∷ c ∷ []) (search reify depth 40 fits 200000, tt))
-
 -- ---- what a test says, and what passes a test
 T-true : {t : Bool} → t ≡ true → T t
 T-true e = subst T (sym e) tt
@@ -184,22 +172,6 @@ T-true e = subst T (sym e) tt
 true-T : (t : Bool) → T t → t ≡ true
 true-T true h = refl
 true-T false h = absurd h
-
-pub ltZ-true : (a b : ℤ) → ltZ a b ≡ true → a <ℤ b
-ltZ-true a b e = ltZ-yes (T-true e)
-
-pub ltZ-false : (a b : ℤ) → ltZ a b ≡ false → b ≤ℤ a
-ltZ-false a b e = leZ-yes (T-true (leZ-not b a ∙ ap not e))
-
-pub leZ-true : (a b : ℤ) → leZ a b ≡ true → a ≤ℤ b
-leZ-true a b e = leZ-yes (T-true e)
-
-pub leZ-false : (a b : ℤ) → leZ a b ≡ false → b <ℤ a
-leZ-false a b e = ltZ-yes (T-true (flip (ltZ b a) (sym (leZ-not a b) ∙ e)))
-  where
-    flip : (t : Bool) → not t ≡ false → t ≡ true
-    flip true e = refl
-    flip false e = sym e
 
 pub lt-ltZ : {a b : ℤ} → a <ℤ b → ltZ a b ≡ true
 lt-ltZ {a} {b} h = true-T (ltZ a b) (h .lt)
@@ -215,34 +187,4 @@ le-ltZ {a} {b} h = go (ltZ a b) (sym (leZ-not b a) ∙ le-leZ h)
   where
     go : (t : Bool) → not t ≡ true → t ≡ false
     go true e = sym e
-    go false e = refl
-
--- ---- equality
-abbrev pub eqZ : ℤ → ℤ → Bool
-eqZ (pos a) (pos b) = eqb a b
-eqZ (pos a) (negsuc b) = false
-eqZ (negsuc a) (pos b) = false
-eqZ (negsuc a) (negsuc b) = eqb a b
-
-pub eqZ-true : (a b : ℤ) → eqZ a b ≡ true → a ≡ b
-eqZ-true (pos a) (pos b) e = ap pos (eqb→eq a b (T-true e))
-eqZ-true (pos a) (negsuc b) e = absurd (T-true e)
-eqZ-true (negsuc a) (pos b) e = absurd (T-true e)
-eqZ-true (negsuc a) (negsuc b) e = ap negsuc (eqb→eq a b (T-true e))
-
-pub eq-eqZ : {a b : ℤ} → a ≡ b → eqZ a b ≡ true
-eq-eqZ {a} e = subst (λ z. eqZ a z ≡ true) e (go a)
-  where
-    go : (a : ℤ) → eqZ a a ≡ true
-    go (pos n) = true-T (eqb n n) (eqb-refl n)
-    go (negsuc n) = true-T (eqb n n) (eqb-refl n)
-
-pub eqZ-false : (a b : ℤ) → eqZ a b ≡ false → a ≢ b
-eqZ-false a b e f = true≢false (sym (eq-eqZ f) ∙ e)
-
-pub ne-eqZ : {a b : ℤ} → a ≢ b → eqZ a b ≡ false
-ne-eqZ {a} {b} f = go (eqZ a b) refl
-  where
-    go : (t : Bool) → eqZ a b ≡ t → t ≡ false
-    go true e = absurd (f (eqZ-true a b e))
     go false e = refl

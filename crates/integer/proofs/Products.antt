@@ -93,25 +93,12 @@ zero-product a b e = go (compared (pos zero) a)
     go (same z) = inl (sym z)
     go (above h) = inr (*-zero-cancel (neg-of-neg h) (negℤ-*ℤ a b ∙ ap negℤ e))
 
--- ---- an order times a number
-pub *-mono-≤ : {a b c : ℤ} → pos zero ≤ℤ c → a ≤ℤ b → (c *ℤ a) ≤ℤ (c *ℤ b)
-*-mono-≤ {a} {b} {c} h k = ≤-by (*-nonneg h (≤-diff k)) (ring (a ∷ b ∷ c ∷ []) (search reify depth 40 fits 200000, tt))
-
-pub *-mono-< : {a b c : ℤ} → pos zero <ℤ c → a <ℤ b → (c *ℤ a) <ℤ (c *ℤ b)
-*-mono-< {a} {b} {c} h k = <-by (*-pos h (<-diff k)) (ring (a ∷ b ∷ c ∷ []) (search reify depth 40 fits 200000, tt))
-
 -- an order, by a positive multiple of the difference
 pub <-by-multiple : {a b k w : ℤ} → pos zero <ℤ k → pos zero <ℤ w → k *ℤ (b -ℤ a) ≡ w → a <ℤ b
 <-by-multiple p h e = <-by (*-pos-cancel p (subst (λ z. pos zero <ℤ z) (sym e) h)) refl
 
 pub ≤-by-multiple : {a b k w : ℤ} → pos zero <ℤ k → pos zero ≤ℤ w → k *ℤ (b -ℤ a) ≡ w → a ≤ℤ b
 ≤-by-multiple p h e = ≤-by (*-nonneg-cancel p (subst (λ z. pos zero ≤ℤ z) (sym e) h)) refl
-
-pub *-cancel-≤ : {a b c : ℤ} → pos zero <ℤ c → (c *ℤ a) ≤ℤ (c *ℤ b) → a ≤ℤ b
-*-cancel-≤ {a} {b} {c} h k = ≤-by-multiple h (≤-diff k) (ring (a ∷ b ∷ c ∷ []) (search reify depth 40 fits 200000, tt))
-
-pub *-cancel-< : {a b c : ℤ} → pos zero <ℤ c → (c *ℤ a) <ℤ (c *ℤ b) → a <ℤ b
-*-cancel-< {a} {b} {c} h k = <-by-multiple h (<-diff k) (ring (a ∷ b ∷ c ∷ []) (search reify depth 40 fits 200000, tt))
 
 pub *-cancel-≡ : {a b : ℤ} (c : ℤ) → c ≢ pos zero → c *ℤ a ≡ c *ℤ b → a ≡ b
 *-cancel-≡ {a} {b} c f e = go (zero-product c (a -ℤ b) (combine₁ (pos 1) e (ring (a ∷ b ∷ c ∷ []) (search reify depth 40 fits 200000, tt))))

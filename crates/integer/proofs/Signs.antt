@@ -5,13 +5,13 @@ use mathlib.Core.List.{[], _∷_}
 use Prim.Native.Nat.{ℕ, zero, suc, _*_, _<_}
 use native.Mathlib.Nat.{mul-pos, zero-lt-suc}
 use native.Mathlib.Omega.{arith}
-use lib.Dec.{T, le→leb, lt→ltb, ltb→lt}
+use lib.Dec.{T, lt→ltb, ltb→lt}
 use lib.IntN.{ℤ, pos, negsuc, negℤ, natAbs, _+ℤ_, _*ℤ_, zero-*ℤ, *ℤ-zero, *ℤ-comm, pos-ne-negsuc}
-use lib.Signed.{ltZ, _≤ℤ_, _<ℤ_, leZ-yes, ltZ-yes, clashℤ}
+use lib.Signed.{ltZ, _≤ℤ_, _<ℤ_, ltZ-yes, clashℤ}
 use Rattle.integer.specs.Magnitude.{signOf}
 use Rattle.integer.proofs.Ring.{one-*ℤ}
 use Rattle.integer.proofs.Identity.{ring, reify}
-use Rattle.integer.proofs.Order.{<-by, ≤-by, <→≤, ≡→≤, +-nonneg, +-pos-nonneg, Compared, below, same, above, compared}
+use Rattle.integer.proofs.Order.{<-by, ≤-by, <→≤, +-pos-nonneg, Compared, below, same, above, compared}
 use Rattle.integer.proofs.Products.{*-pos, *-nonneg, *-pos-cancel, *-nonneg-cancel, zero-product, sq-pos, pos→≢}
 
 pub sign-neg : (a : ℤ) → signOf (negℤ a) ≡ negℤ (signOf a)
@@ -47,9 +47,6 @@ unfolding signOf
 sign-natAbs (pos zero) = refl
 sign-natAbs (pos (suc n)) = one-*ℤ (pos (suc n))
 sign-natAbs (negsuc n) = ap negℤ (one-*ℤ (pos (suc n)))
-
-pub sign-nonneg : (a : ℤ) → pos zero ≤ℤ (signOf a *ℤ a)
-sign-nonneg a = subst (λ z. pos zero ≤ℤ z) (sym (sign-abs a)) (leZ-yes (le→leb zero (natAbs a) (omega arith)))
 
 pub sign-pos : (a : ℤ) → (signOf a ≡ pos 1) ↔ (pos zero <ℤ a)
 unfolding signOf
@@ -102,10 +99,6 @@ same-refl f = record { agree = sq-pos f }
 pub same-neg : {a b : ℤ} → SameSign a b → SameSign (negℤ a) (negℤ b)
 same-neg {a} {b} h = record { agree = <-by (h .agree) (ring (a ∷ b ∷ []) (search reify depth 40 fits 200000, tt)) }
 
-pub same-+ : {s a b : ℤ} → SameSign s a → SameSign s b → SameSign s (a +ℤ b)
-same-+ {s} {a} {b} h k =
-    record { agree = <-by (+-pos-nonneg (h .agree) (<→≤ (k .agree))) (ring (s ∷ a ∷ b ∷ []) (search reify depth 40 fits 200000, tt)) }
-
 pub same-scale : {s a k : ℤ} → pos zero <ℤ k → SameSign s a → SameSign s (k *ℤ a)
 same-scale {s} {a} {k} p h = record { agree = <-by (*-pos p (h .agree)) (ring (s ∷ a ∷ k ∷ []) (search reify depth 40 fits 200000, tt)) }
 
@@ -147,18 +140,6 @@ pub record WeakSign (s a : ℤ) : Type 0 where
 pub same→weak : {s a : ℤ} → SameSign s a → WeakSign s a
 same→weak h = record { agree = <→≤ (h .agree) }
 
-pub weak-sym : {s a : ℤ} → WeakSign s a → WeakSign a s
-weak-sym {s} {a} h = record { agree = subst (λ z. pos zero ≤ℤ z) (*ℤ-comm s a) (h .agree) }
-
-pub weak-zero : (s : ℤ) → WeakSign s (pos zero)
-weak-zero s = record { agree = ≡→≤ (sym (*ℤ-zero s)) }
-
-pub weak-neg : {s a : ℤ} → WeakSign s a → WeakSign (negℤ s) (negℤ a)
-weak-neg {s} {a} h = record { agree = ≤-by (h .agree) (ring (s ∷ a ∷ []) (search reify depth 40 fits 200000, tt)) }
-
-pub weak-+ : {s a b : ℤ} → WeakSign s a → WeakSign s b → WeakSign s (a +ℤ b)
-weak-+ {s} {a} {b} h k = record { agree = ≤-by (+-nonneg (h .agree) (k .agree)) (ring (s ∷ a ∷ b ∷ []) (search reify depth 40 fits 200000, tt)) }
-
 pub same-weak-+ : {s a b : ℤ} → SameSign s a → WeakSign s b → SameSign s (a +ℤ b)
 same-weak-+ {s} {a} {b} h k = record { agree = <-by (+-pos-nonneg (h .agree) (k .agree)) (ring (s ∷ a ∷ b ∷ []) (search reify depth 40 fits 200000, tt)) }
 
@@ -168,9 +149,6 @@ weak-scale {s} {a} {k} p h = record { agree = ≤-by (*-nonneg p (h .agree)) (ri
 -- s may be changed for t of the same sign
 pub weak-trans : {s t a : ℤ} → SameSign s t → WeakSign s a → WeakSign t a
 weak-trans {s} {t} {a} h k = record { agree = *-nonneg-cancel (sq-pos (same-≢ h)) (≤-by (*-nonneg (<→≤ (h .agree)) (k .agree)) (ring (s ∷ t ∷ a ∷ []) (search reify depth 40 fits 200000, tt))) }
-
-pub weak-nonneg : {s a : ℤ} → pos zero <ℤ s → WeakSign s a → pos zero ≤ℤ a
-weak-nonneg p h = *-nonneg-cancel p (h .agree)
 
 -- a number that is neither 0 nor opposed has the sign
 pub weak-same : {s a : ℤ} → s ≢ pos zero → a ≢ pos zero → WeakSign s a → SameSign s a

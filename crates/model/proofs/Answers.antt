@@ -1,5 +1,5 @@
 -- What an answer says of the questions' tests.
-use mathlib.Core.Path.{_≡_, refl, sym, _∙_, ap, subst}
+use mathlib.Core.Path.{_≡_, refl, sym, _∙_}
 use mathlib.Core.Logic.{_↔_, _≢_}
 use mathlib.Core.Bool.{Bool, true, false}
 use mathlib.Core.List.{List, [], _∷_, _++_, map}
@@ -7,9 +7,8 @@ use Prim.Native.Nat.{ℕ, zero, suc}
 use native.Mathlib.Omega.{arith}
 use lib.Dec.{T}
 use Rattle.model.specs.Call.{Call}
-use Rattle.model.specs.Format.{decode, Scene}
 use Rattle.model.specs.Accepted.{AcceptedScene}
-use Rattle.model.specs.Questions.{Question, answer, hasHeader, hasSections, coordinatesInRange, planesProper, childrenProper, runsProper, panelsProper, patchesProper, planesDivide, sceneQuestions, sceneAnswer, viewInRange, lengthsFit, counterBelowEnd, rowsFit, callQuestions, onScene, questions, surveyAnswer}
+use Rattle.model.specs.Questions.{Question, answer, sceneQuestions, sceneAnswer, viewInRange, lengthsFit, counterBelowEnd, rowsFit, callQuestions, onScene, questions, surveyAnswer}
 
 abbrev passOn : Bool → ℕ → ℕ → ℕ
 passOn b next number = elim b as (λ (x : Bool). ℕ) [ true ↦ next | false ↦ number ]

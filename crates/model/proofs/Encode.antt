@@ -4,7 +4,6 @@ use Prim.Native.Nat.{ℕ, _+_, _*_, _-_, _/_, _%_}
 use lib.IntN.{ℤ, pos, negsuc}
 use lib.ListN.{length}
 use Rattle.model.specs.Vector.{Vec, Plane}
-use Rattle.model.specs.Patch.{Patch}
 
 abbrev pub u16 : ℕ → List ℕ
 u16 n = n % 256 ∷ n / 256 % 256 ∷ []

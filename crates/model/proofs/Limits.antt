@@ -1,5 +1,5 @@
 -- Every limit that stands in the definitions as a number, tried by computing: the numbers at the limit pass, the next ones do not.
-use mathlib.Core.Bool.{Bool, true, false, not, _&&_}
+use mathlib.Core.Bool.{Bool, true, not, _&&_}
 use mathlib.Core.List.{List, [], _∷_, _++_}
 use Prim.Native.Nat.{ℕ, _+_, _%_}
 use lib.Dec.{T, eqb}
@@ -15,7 +15,7 @@ use Rattle.model.specs.Picture.{counts}
 use Rattle.model.specs.Call.{Call}
 use Rattle.model.specs.Questions.{hasHeader, hasSections, coordinatesInRange, properChild, panelsInRange, viewInRange, lengthsFit, counterBelowEnd, rowFits}
 use Rattle.model.specs.Removal.{isChosen}
-use Rattle.model.proofs.Encode.{HeaderLine, headerBytes}
+use Rattle.model.proofs.Encode.{headerBytes}
 use Rattle.model.proofs.Computing.{everything}
 use Rattle.model.proofs.Scenes.{square, fittingCall}
 

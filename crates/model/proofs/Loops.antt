@@ -116,15 +116,6 @@ each {n} {test} {whole} is t k h = go (test k) refl
     go true e = refl
     go false e = sym (is .one-no k h e) ∙ t
 
--- tests that pass together are equal
-pub agree : {a b : Bool} → (a ≡ true → b ≡ true) → (b ≡ true → a ≡ true) → a ≡ b
-agree {a} {b} f g = go a b refl refl
-  where
-    go : (s t : Bool) → a ≡ s → b ≡ t → a ≡ b
-    go true t d e = d ∙ sym (f d)
-    go false true d e = g e ∙ sym e
-    go false false d e = d ∙ sym e
-
 -- ---- the loop
 
 -- the first k of n entries have passed

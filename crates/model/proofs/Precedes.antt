@@ -11,7 +11,7 @@ use Rattle.model.specs.Lists.{every}
 use Rattle.model.specs.Vector.{Vec, isZero}
 use Rattle.model.specs.Patch.{Patch, Edge, edges}
 use Rattle.model.specs.Ray.{eyeProduct, edgeVector, edgeNumber, sameSign, met, Fraction, distance, below, precedes}
-use Rattle.model.proofs.Tests.{both, either, not-failing}
+use Rattle.model.proofs.Tests.{both, either}
 
 -- ---- fractions
 

@@ -2,14 +2,14 @@
 -- says no; and where two questions say no, the lower number is the answer.
 use mathlib.Core.Path.{_≡_, refl}
 use mathlib.Core.Bool.{Bool, true, false, cond}
-use mathlib.Core.List.{List, [], _∷_, _++_, map, flatten}
-use Prim.Native.Nat.{ℕ, _+_, _*_}
+use mathlib.Core.List.{List, [], _∷_, _++_, map}
+use Prim.Native.Nat.{ℕ, _+_}
 use lib.IntN.{ℤ, pos, negsuc, negℤ}
-use lib.ListN.{getD, take, length, replicate}
+use lib.ListN.{getD, take}
 use Rattle.model.specs.Vector.{Vec, Plane, vec, origin}
 use Rattle.model.specs.Call.{Call}
-use Rattle.model.specs.Questions.{Question, answer, children, questions}
-use Rattle.model.proofs.Encode.{NodeLine, PatchLine, HeaderLine, headerBytes, headerFor, bodyBytes, sceneBytes}
+use Rattle.model.specs.Questions.{Question, answer, questions}
+use Rattle.model.proofs.Encode.{headerBytes, bodyBytes, sceneBytes}
 use Rattle.model.proofs.Computing.{everything}
 use Rattle.model.proofs.Scenes.{square, upright, none, nodeLine, patchLine, sceneS, sOfHalfWidth, fittingCall, usual}
 

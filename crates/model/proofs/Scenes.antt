@@ -1,7 +1,7 @@
 -- The scenes of document 01's stations.
 use mathlib.Core.List.{List, [], _∷_, _++_}
 use Prim.Native.Nat.{ℕ, _*_}
-use lib.IntN.{ℤ, pos, negsuc, negℤ}
+use lib.IntN.{ℤ, pos, negℤ}
 use Rattle.model.specs.Vector.{Vec, Plane, vec, origin}
 use Rattle.model.specs.Call.{Call}
 use Rattle.model.proofs.Encode.{NodeLine, PatchLine, sceneBytes}

@@ -13,6 +13,10 @@ use Rattle.model.specs.Lists.{every, any, addIf, tally}
 pub is-true : {b : Bool} → b ≡ true → T b
 is-true e = subst T (sym e) tt
 
+pub true-of : {b : Bool} → T b → b ≡ true
+true-of {b = true} t = refl
+true-of {b = false} t = absurd t
+
 -- a test that cannot fail passes
 pub not-failing : (b : Bool) → ((T b → ⊥) → ⊥) → T b
 not-failing true f = tt

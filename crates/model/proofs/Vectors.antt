@@ -3,7 +3,7 @@ use mathlib.Core.Path.{_≡_}
 use mathlib.Core.List.{[], _∷_}
 use lib.IntN.{ℤ, pos, negℤ, _+ℤ_, _-ℤ_, _*ℤ_}
 use Rattle.integer.proofs.Identity.{ring, reify, combine₁, combine₂, combine₃}
-use Rattle.model.specs.Vector.{Vec, Plane, vec, minus, plus, times, dot, cross, planeNormal, side, turnedOver}
+use Rattle.model.specs.Vector.{Vec, Plane, minus, plus, times, dot, cross, planeNormal, side, turnedOver}
 
 -- a · (b × c)
 abbrev pub det : Vec → Vec → Vec → ℤ

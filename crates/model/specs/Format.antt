@@ -164,6 +164,7 @@ unfoldable pub patchNumbered : Scene → ℕ → Patch
 unfolding emptyPatch
 patchNumbered s k = getD (patchTable s) k emptyPatch
 
+-- what a number that no node has reads as
 unfoldable pub emptyNode : NodeRecord
 emptyNode =
     record {

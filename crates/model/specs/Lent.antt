@@ -16,6 +16,7 @@ pub record Lengths : Type 0 where
   pub counts : ℕ
   pub unlit : ℕ
 
+-- those of what is lent
 abbrev pub lengthsOf : Lent → Lengths
 lengthsOf l =
     record { picture = length (l .picture); counts = length (l .counts); unlit = length (l .unlit) }

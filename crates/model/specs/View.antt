@@ -1,4 +1,4 @@
--- What is looked at, and from where: a camera, and the view that it has from an eye.
+-- How it is looked, and from where: a camera, and a camera at an eye.
 use Prim.Native.Nat.{ℕ}
 use Rattle.model.specs.Vector.{Vec}
 use Rattle.model.specs.Window.{Window, direction}

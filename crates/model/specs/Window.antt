@@ -1,6 +1,6 @@
 -- The window and its cells' directions.
 use Prim.Native.Nat.{ℕ, _+_, _*_}
-use lib.IntN.{ℤ, pos, _-ℤ_}
+use lib.IntN.{pos, _-ℤ_}
 use Rattle.model.specs.Vector.{Vec, vec}
 
 -- "A window is width, height and lens."

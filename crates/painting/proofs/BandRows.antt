@@ -1,6 +1,5 @@
 -- A band of rows, painted with the part of a walk that is ready: a full row is what the whole walk leaves.
 use mathlib.Core.Path.{_≡_, refl, sym, _∙_, ap, subst}
-use mathlib.Core.Logic.{_⊎_, inl, inr}
 use mathlib.Core.Bool.{Bool, true, false, not, _&&_, true≢false}
 use mathlib.Core.List.{List, [], _++_, map-append, append-nil}
 use Prim.Native.Nat.{ℕ, _+_, _≤_, _<_}
@@ -14,14 +13,14 @@ use Rattle.model.specs.Questions.{unlitAfter}
 use Rattle.geometry.specs.Machine.{vecOf}
 use Rattle.geometry.specs.Raster.{rayAt}
 use Rattle.format.proofs.Tables.{same-table}
-use Rattle.rows.proofs.Rows.{row-congr}
+use Rattle.segments.proofs.Rows.{row-congr}
 use Rattle.edges.specs.declared.Sight.{Sight}
 use Rattle.painting.specs.declared.picture.Band.{Band}
-use Rattle.painting.specs.Painting.{shownAfter}
-use Rattle.painting.specs.Laying.{walkOf}
+use Rattle.scanline.specs.Shown.{shownAfter}
+use Rattle.scanline.specs.Laying.{walkOf}
 use Rattle.painting.specs.Framing.{Framed, withRow, RowPlaced, RowDone, RowsUpTo}
 use Rattle.painting.specs.Bands.{BandPainted}
-use Rattle.painting.proofs.FirstShown.{unlit-stays, shown-stays}
+use Rattle.scanline.proofs.FirstShown.{unlit-stays, shown-stays}
 use Rattle.painting.proofs.RowsPlaced.{still-framed, rows-go, rows-stay}
 
 -- a full row is what the whole walk leaves

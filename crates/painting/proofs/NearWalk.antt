@@ -21,14 +21,14 @@ use Rattle.geometry.specs.Machine.{vecOf}
 use Rattle.geometry.specs.Raster.{rayAt}
 use Rattle.format.specs.declared.layout.Layout.{Layout}
 use Rattle.format.proofs.Tables.{same-table}
-use Rattle.rows.proofs.Rows.{row-congr}
+use Rattle.segments.proofs.Rows.{row-congr}
 use Rattle.reach.specs.Reach.{spanAt}
 use Rattle.reach.specs.Selection.{reached, reaching, passing, Selected}
 use Rattle.edges.specs.declared.Sight.{Sight}
-use Rattle.painting.specs.Painting.{shownAfter}
-use Rattle.painting.specs.Laying.{PatchDrawable, Drawable, walkOf}
-use Rattle.painting.specs.Framing.{withRow, RowPlaced, RowDone}
-use Rattle.painting.specs.Ready.{ReachKnown, Reached}
+use Rattle.scanline.specs.Shown.{shownAfter}
+use Rattle.scanline.specs.Laying.{PatchDrawable, Drawable, walkOf}
+use Rattle.painting.specs.Framing.{withRow, RowDone}
+use Rattle.readiness.specs.Ready.{ReachKnown, Reached}
 
 -- what holds of every number holds of those that pass
 passing-all :

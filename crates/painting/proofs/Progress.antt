@@ -1,5 +1,5 @@
 -- A picture in the making: the rows before row `from` are in their places, and the first `ready` patches of the walk are ready.
-use mathlib.Core.Path.{_≡_, refl, sym, _∙_, ap, subst}
+use mathlib.Core.Path.{_≡_, refl, sym, _∙_, subst}
 use mathlib.Core.Logic.{⊎-elim}
 use mathlib.Core.Bool.{Bool, true, false}
 use mathlib.Core.List.{List, _++_}
@@ -14,14 +14,12 @@ use Rattle.geometry.specs.Machine.{vecOf}
 use Rattle.geometry.specs.Raster.{rayAt}
 use Rattle.format.specs.declared.layout.Layout.{Layout}
 use Rattle.edges.specs.declared.Sight.{Sight}
-use Rattle.painting.specs.declared.picture.Band.{Band}
-use Rattle.painting.specs.Laying.{walkOf}
-use Rattle.painting.specs.Painting.{RowsPainted}
-use Rattle.painting.specs.Framing.{Framed, RowsUpTo}
+use Rattle.scanline.specs.Laying.{walkOf}
+use Rattle.painting.specs.Framing.{RowsPainted, Framed, RowsUpTo}
 use Rattle.painting.specs.Bands.{BandPainted}
-use Rattle.painting.specs.Ready.{ReadyUpTo}
+use Rattle.readiness.specs.Ready.{ReadyUpTo}
 use Rattle.painting.proofs.RowsPlaced.{still-framed, rows-start, rows-end}
-use Rattle.painting.proofs.ReadyWalk.{ready-none}
+use Rattle.readiness.proofs.ReadyWalk.{ready-none}
 
 pub record Progress
     (bytes : List ℕ) (l : Layout) (s : Sight) (order : List ℕ) (edges edges′ : List ℤ) (rows rows′ picture picture′ unlit unlit′ : List ℕ) (ready from : ℕ) : Type 0 where

@@ -1,7 +1,7 @@
 -- The rows of a picture and of the unlit lists, put in their places one after the other.
 use mathlib.Core.Path.{_≡_, refl, sym, ap, ap₂, subst, _∙_}
-use mathlib.Core.Bool.{Bool, true}
-use mathlib.Core.List.{List, [], _++_, map, flatten, append-nil, append-assoc}
+use mathlib.Core.Bool.{Bool}
+use mathlib.Core.List.{List, _++_, map, flatten, append-nil, append-assoc}
 use Prim.Native.Nat.{ℕ, zero, suc, _+_, _-_, _*_, _≤_, _<_}
 use native.Mathlib.Nat.{add-zero, zero-add, zero-mul, mul-comm, mul-le-mul-right}
 use native.Mathlib.Numerals.{add-one}
@@ -13,15 +13,15 @@ use borrow.Rule.Slice.PartMut.{putMid}
 use Rattle.model.specs.Lists.{range}
 use Rattle.model.specs.Vector.{Vec}
 use Rattle.model.specs.Patch.{Patch}
-use Rattle.model.specs.Row.{rowOf, rowLength}
+use Rattle.model.specs.Row.{rowLength}
 use Rattle.model.specs.Questions.{unlitAfter}
 use Rattle.format.proofs.Tables.{length-table}
-use Rattle.rows.proofs.Rows.{row-length}
-use Rattle.rows.proofs.Full.{first-length}
-use Rattle.painting.specs.Painting.{RowPainted, RowsPainted}
-use Rattle.painting.specs.Framing.{Framed, withRow, RowPlaced, RowDone, cellsOf, unlitOf, RowsUpTo}
-use Rattle.painting.proofs.Columns.{each-lit}
-use Rattle.painting.proofs.WalkPainted.{as-long}
+use Rattle.segments.proofs.Rows.{row-length}
+use Rattle.segments.proofs.Full.{first-length}
+use Rattle.scanline.specs.Shown.{RowPainted}
+use Rattle.painting.specs.Framing.{RowsPainted, Framed, withRow, RowPlaced, RowDone, cellsOf, unlitOf, RowsUpTo}
+use Rattle.scanline.proofs.Columns.{each-lit}
+use Rattle.scanline.proofs.WalkPainted.{as-long}
 
 -- ---- one row
 

@@ -9,7 +9,7 @@ use Rattle.model.specs.Vector.{Vec}
 use Rattle.model.specs.Patch.{Patch}
 use Rattle.model.specs.Row.{rowOf, rowLength}
 use Rattle.model.specs.Questions.{unlitAfter}
-use Rattle.painting.specs.Painting.{shownAfter}
+use Rattle.scanline.specs.Shown.{shownAfter}
 
 -- a picture of a size that rows and their reach are made for, and lists with just the room for its rows
 pub record Framed (width height : ℕ) (picture unlit : List ℕ) : Type 0 where
@@ -47,3 +47,11 @@ pub record RowsUpTo
   pub bound : j ≤ height
   pub picture-is : take (j * width) picture ≡ flatten (map (cellsOf eye ray walk width) (range 0 j))
   pub unlit-is : take (j * rowLength) unlit ≡ flatten (map (unlitOf eye ray walk width) (range 0 j))
+
+-- the rows of a picture, one after the other, and of the unlit lists
+pub record RowsPainted
+    (eye : Vec) (ray : ℕ → ℕ → Vec) (walk : List Patch) (width height : ℕ) (picture unlit : List ℕ) : Type 0 where
+  pub picture-is :
+      picture ≡ flatten (map (λ (j : ℕ). map (shownAfter eye (λ (i : ℕ). ray i j) walk) (range 0 width)) (range 0 height))
+  pub unlit-is :
+      unlit ≡ flatten (map (λ (j : ℕ). rowOf width (unlitAfter eye (λ (i : ℕ). ray i j) walk)) (range 0 height))

@@ -1,4 +1,2 @@
 // A walk painted: the rows of its picture and of the unlit lists.
 pub mod picture;
-mod ready;
-mod row;

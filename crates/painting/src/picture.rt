@@ -1,22 +1,20 @@
 // The picture and the unlit lists, painted row after row, from the top.
-use crate::ready::extend_ready;
-use crate::ready::wanted;
-use crate::row::paint_row;
 use edges::Sight;
 use format::layout::Layout;
 use reach::rows::row_planes;
 use reach::selection::select;
+use readiness::extend_ready;
+use readiness::wanted;
+use scanline::paint_row;
 ghost use mathlib.Core.Path.{_≡_};
 ghost use mathlib.Core.Bool.{not, _&&_};
 ghost use Prim.Native.Nat.{ℕ, _≤_, _<_};
 ghost use lib.ListN.{length};
 ghost use Rattle.geometry.specs.Machine.{vecOf};
 ghost use Rattle.geometry.specs.Raster.{rayAt};
-ghost use Rattle.painting.specs.Painting.{RowsPainted};
-ghost use Rattle.painting.specs.Laying.{Drawable, walkOf};
-ghost use Rattle.painting.specs.Framing.{Framed, RowDone};
-ghost use Rattle.painting.specs.Bands.{BandPainted};
-ghost use Rattle.painting.specs.Ready.{Paintable, Room, Reached};
+ghost use Rattle.painting.specs.Framing.{RowDone, RowsPainted};
+ghost use Rattle.scanline.specs.Laying.{walkOf};
+ghost use Rattle.painting.specs.Bands.{RowAsked, NearAsked, BandAsked, PictureAsked, BandPainted};
 
 fn put_row(row: [u16; 256], place: &mut [u16])
     requires { ⌜ length (now place) ≡ 256 ⌝ }
@@ -29,7 +27,8 @@ fn put_row(row: [u16; 256], place: &mut [u16])
     }
 }
 
-// Paints row j, in its place in the picture and in the unlit lists, and says whether it is full: its first unlit segment has length 0.
+// Paints row j, in its place in the picture and in the unlit lists, and says whether it is full: its first unlit segment has length 0. A row that is full and
+// not told so would cost time alone.
 fn place_row(
     bytes: &[u8],
     l: Layout,
@@ -40,8 +39,7 @@ fn place_row(
     picture: &mut [u16],
     unlit: &mut [u16],
 ) -> bool
-    requires { ⌜ Drawable (now bytes) l sight (now edges) (now order)
-        × Framed (sight .raster .width) (sight .raster .height) (now picture) (now unlit) × (j < sight .raster .height) ⌝ }
+    requires { ⌜ RowAsked (now bytes) l sight (now edges) (now order) (now picture) (now unlit) j ⌝ }
     ensures { λ r. ⌜ RowDone (vecOf (sight .eye)) (λ (i : ℕ). rayAt (sight .raster) i j) (walkOf (now (bytes .entry)) (now (order .entry)))
         (sight .raster .width) j (now (picture .entry)) (now (unlit .entry)) (now (picture .exit)) (now (unlit .exit)) r ⌝ }
 {
@@ -75,8 +73,7 @@ fn place_near(
     picture: &mut [u16],
     unlit: &mut [u16],
 ) -> bool
-    requires { ⌜ Drawable (now bytes) l sight (now edges) (now order) × Reached (now bytes) sight (now rows) (now order) × (length (now order) ≤ 1024)
-        × Framed (sight .raster .width) (sight .raster .height) (now picture) (now unlit) × (j < sight .raster .height) ⌝ }
+    requires { ⌜ NearAsked (now bytes) l sight (now edges) (now rows) (now order) (now picture) (now unlit) j ⌝ }
     ensures { λ r. ⌜ RowDone (vecOf (sight .eye)) (λ (i : ℕ). rayAt (sight .raster) i j) (walkOf (now (bytes .entry)) (now (order .entry)))
         (sight .raster .width) j (now (picture .entry)) (now (unlit .entry)) (now (picture .exit)) (now (unlit .exit)) r ⌝ }
 {
@@ -115,9 +112,7 @@ fn paint_band(
     picture: &mut [u16],
     unlit: &mut [u16],
 ) -> u16
-    requires { ⌜ Drawable (now bytes) l sight (now edges) (now order) × Reached (now bytes) sight (now rows) (now order) × (length (now order) ≤ 1024)
-        × Framed (sight .raster .width) (sight .raster .height) (now picture) (now unlit)
-        × (band .from ≤ band .to) × (band .to ≤ sight .raster .height) ⌝ }
+    requires { ⌜ BandAsked (now bytes) l sight (now edges) (now rows) (now order) band (now picture) (now unlit) ⌝ }
     ensures { λ r. ⌜ BandPainted (now (bytes .entry)) sight (now (order .entry)) band (now (picture .entry)) (now (unlit .entry))
         (now (picture .exit)) (now (unlit .exit)) r ⌝ }
 {
@@ -148,6 +143,7 @@ fn band_end(from: u16, height: u16) -> u16
 }
 
 // Band after band. Where a row is not full with the part of the walk that is ready, more of it is made ready, and the row is painted anew.
+// What the two tables hold at entry does not matter; what they hold at exit is left free.
 pub fn paint_rows(
     bytes: &[u8],
     l: Layout,
@@ -158,8 +154,7 @@ pub fn paint_rows(
     picture: &mut [u16],
     unlit: &mut [u16],
 )
-    requires { ⌜ Paintable (now bytes) l sight (now order) × Room l (now edges) (now rows)
-        × Framed (sight .raster .width) (sight .raster .height) (now picture) (now unlit) ⌝ }
+    requires { ⌜ PictureAsked (now bytes) l sight (now order) (now edges) (now rows) (now picture) (now unlit) ⌝ }
     ensures { λ r. ⌜ RowsPainted (vecOf (sight .eye)) (rayAt (sight .raster)) (walkOf (now (bytes .entry)) (now (order .entry)))
         (sight .raster .width) (sight .raster .height) (now (picture .exit)) (now (unlit .exit)) ⌝ }
 {

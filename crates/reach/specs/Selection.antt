@@ -24,7 +24,7 @@ reaching table from to n = reached (spanAt table n .first) (spanAt table n .end)
 abbrev pub Listed : List ℕ → List ℕ → Type 0
 Listed order table = (k : ℕ) → k < length order → 2 * getD order k 0 + 2 ≤ length table
 
--- the numbers of the walk whose patches reach the rows stand at the front, r of them
+-- the numbers of the walk whose patches reach the rows stand at the front, r of them; what stands after them is left free
 pub record Selected (table : List ℕ) (from to : ℕ) (order after : List ℕ) (r : ℕ) : Type 0 where
   pub front : take r after ≡ passing (reaching table from to) order
   pub few : r ≤ length order

@@ -37,6 +37,7 @@ fn cross_product(u: Vector, v: Vector) -> Vector
     }
 }
 
+// by two cross products, once a picture
 pub fn row_planes(raster: Raster) -> Planes
     requires { ⌜ RasterBounded raster ⌝ }
     ensures { λ r. ⌜ PlanesOf raster r ⌝ }

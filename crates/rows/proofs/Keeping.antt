@@ -7,12 +7,13 @@ use native.Mathlib.Omega.{arith}
 use lib.ListN.{length, length-append}
 use borrow.Author.Tests.{lt-ltb, le-ltb, ltb-true, ltb-false}
 use Rattle.model.specs.Row.{Segment, numbersOf}
-use Rattle.rows.specs.Segments.{rowFrom, segmentAt, written, Holds, Reads}
-use Rattle.rows.specs.Step.{remainsBefore, remainsAfter, remains, Inserts, Removes, Overlaps, Keeps}
-use Rattle.rows.proofs.Segments.{segment-path, lower, tail-ordered, head-placed}
-use Rattle.rows.proofs.Numbers.{shaped, shape-row, pair-written}
-use Rattle.rows.proofs.Moves.{read-here, further}
-use Rattle.rows.proofs.Turns.{read-segment}
+use Rattle.segments.specs.Segments.{rowFrom, segmentAt, written, Holds, Reads}
+use Rattle.segments.specs.Columns.{remainsBefore, remainsAfter, remains}
+use Rattle.pairs.specs.Pairs.{Inserts, Removes}
+use Rattle.rows.specs.Step.{Overlaps, Keeps}
+use Rattle.segments.proofs.Segments.{segment-path, lower, tail-ordered, head-placed}
+use Rattle.segments.proofs.Numbers.{shaped, shape-row, pair-written}
+use Rattle.pairs.proofs.Moves.{read-here, further, read-segment}
 
 module _ {width k : ℕ} {row : List ℕ} {done : List Segment} {s : Segment} {rest : List Segment} (held : Holds width k row done (s ∷ rest)) where
   -- pair k holds the segment

@@ -1,15 +1,13 @@
 -- For callers: rows stay rows, and what a full row means.
-use mathlib.Core.Path.{_≡_, refl, sym, ap, _∙_}
-use mathlib.Core.Bool.{Bool, true, false}
+use mathlib.Core.Path.{_≡_, sym, ap, _∙_}
+use mathlib.Core.Bool.{Bool, true}
 use mathlib.Core.List.{List}
-use Prim.Native.Nat.{ℕ, _≤_, _<_}
+use Prim.Native.Nat.{ℕ, _≤_}
 use native.Mathlib.Omega.{arith}
 use lib.ListN.{length}
 use Rattle.model.specs.Row.{rowOf, afterSpan}
-use Rattle.rows.specs.Span.{allLit, Row, Lays}
-use Rattle.rows.proofs.Rows.{row-length}
-use Rattle.rows.proofs.Painting.{painted-length}
-use Rattle.rows.proofs.Full.{any-some}
+use Rattle.rows.specs.Span.{Row, Lays}
+use Rattle.segments.proofs.Painting.{painted-length}
 
 -- a fresh row is a row, a row on which a span was laid is one, and a row has 256 numbers
 pub row-fresh : {width n : ℕ} {row : List ℕ} → width ≡ n → n ≤ 256 → row ≡ rowOf n (λ (i : ℕ). true) → Row width row

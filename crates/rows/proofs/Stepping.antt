@@ -11,13 +11,14 @@ use lib.ListN.{length}
 use borrow.Author.Tests.{leb-false}
 use Rattle.model.specs.Row.{Segment}
 use Rattle.model.proofs.Tests.{same-test, both}
-use Rattle.rows.specs.Span.{inSpan, painted}
-use Rattle.rows.specs.Segments.{inSegment, Placed, segmentAt, Reads}
-use Rattle.rows.specs.Step.{piece, remainsBefore, remains, Acts, Overlaps, Keeps, Reached, Steps}
-use Rattle.rows.proofs.Tests.{same-le, failed, and-failed}
-use Rattle.rows.proofs.Segments.{column-bounds, bounds-column}
-use Rattle.rows.proofs.Painting.{painted-congr, painted-none}
-use Rattle.rows.proofs.Turns.{read-segment}
+use Rattle.segments.specs.Columns.{inSpan, painted, piece, remainsBefore, remains}
+use Rattle.segments.specs.Segments.{inSegment, Placed, segmentAt, Reads}
+use Rattle.positions.specs.Positions.{Acts}
+use Rattle.rows.specs.Step.{Overlaps, Keeps, Reached, Steps}
+use Rattle.segments.proofs.Tests.{same-le, failed, and-failed}
+use Rattle.segments.proofs.Segments.{column-bounds, bounds-column}
+use Rattle.segments.proofs.Painting.{painted-congr, painted-none}
+use Rattle.pairs.proofs.Moves.{read-segment}
 use Rattle.rows.proofs.Keeping.{held-segment, before-none, before-all, after-none, after-all}
 
 advance : (b : Bool) (s : Segment) (k : ℕ) → cond b (k + 1) k ≡ k + length (piece b s)
@@ -105,6 +106,17 @@ module _
             ∙ same-le (suc last) (offset + (count - 1)) (suc (suc last)) (offset + count)
             (λ h. omega (arith, placed .filled)) (λ h. omega (arith, placed .filled));
       })
+
+  -- the columns that the span and the segment share are a run of cells
+  pub run-placed :
+      {from to : ℕ} → from ≡ max first offset → to ≡ min last (offset + (count - 1)) → paint ≡ true →
+      (from ≤ to) × (to < length cells)
+  run-placed f t e =
+      let q : T (leb first (offset + (count - 1)) && leb offset last) = subst T (sym e ∙ a .paint-is) tt in
+      let p = both (leb first (offset + (count - 1))) (leb offset last) .0 q in
+      let l = leb→le first (offset + (count - 1)) (p .0) in
+      let m = leb→le offset last (p .1) in
+      (omega (arith, reached .span), omega (arith, placed .inside, placed .filled))
 
   missed : paint ≡ false → (offset + count ≤ first) ⊎ (last < offset)
   missed e =

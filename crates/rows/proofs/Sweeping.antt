@@ -9,17 +9,18 @@ use lib.Dec.{leb, ltb}
 use lib.ListN.{length, length-append}
 use borrow.Author.Tests.{leb-true, leb-false}
 use Rattle.model.specs.Row.{Segment, numbersOf, segments, rowOf, afterSpan}
-use Rattle.rows.specs.Span.{inSpan, painted, Row, Lays}
-use Rattle.rows.specs.Segments.{inSegment, Placed, Ordered, none, more, rowFrom, segmentAt, Holds}
-use Rattle.rows.specs.Step.{piece, remainsBefore, remains, Steps}
+use Rattle.segments.specs.Columns.{inSpan, painted, piece, remainsBefore, remains}
+use Rattle.rows.specs.Span.{Row, Lays}
+use Rattle.segments.specs.Segments.{inSegment, Placed, Ordered, none, more, rowFrom, segmentAt, Holds}
+use Rattle.rows.specs.Step.{Steps}
 use Rattle.model.proofs.Tests.{lt-or-ge}
-use Rattle.rows.proofs.Segments.{member, lower, tail-ordered, head-placed, member-before}
-use Rattle.rows.proofs.Sets.{segments-ordered, segments-member, few}
-use Rattle.rows.proofs.Rows.{zeros, segments-few, row-congr, row-determines}
-use Rattle.rows.proofs.Cut.{cut, span-behind, remains-ordered, segments-cut}
-use Rattle.rows.proofs.Painting.{painted-length, painted-congr, painted-twice, painted-none}
-use Rattle.rows.proofs.Numbers.{shaped}
-use Rattle.rows.proofs.Moves.{read-here, two-zeros}
+use Rattle.segments.proofs.Segments.{member, lower, tail-ordered, head-placed, member-before}
+use Rattle.segments.proofs.Sets.{segments-ordered, segments-member, few}
+use Rattle.segments.proofs.Rows.{zeros, segments-few, row-congr, row-determines}
+use Rattle.segments.proofs.Cut.{cut, span-behind, remains-ordered, segments-cut}
+use Rattle.segments.proofs.Painting.{painted-length, painted-congr, painted-twice, painted-none}
+use Rattle.segments.proofs.Numbers.{shaped}
+use Rattle.pairs.proofs.Moves.{read-here, two-zeros}
 use Rattle.rows.proofs.Keeping.{held-segment, after-none}
 use Rattle.rows.proofs.Stepping.{apart}
 

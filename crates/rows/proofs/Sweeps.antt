@@ -7,11 +7,11 @@ use native.Mathlib.Omega.{arith}
 use lib.ListN.{length}
 use Rattle.model.specs.Row.{Segment, segments}
 use Rattle.rows.specs.Span.{Row}
-use Rattle.rows.specs.Segments.{Placed, rowFrom, Reads}
+use Rattle.segments.specs.Segments.{Placed, rowFrom, Reads}
 use Rattle.rows.specs.Step.{Reached, Steps}
-use Rattle.rows.proofs.Segments.{member, head-placed}
-use Rattle.rows.proofs.Cut.{cut}
-use Rattle.rows.proofs.Painting.{painted-none}
+use Rattle.segments.proofs.Segments.{member, head-placed}
+use Rattle.segments.proofs.Cut.{cut}
+use Rattle.segments.proofs.Painting.{painted-none}
 use Rattle.rows.proofs.Keeping.{held-segment}
 use Rattle.rows.proofs.Sweeping.{Sweeping, Swept, sweep-starts, swept, held-end, step-stops, step-goes}
 

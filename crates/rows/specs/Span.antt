@@ -1,30 +1,11 @@
 -- Laying a span of columns on a row.
 use mathlib.Core.Path.{_≡_}
-use mathlib.Core.Bool.{Bool, cond, not, _&&_}
-use mathlib.Core.List.{List, [], _∷_}
-use Prim.Native.Nat.{ℕ, suc, _≤_}
-use lib.Dec.{leb}
+use mathlib.Core.Bool.{Bool, _&&_}
+use mathlib.Core.List.{List}
+use Prim.Native.Nat.{ℕ, _≤_}
 use lib.ListN.{length}
-use Rattle.model.specs.Lists.{any, range}
 use Rattle.model.specs.Row.{rowOf, afterSpan}
-
--- column i lies in the span from column `first` to column `last`
-abbrev pub inSpan : ℕ → ℕ → ℕ → Bool
-inSpan first last i = leb first i && leb i last
-
--- the cells from column i on, with the panel in the columns of the set
-unfoldable pub paintedFrom : ℕ → (ℕ → Bool) → ℕ → List ℕ → List ℕ
-paintedFrom i columns panel [] = []
-paintedFrom i columns panel (cell ∷ cells) =
-    cond (columns i) panel cell ∷ paintedFrom (suc i) columns panel cells
-
--- a row of cells with the panel in the columns of the set
-abbrev pub painted : (ℕ → Bool) → ℕ → List ℕ → List ℕ
-painted columns panel cells = paintedFrom 0 columns panel cells
-
--- no column of the row is unlit
-unfoldable pub allLit : ℕ → (ℕ → Bool) → Bool
-allLit width unlit = not (any unlit (range 0 width))
+use Rattle.segments.specs.Columns.{inSpan, painted, allLit}
 
 -- the numbers are those of a row under work, for some set of unlit columns
 pub record Row (width : ℕ) (row : List ℕ) : Type 0 where

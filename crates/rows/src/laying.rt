@@ -1,17 +1,18 @@
 // A span of columns is laid on the segments of a row, one after the other.
-use crate::pairs::insert;
-use crate::pairs::pair_at;
-use crate::pairs::remove;
-use crate::pairs::set_pair;
-use crate::positions::Action;
-use crate::positions::action_for;
+use cells::paint;
+use pairs::insert;
+use pairs::pair_at;
+use pairs::remove;
+use pairs::set_pair;
+use positions::Action;
+use positions::action_for;
 ghost use mathlib.Core.Path.{_≡_};
 ghost use mathlib.Core.Bool.{Bool, cond};
 ghost use Prim.Native.Nat.{ℕ, _+_, _≤_, _<_, min, max};
 ghost use lib.ListN.{length};
-ghost use Rattle.rows.specs.Span.{inSpan, painted, Row, Lays};
+ghost use Rattle.rows.specs.Span.{Row, Lays};
 ghost use Rattle.model.specs.Row.{rowOf};
-ghost use Rattle.rows.specs.Segments.{segmentAt};
+ghost use Rattle.segments.specs.Segments.{segmentAt};
 ghost use Rattle.rows.specs.Step.{Overlaps, Keeps, Reached, Steps};
 
 // The next segment to look at, and whether the span may meet it.
@@ -40,18 +41,6 @@ fn advanced(k: usize, before: bool) -> usize
         return k + 1;
     }
     k
-}
-
-fn paint(cells: &mut [u16], from: u16, to: u16, panel: u16)
-    requires { ⌜ to < length (now cells) ⌝ }
-    ensures { λ r. ⌜ now (cells .exit) ≡ painted (inSpan from to) panel (now (cells .entry)) ⌝ }
-{
-    let end = to as usize + 1;
-    let mut i = from as usize;
-    while i < end {
-        cells[i] = panel;
-        i += 1;
-    }
 }
 
 // What the span leaves of segment k, which it meets. The end is read first: the columns after the span keep it.

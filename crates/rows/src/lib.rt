@@ -1,7 +1,5 @@
 // A row of unlit segments: built, painted over by spans of columns, handed out.
 mod laying;
-mod pairs;
-mod positions;
 
 use laying::sweep;
 use pairs::used_part;

@@ -1,6 +1,6 @@
 -- The laws of spans, from plain numbers to rows of edge functions.
-pub mod HalfLine
+mod HalfLine
 pub mod Clipping
-pub mod Stored
+mod Stored
 pub mod RowFunctions
 pub mod Rows

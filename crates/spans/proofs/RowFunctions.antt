@@ -1,7 +1,6 @@
 -- An edge function in a row: its numbers change evenly, within the bounds that clipping asks for.
 use mathlib.Core.Path.{_≡_, sym, subst₂}
 use Prim.Native.Nat.{ℕ, _≤_}
-use native.Mathlib.Omega.{arith}
 use lib.Dec.{lit≤, lit<}
 use lib.IntN.{ℤ, pos}
 use mir.Syntax.{w64}

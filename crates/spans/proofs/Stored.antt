@@ -13,7 +13,7 @@ use Rattle.integer.specs.Magnitude.{Within}
 use Rattle.integer.proofs.Magnitude.{within-stored, within-more}
 use Rattle.geometry.specs.declared.EdgeFunction.{EdgeFunction}
 use Rattle.geometry.specs.Raster.{FunctionBounded}
-use Rattle.spans.specs.Row.{functionAt, FunctionStored}
+use Rattle.spans.specs.Row.{FunctionStored}
 
 -- what a word holds of a number
 abbrev pub stored : ℤ → ℤ

@@ -27,7 +27,8 @@ pub record Shaped (width : ℕ) (s : Span) : Type 0 where
 abbrev pub numberAt : ℤ → ℤ → ℕ → ℤ
 numberAt slope start i = slope *ℤ pos i +ℤ start
 
--- How large the slope and the value at column 0 are at most: those of an edge function in a row up to row 1,024, and one more, for an edge that counts in.
+-- How large the slope and the value at column 0 are at most: room for those of an edge function in a row up to row 1,024, and of a corner's number against the
+-- planes of the rows.
 pub record Linear (slope start : ℤ) : Type 0 where
   pub slope-within : Within 1351200000000000 slope
   pub start-within : Within 2000000000000000 start

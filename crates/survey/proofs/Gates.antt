@@ -8,12 +8,11 @@ use mir.Val.{SFits}
 use Rattle.model.specs.Vector.{Vec}
 use Rattle.model.specs.Call.{Call}
 use Rattle.model.specs.Questions.{within, pointInRange, sceneAnswer, viewInRange, lengthsFit, counterBelowEnd, rowsFit, callQuestions, surveyAnswer}
-use Rattle.model.proofs.Tests.{is-true}
+use Rattle.model.proofs.Tests.{is-true, true-of}
 use Rattle.model.proofs.Answers.{scene-first, call-next}
 use Rattle.model.proofs.FirstNo.{said-yes, said-no, RefusedAt, refused-at, AllYes, no-no}
 use Rattle.survey.proofs.Handed.{words, eye-handed}
 use Rattle.survey.proofs.Results.{rows-always-fit}
-use Rattle.survey.proofs.Walks.{holds}
 
 pub scene-says-no : (c : Call) {n : ℕ} → n ≡ sceneAnswer (c .scene) → (n ≡ 0 → ⊥) → n ≡ surveyAnswer c
 scene-says-no c scene f = scene ∙ sym (scene-first c (λ z. f (scene ∙ z)))
@@ -60,7 +59,7 @@ module _ (c : Call) {v : Vec} {a : Bool}
 
 -- question 13 never says no
 pub rows-yes : (c : Call) → viewInRange c ≡ true → rowsFit c ≡ true
-rows-yes c e = holds (rows-always-fit c (is-true e))
+rows-yes c e = true-of (rows-always-fit c (is-true e))
 
 pub ruleset asked = (scene-yes, view-yes, view-no, rows-yes)
 

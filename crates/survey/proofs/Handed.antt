@@ -11,7 +11,7 @@ use Rattle.model.specs.View.{Camera}
 use Rattle.model.specs.Lent.{Lengths}
 use Rattle.model.specs.Questions.{surveyAnswer}
 use Rattle.survey.specs.Contract.{viewFrom, gateCall}
-use Rattle.survey.specs.Painted.{Painted}
+use Rattle.rendering.specs.Painted.{Painted}
 
 -- a vector of words
 abbrev pub words : ℤ → ℤ → ℤ → Vec

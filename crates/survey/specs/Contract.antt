@@ -17,11 +17,13 @@ cameraOf w h l = record { window = record { width = w; height = h; lens = l } }
 abbrev pub viewFrom : Vec → Camera → View
 viewFrom e c = record { eye = e; camera = c }
 
+-- the three buffers and the counter
 abbrev pub lentOf : List ℕ → List ℕ → List ℕ → ℕ → Lent
 lentOf p n u k = record { picture = p; counts = n; unlit = u; counter = k }
 
-abbrev pub lengthsAre : ℕ → ℕ → ℕ → Lengths
-lengthsAre p n u = record { picture = p; counts = n; unlit = u }
+-- the lengths of the three buffers
+abbrev pub lengthsBy : ℕ → ℕ → ℕ → Lengths
+lengthsBy p n u = record { picture = p; counts = n; unlit = u }
 
 -- the call on a scene with a view, with buffers of these lengths and this counter
 abbrev pub gateCall : List ℕ → View → Lengths → ℕ → Call

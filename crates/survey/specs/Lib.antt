@@ -1,3 +1,2 @@
 -- The contracts of the exported calls.
 pub mod Contract
-pub mod Painted

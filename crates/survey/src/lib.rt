@@ -1,19 +1,17 @@
 // The survey call and its gate, for a console in C.
-mod camera;
-mod paint;
-pub mod view;
+pub mod call;
 
+use call::counter_below_end;
+use call::lengths_fit;
+use call::view_in_range;
 use counting::count_cells;
 use format::records::vector;
 use gate::scene_answer;
-use paint::paint;
-use view::counter_below_end;
-use view::lengths_fit;
-use view::view_in_range;
+use rendering::paint;
 ghost use mathlib.Core.Path.{_≡_};
 ghost use Rattle.model.specs.Vector.{vec};
 ghost use Rattle.model.specs.Questions.{surveyAnswer};
-ghost use Rattle.survey.specs.Contract.{cameraOf, viewFrom, lentOf, lengthsAre, gateCall, Surveyed};
+ghost use Rattle.survey.specs.Contract.{cameraOf, viewFrom, lentOf, lengthsBy, gateCall, Surveyed};
 
 // The answer of the survey call on these numbers: 0, or the number of the first question that says no. Question 13 never does, so it is not asked.
 #[no_mangle]
@@ -31,7 +29,7 @@ pub extern "C" fn ring_gate(
     counter: u32,
 ) -> u32
     ensures { λ r. ⌜ r ≡ surveyAnswer (gateCall (now (scene .entry)) (viewFrom (vec «eye_x» «eye_y» «eye_z») (cameraOf width height lens))
-        (lengthsAre «picture_len» «counts_len» «unlit_len») counter) ⌝ }
+        (lengthsBy «picture_len» «counts_len» «unlit_len») counter) ⌝ }
 {
     let answer = scene_answer(scene);
     if answer != 0 {

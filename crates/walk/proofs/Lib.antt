@@ -2,7 +2,7 @@
 mod Totals
 mod Counting
 mod Sums
-pub mod Runs
+mod Runs
 pub mod Whole
 mod Carried
 mod Writes

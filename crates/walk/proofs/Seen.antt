@@ -7,7 +7,7 @@ use native.Mathlib.Omega.{arith}
 use lib.Dec.{T, eqb, leb, leb→le}
 use lib.ListN.{length, length-map}
 use Rattle.model.specs.Vector.{Vec}
-use Rattle.model.specs.Patch.{Patch, Proper}
+use Rattle.model.specs.Patch.{Patch}
 use Rattle.model.specs.Ray.{panelOf, closest, firstMet}
 use Rattle.model.specs.Tree.{Tree, leaf, node, contents, order, divides}
 use Rattle.model.specs.Format.{Header, NodeRecord, Scene, headerOf, headerSize, nodeSize, patchSize, cornerSize, mostNodes, mostPatches, mostCorners, recordsOf, decode, noChild, inRun, patchTable, patchNumbered, numberTree, patchTree}

@@ -63,7 +63,7 @@ fn consistent(cases: u64) -> usize {
     failed
 }
 
-/// No fault, no difference.
+/// No fault, no difference. Few cases: the comparison with the library itself runs on thousands.
 fn sound(cases: u64) -> usize {
     let mut tally = Tally::default();
     for number in 0..cases {

@@ -1,11 +1,10 @@
-use mathlib.Core.Path.{ap, _∙_}
 use Prim.Native.Nat.{ℕ, _-_}
 use borrow.Author.Needs.{needs}
 use borrow.Author.Tests.{not-true, not-false}
 use Rattle.model.specs.Format.{decode, patchNumbered}
 use Rattle.convexity.specs.Tests.{patchProper}
 use Rattle.model.proofs.Loops.{Passed, none-passed, one-passed, refused, accepted}
-use Rattle.convexity.proofs.PatchTables.{patches-asked, patch-bounded}
+use Rattle.convexity.proofs.PatchTables.{patches-asked}
 use Rattle.convexity.proofs.patches_proper.Statement.{statement}
 use Rattle.convexity.proofs.patches_proper.Tie as tie
 
@@ -18,21 +17,17 @@ abbrev μ-loop : tie.MeasureT-loop
 loop-holds : tie.Need-loop-holds Inv-loop μ-loop
 loop-holds c = none-passed _ _
 
-patch-proper-requires : tie.Need-patch-proper-requires Inv-loop μ-loop
-patch-proper-requires c κs =
-    patch-bounded (c .before .before .before .before .pre) (c .before .loop-test .taken) (c .read-patch .ensures)
-
 returns : tie.Need-returns Inv-loop μ-loop
 returns c =
     let d = c .before .before in
-    refused (patches-asked (d .before .before .before .before .pre .laid)) (d .before .loop-test .taken)
-    (c .before .patch-proper .ensures ∙ ap patchProper (d .read-patch .ensures .value)) (not-true _ (c .if1 .taken))
+    refused (patches-asked (d .before .before .before .pre .laid)) (d .loop-test .taken)
+    (c .before .numbered-proper .ensures) (not-true _ (c .if1 .taken))
 
 loop-again : tie.Need-loop-again Inv-loop μ-loop
 loop-again c =
     let d = c .before .before in
-    one-passed (d .before .before .loop .inv) (d .before .loop-test .taken)
-    (c .before .patch-proper .ensures ∙ ap patchProper (d .read-patch .ensures .value)) (not-false _ (c .if1 .left))
+    one-passed (d .before .loop .inv) (d .loop-test .taken)
+    (c .before .numbered-proper .ensures) (not-false _ (c .if1 .left))
 
 returns-2 : tie.Need-returns-2 Inv-loop μ-loop
 returns-2 c = accepted (patches-asked (c .before .before .before .pre .laid)) (c .before .loop .inv) (c .loop-test .left)
@@ -45,7 +40,6 @@ patches-proper-spec =
     μ-loop
     loop-holds
     (λ c κs. search needs)
-    patch-proper-requires
     returns
     (λ c. search needs)
     (λ c. search needs)

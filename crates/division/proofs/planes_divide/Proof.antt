@@ -11,15 +11,15 @@ slice-aggregate-fill-extents c = search needs
 fill-extents-requires : tie.Need-fill-extents-requires
 fill-extents-requires c κs = search needs
 
-slice-aggregate-divides-below : tie.Need-slice-aggregate-divides-below
-slice-aggregate-divides-below c = search needs
+slice-aggregate-nodes-divide : tie.Need-slice-aggregate-nodes-divide
+slice-aggregate-nodes-divide c = search needs
 
-divides-below-requires : tie.Need-divides-below-requires
-divides-below-requires c κs = search needs
+nodes-divide-requires : tie.Need-nodes-divide-requires
+nodes-divide-requires c κs = search needs
 
 returns : tie.Need-returns
 unfolding planesDivide patchTree numberTree
-returns c = c .divides-below .ensures
+returns c = c .nodes-divide .ensures
 
 pub planes-divide-spec : {M : Type 1} → statement M
 planes-divide-spec =
@@ -27,6 +27,6 @@ planes-divide-spec =
     (tie.spec
     slice-aggregate-fill-extents
     fill-extents-requires
-    slice-aggregate-divides-below
-    divides-below-requires
+    slice-aggregate-nodes-divide
+    nodes-divide-requires
     returns)

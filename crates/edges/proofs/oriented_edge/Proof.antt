@@ -7,7 +7,7 @@ use mir.Syntax.{w64}
 use Rattle.integer.specs.Magnitude.{Within}
 use Rattle.integer.proofs.Machine.{machine, result, room}
 use Rattle.model.specs.Vector.{Vec, times}
-use Rattle.geometry.proofs.Results.{given, both, number, vector, vector-by}
+use Rattle.geometry.proofs.Results.{given, pair, number, vector, vector-by}
 use Rattle.edges.proofs.oriented_edge.Statement.{statement}
 use Rattle.edges.proofs.oriented_edge.Tie as tie
 
@@ -19,17 +19,17 @@ edge-vector-requires c κs = search needs
 
 product-requires : tie.Need-product-requires
 product-requires =
-    given (λ c. both (c .before .before .pre) (c .before .edge-vector .ensures))
+    given (λ c. pair (c .before .before .pre) (c .before .edge-vector .ensures))
     (λ _ h κs. room w64 (search machine depth 40 fits 20000, tt))
 
 product-requires-2 : tie.Need-product-requires-2
 product-requires-2 =
-    given (λ c. both (c .before .before .before .before .pre) (c .before .before .before .edge-vector .ensures))
+    given (λ c. pair (c .before .before .before .before .pre) (c .before .before .before .edge-vector .ensures))
     (λ _ h κs. room w64 (search machine depth 40 fits 20000, tt))
 
 product-requires-3 : tie.Need-product-requires-3
 product-requires-3 =
-    given (λ c. both (c .before .before .before .before .before .before .pre) (c .before .before .before .before .before .edge-vector .ensures))
+    given (λ c. pair (c .before .before .before .before .before .before .pre) (c .before .before .before .before .before .edge-vector .ensures))
     (λ _ h κs. room w64 (search machine depth 40 fits 20000, tt))
 
 returns : tie.Need-returns
@@ -37,9 +37,9 @@ returns =
     given
     (λ c.
     let e = c .before .before .before .before .before .before in
-    both (e .before .pre .3)
-    (both (e .edge-vector .ensures)
-    (both (c .before .before .before .before .product .ensures) (both (c .before .before .product2 .ensures) (c .product3 .ensures)))))
+    pair (e .before .pre .sign-within)
+    (pair (e .edge-vector .ensures)
+    (pair (c .before .before .before .before .product .ensures) (pair (c .before .before .product2 .ensures) (c .product3 .ensures)))))
     (λ _ h.
     vector-by
     (vector

@@ -39,27 +39,29 @@ next-place-requires : tie.Need-next-place-requires Inv-loop μ-loop
 next-place-requires c κs = c .loop-test .taken
 
 add-corner : tie.Need-add-corner Inv-loop μ-loop
-add-corner c = omega (arith, c .next-place .ensures, next-inside _ _ (c .before .loop-test .taken), c .before .before .before .before .corner-run .ensures .run-inside, c .before .before .before .before .before .before .pre .0 .laid .few-corners)
+add-corner c = omega (arith, c .next-place .ensures, next-inside _ _ (c .before .loop-test .taken), c .before .before .before .before .corner-run .ensures .run-inside, c .before .before .before .before .before .before .pre .0 .scene .laid .few-corners)
 
 corner-requires-2 : tie.Need-corner-requires-2 Inv-loop μ-loop
-corner-requires-2 c κs = (c .before .before .before .before .before .before .pre .0, omega (arith, c .next-place .ensures, next-inside _ _ (c .before .loop-test .taken), c .before .before .before .before .corner-run .ensures .run-inside))
+corner-requires-2 c κs = (c .before .before .before .before .before .before .pre .0 .scene, omega (arith, c .next-place .ensures, next-inside _ _ (c .before .loop-test .taken), c .before .before .before .before .corner-run .ensures .run-inside))
 
 oriented-edge-requires : tie.Need-oriented-edge-requires Inv-loop μ-loop
-oriented-edge-requires c κs = (
-  c .before .before .before .before .before .before .before .pre .2 .eye-bounded,
-  bounded-corner (c .before .before .before .before .before .before .before .pre .0) (omega (arith, c .before .before .loop-test .taken, c .before .before .before .before .before .corner-run .ensures .run-inside)) (c .before .before .before .loop .inv .from-is (c .before .before .loop-test .taken)),
-  c .corner2 .ensures .bounded,
-  sign-small (sign-passed (c .before .before .before .before .before .before .before .pre .3)),
-)
+oriented-edge-requires c κs =
+    record {
+      eye-bounded = c .before .before .before .before .before .before .before .pre .0 .sight .eye-bounded;
+      v-bounded =
+          bounded-corner (c .before .before .before .before .before .before .before .pre .0 .scene) (omega (arith, c .before .before .loop-test .taken, c .before .before .before .before .before .corner-run .ensures .run-inside)) (c .before .before .before .loop .inv .from-is (c .before .before .loop-test .taken));
+      w-bounded = c .corner2 .ensures .bounded;
+      sign-within = sign-small (sign-passed (c .before .before .before .before .before .before .before .pre .1));
+    }
 
 add-store-function : tie.Need-add-store-function Inv-loop μ-loop
-add-store-function c = omega (arith, c .before .before .before .before .loop-test .taken, c .before .before .before .before .before .before .before .corner-run .ensures .run-inside, c .before .before .before .before .before .before .before .before .before .pre .0 .laid .few-corners)
+add-store-function c = omega (arith, c .before .before .before .before .loop-test .taken, c .before .before .before .before .before .before .before .corner-run .ensures .run-inside, c .before .before .before .before .before .before .before .before .before .pre .0 .scene .laid .few-corners)
 
 edge-function-requires : tie.Need-edge-function-requires Inv-loop μ-loop
-edge-function-requires c κs = (c .before .before .before .before .before .before .before .before .before .pre .2 .raster-bounded, c .before .oriented-edge .ensures .bounded)
+edge-function-requires c κs = (c .before .before .before .before .before .before .before .before .before .pre .0 .sight .raster-bounded, c .before .oriented-edge .ensures .bounded)
 
 store-function-requires : tie.Need-store-function-requires Inv-loop μ-loop
-store-function-requires c κs = (omega (arith, c .before .before .before .before .before .loop-test .taken, c .before .before .before .before .before .before .before .before .corner-run .ensures .run-inside, c .before .before .before .before .before .before .before .before .before .before .pre .4, c .before .before .before .before .before .before .loop .inv .writing .long), c .edge-function .ensures .bounded)
+store-function-requires c κs = (omega (arith, c .before .before .before .before .before .loop-test .taken, c .before .before .before .before .before .before .before .before .corner-run .ensures .run-inside, c .before .before .before .before .before .before .before .before .before .before .pre .0 .room, c .before .before .before .before .before .before .loop .inv .writing .long), c .edge-function .ensures .bounded)
 
 add-i : tie.Need-add-i Inv-loop μ-loop
 add-i c = omega (arith, c .before .before .before .before .before .before .before .loop-test .taken, c .before .before .before .before .before .before .before .before .before .before .corner-run .ensures .eight)
@@ -73,7 +75,7 @@ loop-again c =
     let s = c .before .before .before .before .before .before .before .before .before .before .before .before in
     let h = c .before .before .before .before .before .before .before .loop-test .taken in
     let v = c .before .before .before .before .before .before .before .before .loop .inv in
-    let e = edge-of (vecOf (s .args .sight .eye)) at (sign-passed (s .pre .3)) h (v .from-is h) (c .before .before .before .before .before .before .next-place .ensures) (c .before .before .before .before .before .corner2 .ensures .value) in
+    let e = edge-of (vecOf (s .args .sight .eye)) at (sign-passed (s .pre .1)) h (v .from-is h) (c .before .before .before .before .before .before .next-place .ensures) (c .before .before .before .before .before .corner2 .ensures .value) in
     record {
       writing = writing-more (v .writing) h (c .before .store-function .ensures) (function-by (s .args .sight .raster) (c .before .before .edge-function .ensures) (c .before .before .before .before .oriented-edge .ensures .value ∙ e));
       from-is = goes-on _ (s .args .l) _ _ _ _ (c .before .before .before .before .before .before .next-place .ensures) (c .before .before .before .before .before .corner2 .ensures .value);
@@ -88,7 +90,7 @@ returns c =
     let at = c .before .before .before .corner-run .ensures in
     let few = at .run-inside in
     run-written at
-    (writing-all (c .before .loop .inv .writing) (run-count at) (omega (arith, s .pre .0 .laid .few-corners)) (omega (arith, s .pre .4)) (c .loop-test .left))
+    (writing-all (c .before .loop .inv .writing) (run-count at) (omega (arith, s .pre .0 .scene .laid .few-corners)) (omega (arith, s .pre .0 .room)) (c .loop-test .left))
 
 pub write-edges-spec : {M : Type 1} → statement M
 write-edges-spec =

@@ -1,44 +1,14 @@
 -- `gate::scene_answer` meets its contract: each question is asked after those before it said yes.
 use mathlib.Core.Path.{_≡_}
-use mathlib.Core.Bool.{true}
 use mathlib.Core.List.{List}
 use Prim.Native.Nat.{ℕ}
-use lib.Dec.{T}
 use borrow.Author.Needs.{needs}
-use Rattle.model.specs.Format.{decode}
-use Rattle.model.specs.Questions.{coordinatesInRange, childrenProper, runsProper, sceneQuestions, sceneAnswer}
-use Rattle.model.proofs.Tests.{is-true}
+use Rattle.model.specs.Questions.{sceneQuestions, sceneAnswer}
 use Rattle.model.proofs.FirstNo.{said-yes, said, RefusedAt, refused-at, AllYes, no-no}
-use Rattle.format.specs.declared.layout.Layout.{Layout}
-use Rattle.format.specs.Layout.{LaidOut, RunsInside}
 use Rattle.format.proofs.Sections.{header-inside}
-use Rattle.scene.proofs.RunTables.{runs-inside}
-use Rattle.convexity.specs.Bounds.{Cornered}
-use Rattle.checked.specs.Checked.{Checked}
+use Rattle.gate.proofs.Passed.{in-range, runs-within, cornered, checked}
 use Rattle.gate.proofs.scene_answer.Statement.{statement}
 use Rattle.gate.proofs.scene_answer.Tie as tie
-
-module _ {bytes : List ℕ} {l : Layout} (laid : LaidOut bytes l) where
-  in-range : coordinatesInRange (decode bytes) ≡ true → LaidOut bytes l × T (coordinatesInRange (decode bytes))
-  in-range t = (laid, is-true t)
-
-  runs-within : runsProper (decode bytes) ≡ true → LaidOut bytes l × RunsInside bytes l
-  runs-within t = (laid, runs-inside laid t)
-
-  cornered : coordinatesInRange (decode bytes) ≡ true → runsProper (decode bytes) ≡ true → Cornered bytes l
-  cornered t runs = record { laid = laid; inside = runs-inside laid runs; coordinates = is-true t }
-
-  checked :
-      coordinatesInRange (decode bytes) ≡ true → childrenProper (decode bytes) ≡ true → runsProper (decode bytes) ≡ true →
-      Checked bytes l
-  checked t children runs =
-      record {
-        laid = laid;
-        inside = runs-inside laid runs;
-        coordinates = is-true t;
-        children = is-true children;
-        runs = is-true runs;
-      }
 
 refused : (bytes : List ℕ) (n : ℕ) → RefusedAt bytes n sceneQuestions → n ≡ sceneAnswer bytes
 unfolding sceneAnswer

@@ -2,15 +2,15 @@
 use mathlib.Core.Path.{refl}
 use borrow.Author.Needs.{needs}
 use Rattle.integer.proofs.Machine.{machine, result}
-use Rattle.geometry.proofs.Results.{given, both, number, function}
+use Rattle.geometry.proofs.Results.{given, pair, number, function}
 use Rattle.geometry.proofs.edge_function.Statement.{statement}
 use Rattle.geometry.proofs.edge_function.Tie as tie
 
 returns : tie.Need-returns
 returns =
     given
-    (λ c. both (c .before .before .before .pre)
-    (both (c .before .before .dot-product .ensures) (both (c .before .dot-product2 .ensures) (c .dot-product3 .ensures))))
+    (λ c. pair (c .before .before .before .pre)
+    (pair (c .before .before .dot-product .ensures) (pair (c .before .dot-product2 .ensures) (c .dot-product3 .ensures))))
     (λ _ h.
     function
     (number (search (machine, result) depth 40 fits 20000, tt, tt, refl))

@@ -1,6 +1,6 @@
 -- `fresh` meets its contract, by the law of the row of all columns.
 use borrow.Author.Needs.{needs}
-use Rattle.rows.proofs.Full.{fresh-row}
+use Rattle.segments.proofs.Full.{fresh-row}
 use Rattle.rows.proofs.fresh.Statement.{statement}
 use Rattle.rows.proofs.fresh.Tie as tie
 

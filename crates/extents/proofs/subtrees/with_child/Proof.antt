@@ -17,13 +17,13 @@ joined-box-requires c κs =
     let h = c .before .before .pre in
     (h .0 .outer-bounded, subst ExtentBounded (sym (c .extent-at .ensures)) (h .1 .child (c .before .if1 .left)) .outer-bounded)
 
-met-box-requires : tie.Need-met-box-requires
-met-box-requires c κs =
+common-box-requires : tie.Need-common-box-requires
+common-box-requires c κs =
     let h = c .before .before .before .pre in
     (h .0 .inner-bounded, subst ExtentBounded (sym (c .before .extent-at .ensures)) (h .1 .child (c .before .before .if1 .left)) .inner-bounded)
 
 returns-2 : tie.Need-returns-2
-returns-2 c = child-joined (c .before .before .extent-at .ensures) (c .before .joined-box .ensures) (c .met-box .ensures)
+returns-2 c = child-joined (c .before .before .extent-at .ensures) (c .before .joined-box .ensures) (c .common-box .ensures)
 
 pub with-child-spec : {M : Type 1} → statement M
-with-child-spec = tie.close (tie.spec returns extent-at-requires joined-box-requires met-box-requires returns-2)
+with-child-spec = tie.close (tie.spec returns extent-at-requires joined-box-requires common-box-requires returns-2)

@@ -20,10 +20,10 @@ slice-aggregate-select : tie.Need-slice-aggregate-select Inv-loop μ-loop
 slice-aggregate-select c = search needs
 
 select-requires : tie.Need-select-requires Inv-loop μ-loop
-select-requires c κs = (c .before .before .before .before .before .before .pre .1 .inside, c .before .before .before .before .before .before .pre .2, omega (arith, c .before .before .before .before .before .before .pre .2))
+select-requires c κs = (c .before .before .before .before .before .before .pre .reached .inside, c .before .before .before .before .before .before .pre .few, omega (arith, c .before .before .before .before .before .before .pre .few))
 
 loop-holds : tie.Need-loop-holds Inv-loop μ-loop
-loop-holds c = band-start (c .before .before .before .before .before .before .before .before .pre .4)
+loop-holds c = band-start (c .before .before .before .before .before .before .before .before .pre .ordered)
 
 array-share-prefix-near : tie.Need-array-share-prefix-near Inv-loop μ-loop
 array-share-prefix-near c = c .before .before .before .select .ensures .inside
@@ -34,13 +34,14 @@ slice-aggregate-place-near c = near-count (c .before .before .before .before .se
 place-near-requires : tie.Need-place-near-requires Inv-loop μ-loop
 place-near-requires c κs =
     let s = c .before .before .before .before .before .before .select .ensures in
-    let p = c .before .before .before .before .before .before .before .before .before .before .before .before .before .pre in (
-      near-drawable s (p .0),
-      near-reached s (p .1),
-      omega (arith, near-count s, s .few, p .2),
-      still-framed (c .before .before .before .before .loop .inv .same-cells) (c .before .before .before .before .loop .inv .same-unlit) (p .3),
-      omega (arith, c .before .before .before .loop-test .taken, p .5),
-    )
+    let p = c .before .before .before .before .before .before .before .before .before .before .before .before .before .pre in
+    record {
+      drawable = near-drawable s (p .drawable);
+      reached = near-reached s (p .reached);
+      few = omega (arith, near-count s, s .few, p .few);
+      framed = still-framed (c .before .before .before .before .loop .inv .same-cells) (c .before .before .before .before .loop .inv .same-unlit) (p .framed);
+      inside = omega (arith, c .before .before .before .loop-test .taken, p .inside);
+    }
 
 waits-requires : tie.Need-waits-requires Inv-loop μ-loop
 waits-requires c κs = tt
@@ -53,20 +54,20 @@ same-length-2 c = c .before .before .before .before .before .before .place-near 
 
 returns : tie.Need-returns Inv-loop μ-loop
 returns c =
-    band-waits (c .before .before .before .before .before .before .before .before .before .before .before .loop .inv) (c .before .before .before .before .before .before .before .before .before .before .before .before .before .before .before .before .before .before .before .before .pre .3) (omega (arith, c .before .before .before .before .before .before .before .before .before .before .loop-test .taken, c .before .before .before .before .before .before .before .before .before .before .before .before .before .before .before .before .before .before .before .before .pre .5))
-    (near-done (c .before .before .before .before .before .before .before .before .before .before .before .before .before .select .ensures) (c .before .before .before .before .before .before .before .before .before .before .before .before .before .before .before .before .before .before .before .before .pre .1) (c .before .before .before .before .before .before .before .before .before .before .before .loop .inv .above) (c .before .before .before .before .before .before .before .before .before .before .loop-test .taken) (omega (arith, c .before .before .before .before .before .before .before .before .before .before .loop-test .taken, c .before .before .before .before .before .before .before .before .before .before .before .before .before .before .before .before .before .before .before .before .pre .5)) (c .before .before .before .before .before .before .place-near .ensures))
+    band-waits (c .before .before .before .before .before .before .before .before .before .before .before .loop .inv) (c .before .before .before .before .before .before .before .before .before .before .before .before .before .before .before .before .before .before .before .before .pre .framed) (omega (arith, c .before .before .before .before .before .before .before .before .before .before .loop-test .taken, c .before .before .before .before .before .before .before .before .before .before .before .before .before .before .before .before .before .before .before .before .pre .inside))
+    (near-done (c .before .before .before .before .before .before .before .before .before .before .before .before .before .select .ensures) (c .before .before .before .before .before .before .before .before .before .before .before .before .before .before .before .before .before .before .before .before .pre .reached) (c .before .before .before .before .before .before .before .before .before .before .before .loop .inv .above) (c .before .before .before .before .before .before .before .before .before .before .loop-test .taken) (omega (arith, c .before .before .before .before .before .before .before .before .before .before .loop-test .taken, c .before .before .before .before .before .before .before .before .before .before .before .before .before .before .before .before .before .before .before .before .pre .inside)) (c .before .before .before .before .before .before .place-near .ensures))
     (c .before .waits .ensures) (c .if1 .taken)
 
 add-j : tie.Need-add-j Inv-loop μ-loop
-add-j c = omega (arith, c .before .before .before .before .before .before .before .before .before .before .loop-test .taken, c .before .before .before .before .before .before .before .before .before .before .before .before .before .before .before .before .before .before .before .before .pre .5, c .before .before .before .before .before .before .before .before .before .before .before .before .before .before .before .before .before .before .before .before .pre .3 .low)
+add-j c = omega (arith, c .before .before .before .before .before .before .before .before .before .before .loop-test .taken, c .before .before .before .before .before .before .before .before .before .before .before .before .before .before .before .before .before .before .before .before .pre .inside, c .before .before .before .before .before .before .before .before .before .before .before .before .before .before .before .before .before .before .before .before .pre .framed .low)
 
 loop-less : tie.Need-loop-less Inv-loop μ-loop
 loop-less c = omega (arith, c .before .before .before .before .before .before .before .before .before .before .loop-test .taken)
 
 loop-again : tie.Need-loop-again Inv-loop μ-loop
 loop-again c =
-    band-go (c .before .before .before .before .before .before .before .before .before .before .before .loop .inv) (c .before .before .before .before .before .before .before .before .before .before .before .before .before .before .before .before .before .before .before .before .pre .3) (omega (arith, c .before .before .before .before .before .before .before .before .before .before .loop-test .taken, c .before .before .before .before .before .before .before .before .before .before .before .before .before .before .before .before .before .before .before .before .pre .5))
-    (near-done (c .before .before .before .before .before .before .before .before .before .before .before .before .before .select .ensures) (c .before .before .before .before .before .before .before .before .before .before .before .before .before .before .before .before .before .before .before .before .pre .1) (c .before .before .before .before .before .before .before .before .before .before .before .loop .inv .above) (c .before .before .before .before .before .before .before .before .before .before .loop-test .taken) (omega (arith, c .before .before .before .before .before .before .before .before .before .before .loop-test .taken, c .before .before .before .before .before .before .before .before .before .before .before .before .before .before .before .before .before .before .before .before .pre .5)) (c .before .before .before .before .before .before .place-near .ensures))
+    band-go (c .before .before .before .before .before .before .before .before .before .before .before .loop .inv) (c .before .before .before .before .before .before .before .before .before .before .before .before .before .before .before .before .before .before .before .before .pre .framed) (omega (arith, c .before .before .before .before .before .before .before .before .before .before .loop-test .taken, c .before .before .before .before .before .before .before .before .before .before .before .before .before .before .before .before .before .before .before .before .pre .inside))
+    (near-done (c .before .before .before .before .before .before .before .before .before .before .before .before .before .select .ensures) (c .before .before .before .before .before .before .before .before .before .before .before .before .before .before .before .before .before .before .before .before .pre .reached) (c .before .before .before .before .before .before .before .before .before .before .before .loop .inv .above) (c .before .before .before .before .before .before .before .before .before .before .loop-test .taken) (omega (arith, c .before .before .before .before .before .before .before .before .before .before .loop-test .taken, c .before .before .before .before .before .before .before .before .before .before .before .before .before .before .before .before .before .before .before .before .pre .inside)) (c .before .before .before .before .before .before .place-near .ensures))
     (c .before .waits .ensures) (c .if1 .left) (c .before .before .before .before .before .before .before .before .before .before .loop-test .taken) (c .before .before .before .before .before .before .place-near .kept .1 .1 .1 .1 .1 .1 .1 .0) (c .before .before .before .before .before .before .place-near .kept .1 .1 .1 .1 .1 .1 .1 .1 .0)
 
 same-length-3 : tie.Need-same-length-3 Inv-loop μ-loop

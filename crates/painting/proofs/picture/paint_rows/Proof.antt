@@ -1,12 +1,11 @@
 -- `paint_rows` meets its contract: the rows before the band are in their places, and the first patches of the walk are ready.
-use mathlib.Core.Path.{sym, _∙_}
+use mathlib.Core.Path.{sym}
 use Prim.Native.Nat.{_+_, _-_}
 use native.Mathlib.Omega.{arith}
-use borrow.Author.Needs.{needs}
 use lib.ListN.{length}
 use lib.Seq.{length-take-le}
 use Rattle.painting.proofs.RowsPlaced.{still-framed}
-use Rattle.painting.proofs.ReadyWalk.{room-stays, ready-drawable, ready-reached}
+use Rattle.readiness.proofs.ReadyWalk.{room-stays, ready-drawable, ready-reached}
 use Rattle.painting.proofs.Progress.{Progress, progress-start, progress-goes, progress-less, progress-end}
 use Rattle.painting.proofs.picture.paint_rows.Statement.{statement}
 use Rattle.painting.proofs.picture.paint_rows.Tie as tie
@@ -20,10 +19,10 @@ abbrev μ-loop : tie.MeasureT-loop
     (sight .raster .height - from) + (length order - ready)
 
 row-planes-requires : tie.Need-row-planes-requires Inv-loop μ-loop
-row-planes-requires c κs = c .before .before .before .before .before .pre .0 .sight .raster-bounded
+row-planes-requires c κs = c .before .before .before .before .before .pre .paintable .sight .raster-bounded
 
 cast-height : tie.Need-cast-height Inv-loop μ-loop
-cast-height c = omega (arith, c .before .before .before .before .before .before .before .pre .0 .low)
+cast-height c = omega (arith, c .before .before .before .before .before .before .before .pre .paintable .low)
 
 loop-holds : tie.Need-loop-holds Inv-loop μ-loop
 loop-holds c = progress-start
@@ -38,30 +37,32 @@ paint-band-requires : tie.Need-paint-band-requires Inv-loop μ-loop
 paint-band-requires c κs =
     let p = c .before .before .before .before .before .before .before .before .before .before .before .before .before .before .before .pre in
     let v = c .before .before .before .before .before .before .before .loop .inv in
-    let room = room-stays (v .long-edges) (v .long-rows) (p .1) in (
-      ready-drawable (p .0) (v .ready-is),
-      ready-reached (p .0) (v .ready-is) room,
-      omega (arith, length-take-le (c .before .before .before .before .before .before .before .loop .ready) (c .before .before .before .before .before .before .before .before .before .before .before .before .before .before .before .args .order .now) (v .ready-is .most), p .0 .few, v .ready-is .most),
-      still-framed (v .same-cells) (v .same-unlit) (p .2),
-      omega (arith, c .before .before .before .before .before .band-end .ensures .0),
-      c .before .before .before .before .before .band-end .ensures .1,
-    )
+    record {
+      drawable = ready-drawable (p .paintable) (v .ready-is);
+      reached = ready-reached (p .paintable) (v .ready-is) (room-stays (v .long-edges) (v .long-rows) (p .room));
+      few =
+          omega (arith, length-take-le (c .before .before .before .before .before .before .before .loop .ready) (c .before .before .before .before .before .before .before .before .before .before .before .before .before .before .before .args .order .now) (v .ready-is .most), p .paintable .few, v .ready-is .most);
+      framed = still-framed (v .same-cells) (v .same-unlit) (p .framed);
+      ordered = omega (arith, c .before .before .before .before .before .band-end .ensures .0);
+      inside = c .before .before .before .before .before .band-end .ensures .1;
+    }
 
 wanted-requires : tie.Need-wanted-requires Inv-loop μ-loop
-wanted-requires c κs = (c .before .before .before .before .before .before .before .before .before .before .before .before .loop .inv .ready-is .most, c .before .before .before .before .before .before .before .before .before .before .before .before .before .before .before .before .before .before .before .before .pre .0 .few)
+wanted-requires c κs = (c .before .before .before .before .before .before .before .before .before .before .before .before .loop .inv .ready-is .most, c .before .before .before .before .before .before .before .before .before .before .before .before .before .before .before .before .before .before .before .before .pre .paintable .few)
 
 extend-ready-requires : tie.Need-extend-ready-requires Inv-loop μ-loop
 extend-ready-requires c κs =
     let p = c .before .before .before .before .before .before .before .before .before .before .before .before .before .before .before .before .before .before .before .before .before .before .before .pre in
     let v = c .before .before .before .before .before .before .before .before .before .before .before .before .before .before .before .loop .inv in
-    let more = c .before .before .wanted .ensures in (
-      p .0,
-      c .before .before .before .before .before .before .before .before .before .before .before .before .before .before .before .before .before .row-planes .ensures,
-      room-stays (v .long-edges) (v .long-rows) (p .1),
-      v .ready-is,
-      more .0 .0,
-      more .0 .1,
-    )
+    let more = c .before .before .wanted .ensures in
+    record {
+      paintable = p .paintable;
+      planes-of = c .before .before .before .before .before .before .before .before .before .before .before .before .before .before .before .before .before .row-planes .ensures;
+      room = room-stays (v .long-edges) (v .long-rows) (p .room);
+      ready = v .ready-is;
+      ordered = more .0 .0;
+      inside = more .0 .1;
+    }
 
 loop-less : tie.Need-loop-less Inv-loop μ-loop
 loop-less c = progress-less (c .before .before .before .before .before .before .before .before .before .before .before .paint-band .ensures) (c .before .before .before .before .before .before .before .before .before .before .before .before .before .before .before .before .before .band-end .ensures .0) (c .before .before .before .before .before .before .before .before .before .before .before .before .before .before .before .before .before .band-end .ensures .1) (c .before .before .before .before .before .before .before .before .before .before .before .before .before .before .before .before .before .before .before .loop .inv .ready-is .most) (c .before .before .before .before .before .before .wanted .ensures .0) (c .before .before .before .before .before .before .wanted .ensures .1)
@@ -84,7 +85,7 @@ same-length-4 : tie.Need-same-length-4 Inv-loop μ-loop
 same-length-4 c = c .before .loop .inv .same-unlit
 
 returns : tie.Need-returns Inv-loop μ-loop
-returns c = progress-end (c .before .loop .inv) (c .loop-test .left) (c .before .before .before .before .before .before .before .before .before .pre .2)
+returns c = progress-end (c .before .loop .inv) (c .loop-test .left) (c .before .before .before .before .before .before .before .before .before .pre .framed)
 
 pub paint-rows-spec : {M : Type 1} → statement M
 paint-rows-spec =

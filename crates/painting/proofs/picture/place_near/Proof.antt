@@ -9,10 +9,12 @@ slice-aggregate-place-row : tie.Need-slice-aggregate-place-row
 slice-aggregate-place-row c = near-count (c .before .before .select .ensures)
 
 place-row-requires : tie.Need-place-row-requires
-place-row-requires c κs = (near-drawable (c .before .before .before .before .select .ensures) (c .before .before .before .before .before .before .before .before .before .before .before .pre .0), c .before .before .before .before .before .before .before .before .before .before .before .pre .3, c .before .before .before .before .before .before .before .before .before .before .before .pre .4)
+place-row-requires c κs =
+    let p = c .before .before .before .before .before .before .before .before .before .before .before .pre in
+    record { drawable = near-drawable (c .before .before .before .before .select .ensures) (p .drawable); framed = p .framed; inside = p .inside }
 
 returns : tie.Need-returns
-returns c = near-done (c .before .before .before .before .before .before .before .before .before .select .ensures) (c .before .before .before .before .before .before .before .before .before .before .before .before .before .before .before .before .pre .1) (omega arith) (omega arith) (c .before .before .before .before .before .before .before .before .before .before .before .before .before .before .before .before .pre .4) (c .before .before .before .before .place-row .ensures)
+returns c = near-done (c .before .before .before .before .before .before .before .before .before .select .ensures) (c .before .before .before .before .before .before .before .before .before .before .before .before .before .before .before .before .pre .reached) (omega arith) (omega arith) (c .before .before .before .before .before .before .before .before .before .before .before .before .before .before .before .before .pre .inside) (c .before .before .before .before .place-row .ensures)
 
 pub place-near-spec : {M : Type 1} → statement M
 place-near-spec =

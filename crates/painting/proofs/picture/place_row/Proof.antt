@@ -7,19 +7,19 @@ use Rattle.painting.proofs.picture.place_row.Statement.{statement}
 use Rattle.painting.proofs.picture.place_row.Tie as tie
 
 mul-start : tie.Need-mul-start
-mul-start c = omega (arith, cells-fit (c .before .before .before .before .pre .1) (c .before .before .before .before .pre .2))
+mul-start c = omega (arith, cells-fit (c .before .before .before .before .pre .framed) (c .before .before .before .before .pre .inside))
 
 add-end : tie.Need-add-end
-add-end c = omega (arith, cells-fit (c .before .before .before .before .pre .1) (c .before .before .before .before .pre .2))
+add-end c = omega (arith, cells-fit (c .before .before .before .before .pre .framed) (c .before .before .before .before .pre .inside))
 
 mul-paint-row : tie.Need-mul-paint-row
-mul-paint-row c = omega (arith, cells-fit (c .before .before .before .before .pre .1) (c .before .before .before .before .pre .2))
+mul-paint-row c = omega (arith, cells-fit (c .before .before .before .before .pre .framed) (c .before .before .before .before .pre .inside))
 
 part-paint-row-end : tie.Need-part-paint-row-end
-part-paint-row-end c = cells-fit (c .before .before .before .before .pre .1) (c .before .before .before .before .pre .2)
+part-paint-row-end c = cells-fit (c .before .before .before .before .pre .framed) (c .before .before .before .before .pre .inside)
 
 returns : tie.Need-returns
-returns c = row-done (c .before .before .before .before .before .before .before .before .before .before .before .before .pre .1) (c .before .before .before .before .before .before .before .before .before .before .before .before .pre .2) (c .before .before .before .before .before .before .paint-row .ensures) (c .before .before .put-row .ensures) refl
+returns c = row-done (c .before .before .before .before .before .before .before .before .before .before .before .before .pre .framed) (c .before .before .before .before .before .before .before .before .before .before .before .before .pre .inside) (c .before .before .before .before .before .before .paint-row .ensures) (c .before .before .put-row .ensures) refl
 
 pub place-row-spec : {M : Type 1} → statement M
 place-row-spec =

@@ -1,6 +1,6 @@
 -- `lay_on` meets its contract: the columns that the span and the segment share are painted and leave the row, if there are any.
 use borrow.Author.Needs.{needs}
-use Rattle.rows.proofs.Stepping.{overlaps, steps-met, steps-missed}
+use Rattle.rows.proofs.Stepping.{overlaps, run-placed, steps-met, steps-missed}
 use Rattle.rows.proofs.laying.lay_on.Statement.{statement}
 use Rattle.rows.proofs.laying.lay_on.Tie as tie
 
@@ -26,7 +26,13 @@ smaller-requires : tie.Need-smaller-requires
 smaller-requires c κs = search needs
 
 paint-requires : tie.Need-paint-requires
-paint-requires c κs = search needs
+paint-requires c κs =
+    let l = c .before in
+    let d = l .before .before .before in
+    let e = d .before in
+    let p = e .before .before .before in
+    run-placed (p .before .before .before .pre) (p .pair-at .ensures) (e .action-for .ensures) (l .larger .ensures) (c .smaller .ensures)
+    (l .before .before .if1 .taken)
 
 keep-requires : tie.Need-keep-requires
 keep-requires c κs =

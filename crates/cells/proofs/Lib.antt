@@ -1,0 +1,2 @@
+-- This serves the functions' proofs.
+mod Painting

@@ -1,0 +1,2 @@
+-- What the questions tell.
+pub mod Passed

@@ -1,0 +1,3 @@
+-- These serve the functions' proofs.
+mod Table
+mod Actions

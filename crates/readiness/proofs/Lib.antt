@@ -1,0 +1,2 @@
+-- The ready part of a walk grows.
+pub mod ReadyWalk

@@ -1,0 +1,128 @@
+-- The ready part of a walk grows patch by patch.
+use mathlib.Core.Path.{_≡_, refl, sym, subst, _∙_}
+use mathlib.Core.List.{List}
+use Prim.Native.Nat.{ℕ, _+_, _*_, _≤_, _<_}
+use native.Mathlib.Decide.{ℕ-discrete}
+use native.Mathlib.Omega.{arith}
+use lib.IntN.{ℤ}
+use lib.ListN.{length, getD, take}
+use lib.Seq.{length-take-le, getD-take}
+use borrow.Author.Count.{below-none, below-more}
+use Rattle.model.specs.Format.{decode, patchNumbered}
+use Rattle.geometry.specs.Machine.{vecOf}
+use Rattle.format.specs.declared.layout.Layout.{Layout}
+use Rattle.format.specs.Layout.{patchNumber}
+use Rattle.reach.specs.declared.rows.Planes.{Planes}
+use Rattle.reach.specs.Reach.{PlanesOf, Sighting, Reach}
+use Rattle.reach.proofs.ProperPatches.{numbered-proper}
+use Rattle.edges.specs.declared.Sight.{Sight}
+use Rattle.edges.proofs.Runs.{runs-apart, edges-stay}
+use Rattle.scanline.specs.Laying.{PatchDrawable, Drawable}
+use Rattle.readiness.specs.Ready.{Paintable, Room, ReachKnown, Reached, PatchReady, ReadyUpTo}
+
+pub ready-none :
+    (bytes : List ℕ) (l : Layout) (s : Sight) (order : List ℕ) (edges : List ℤ) (rows : List ℕ) → ReadyUpTo bytes l s order edges rows 0
+ready-none bytes l s order edges rows = record { most = omega arith; drawable = below-none _; reach = below-none _ }
+
+pub room-stays :
+    {l : Layout} {edges edges′ : List ℤ} {rows rows′ : List ℕ} → length edges′ ≡ length edges → length rows′ ≡ length rows →
+    Room l edges rows → Room l edges′ rows′
+room-stays e f room = record { edges-room = omega (arith, room .edges-room); rows-room = omega (arith, room .rows-room) }
+
+module _ {bytes : List ℕ} {l : Layout} {s : Sight} {order : List ℕ} (paintable : Paintable bytes l s order) where
+  pub sighting : {n : Planes} → PlanesOf (s .raster) n → (k : ℕ) → k < length order → Sighting bytes l (getD order k 0) (s .eye) (s .raster) n
+  sighting planes k h =
+      record {
+        scene = paintable .checked;
+        number = paintable .numbers k h;
+        proper = numbered-proper (paintable .checked) (paintable .proper) (getD order k 0) (paintable .numbers k h);
+        eye-bounded = paintable .sight .eye-bounded;
+        planes-of = planes;
+        height-limit = paintable .low;
+      }
+
+  module _ {edges : List ℤ} {rows : List ℕ} {n : ℕ} (ready : ReadyUpTo bytes l s order edges rows n) where
+    -- what holds of the first n patches holds of the part
+    part-of : (P : ℕ → Type 0) → ((k : ℕ) → k < n → P (getD order k 0)) → (k : ℕ) → k < length (take n order) → P (getD (take n order) k 0)
+    part-of P f k h =
+        let b : k < n = omega (arith, length-take-le n order (ready .most)) in
+        subst P (sym (getD-take n order k 0 b)) (f k b)
+
+    pub ready-drawable : Drawable bytes l s edges (take n order)
+    ready-drawable = record { checked = paintable .checked; each = part-of (PatchDrawable bytes l s edges) (ready .drawable) }
+
+    pub ready-reached : Room l edges rows → Reached bytes s rows (take n order)
+    ready-reached room =
+        record {
+          inside =
+              part-of (λ (p : ℕ). 2 * p + 2 ≤ length rows)
+              (λ k b. omega (arith, paintable .numbers k (omega (arith, ready .most)), room .rows-room));
+          each = part-of (ReachKnown bytes s rows) (ready .reach);
+        }
+
+    pub ready-more :
+        {edges′ : List ℤ} {rows′ : List ℕ} → n < length order → PatchReady bytes l s (getD order n 0) edges edges′ rows rows′ →
+        ReadyUpTo bytes l s order edges′ rows′ (n + 1)
+    ready-more {edges′} {rows′} h new =
+        record {
+          most = omega arith;
+          drawable = below-more _ n (λ k b. drawn k b (ℕ-discrete (getD order k 0) m)) drawn-now;
+          reach = below-more _ n (λ k b. reached k b (ℕ-discrete (getD order k 0) m)) reached-now;
+        }
+      where
+        m : ℕ
+        m = getD order n 0
+
+        drawn-now : PatchDrawable bytes l s edges′ m
+        drawn-now = record { numbered = paintable .numbers n h; edges = new .edges-are .edges }
+
+        reached-now : ReachKnown bytes s rows′ m
+        reached-now = subst (Reach (vecOf (s .eye)) (s .raster) (patchNumbered (decode bytes) m)) (sym (new .rows-are .here)) (new .reach)
+
+        drawn : (k : ℕ) → k < n → Dec (getD order k 0 ≡ m) → PatchDrawable bytes l s edges′ (getD order k 0)
+        drawn k b (yes e) = subst (PatchDrawable bytes l s edges′) (sym e) drawn-now
+        drawn k b (no f) =
+            let old = ready .drawable k b in
+            record {
+              numbered = old .numbered;
+              edges =
+                  edges-stay (patchNumber bytes l (getD order k 0) .cornerRun) (patchNumber bytes l m .cornerRun)
+                  (runs-apart (paintable .checked) (getD order k 0) m f (old .numbered) (paintable .numbers n h)) (new .edges-are) (old .edges);
+            }
+
+        reached : (k : ℕ) → k < n → Dec (getD order k 0 ≡ m) → ReachKnown bytes s rows′ (getD order k 0)
+        reached k b (yes e) = subst (ReachKnown bytes s rows′) (sym e) reached-now
+        reached k b (no f) =
+            subst (Reach (vecOf (s .eye)) (s .raster) (patchNumbered (decode bytes) (getD order k 0))) (sym (new .rows-are .others (getD order k 0) f))
+            (ready .reach k b)
+
+-- while patches are made ready: the first k are, up to number `to`
+pub record Extending
+    (bytes : List ℕ) (l : Layout) (s : Sight) (order : List ℕ) (edges : List ℤ) (rows : List ℕ) (edges′ : List ℤ) (rows′ : List ℕ) (to k : ℕ) : Type 0 where
+  pub below : k ≤ to
+  pub long-edges : length edges′ ≡ length edges
+  pub long-rows : length rows′ ≡ length rows
+  pub ready : ReadyUpTo bytes l s order edges′ rows′ k
+
+module _ {bytes : List ℕ} {l : Layout} {s : Sight} {order : List ℕ} {edges : List ℤ} {rows : List ℕ} {to : ℕ} where
+  pub extending-none : {k : ℕ} → k ≤ to → ReadyUpTo bytes l s order edges rows k → Extending bytes l s order edges rows edges rows to k
+  extending-none h ready = record { below = h; long-edges = refl; long-rows = refl; ready = ready }
+
+  pub extending-more :
+      {edges′ edges″ : List ℤ} {rows′ rows″ : List ℕ} {k : ℕ} → Paintable bytes l s order → Extending bytes l s order edges rows edges′ rows′ to k →
+      k < to → to ≤ length order → PatchReady bytes l s (getD order k 0) edges′ edges″ rows′ rows″ →
+      Extending bytes l s order edges rows edges″ rows″ to (k + 1)
+  extending-more p e h room new =
+      record {
+        below = omega arith;
+        long-edges = new .edges-are .long ∙ e .long-edges;
+        long-rows = new .rows-are .long ∙ e .long-rows;
+        ready = ready-more p (e .ready) (omega arith) new;
+      }
+
+  pub extending-all :
+      {edges′ : List ℤ} {rows′ : List ℕ} {k : ℕ} → Extending bytes l s order edges rows edges′ rows′ to k → to ≤ k →
+      ReadyUpTo bytes l s order edges′ rows′ to
+  extending-all {edges′} {rows′} {k} e h =
+      let same : k ≡ to = omega (arith, e .below) in
+      subst (ReadyUpTo bytes l s order edges′ rows′) same (e .ready)

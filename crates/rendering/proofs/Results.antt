@@ -1,0 +1,77 @@
+-- The painted rows show the closest panels: the walk is gone.
+use mathlib.Core.Path.{_≡_, sym, _∙_, ap, subst, fun-ext}
+use mathlib.Core.Bool.{Bool}
+use mathlib.Core.List.{List, map, flatten, List·Memᴰ}
+use Prim.Native.Nat.{ℕ, _<_, _≤_}
+use lib.Dec.{eqb}
+use lib.ListN.{length-map}
+use Rattle.model.specs.Lists.{range}
+use Rattle.model.specs.Vector.{Vec}
+use Rattle.model.specs.Patch.{Patch}
+use Rattle.model.specs.Ray.{closest}
+use Rattle.model.specs.Tree.{order}
+use Rattle.model.specs.Format.{Scene, decode, patchTable, patchOf, patchNumbered, numberTree}
+use Rattle.model.specs.Row.{rowOf}
+use Rattle.model.specs.Picture.{cells, picture, cellPanel, unlitLists}
+use Rattle.model.specs.Questions.{patchRunsFollow, cornerRunsFollow, runsProper, unlitAfter}
+use Rattle.model.proofs.Tests.{both}
+use Rattle.model.proofs.Ranges.{of-map, getD-member}
+use Rattle.model.specs.Accepted.{AcceptedScene}
+use Rattle.walk.proofs.Whole.{walk-numbers}
+use Rattle.walk.proofs.Seen.{accepted, first-met-closest}
+use Rattle.scanline.specs.Shown.{shownAfter}
+use Rattle.painting.specs.Framing.{RowsPainted}
+use Rattle.rendering.proofs.PanelNumbers.{panel-positive}
+use Rattle.scanline.proofs.FirstShown.{unlit-shows-0}
+
+-- ---- the walk's patches
+
+-- the patches of the walk, front to back
+abbrev pub walked : List ℕ → Vec → List Patch
+walked bytes eye = map (patchNumbered (decode bytes)) (order eye (numberTree (decode bytes)))
+
+module _ (bytes : List ℕ) (h : AcceptedScene bytes) (eye : Vec) where
+  -- every panel of the walk has a number above 0
+  walked-positive : (p : Patch) → List·Memᴰ p (walked bytes eye) → 1 ≤ p .panel
+  unfolding runsProper patchNumbered patchTable
+  walked-positive =
+      let s : Scene = decode bytes in
+      of-map (λ (p : Patch). 1 ≤ p .panel) (patchNumbered s) (order eye (numberTree s))
+      (λ k m.
+      panel-positive s (h .panels) (patchNumbered s k)
+      (getD-member (patchTable s) k _
+      (subst (λ (n : ℕ). k < n) (sym (length-map (s .patches) (patchOf (s .corners))))
+      (walk-numbers s (accepted h .few-nodes) (h .children)
+      (both (patchRunsFollow s) (cornerRunsFollow s) .0 (h .runs) .0) eye k m))))
+
+  -- a column shows its closest panel
+  shows-closest : (ray : ℕ → Vec) (i : ℕ) → shownAfter eye ray (walked bytes eye) i ≡ closest eye (ray i) (patchTable (decode bytes))
+  unfolding shownAfter
+  shows-closest ray i = first-met-closest (decode bytes) (accepted h) eye (ray i)
+
+  unlit-closest :
+      (ray : ℕ → Vec) (i : ℕ) →
+      unlitAfter eye ray (walked bytes eye) i ≡ eqb (closest eye (ray i) (patchTable (decode bytes))) 0
+  unlit-closest ray i =
+      sym (unlit-shows-0 eye ray (walked bytes eye) walked-positive i) ∙ ap (λ (n : ℕ). eqb n 0) (shows-closest ray i)
+
+-- The painted rows of an accepted scene are its closest panels.
+module _
+    {bytes : List ℕ} (h : AcceptedScene bytes) (eye : Vec) (ray : ℕ → ℕ → Vec) {width height : ℕ} {picture′ unlit′ : List ℕ}
+    (painted : RowsPainted eye ray (walked bytes eye) width height picture′ unlit′)
+  where
+    pub painted-picture : picture′ ≡ picture eye width height ray (patchTable (decode bytes))
+    unfolding picture cells
+    painted-picture =
+        painted .picture-is
+        ∙ ap
+        (λ (f : ℕ → ℕ → ℕ). flatten (map (λ (j : ℕ). map (f j) (range 0 width)) (range 0 height)))
+        (fun-ext (λ j. fun-ext (λ i. shows-closest bytes h eye (λ (k : ℕ). ray k j) i)))
+
+    pub painted-unlit : unlit′ ≡ unlitLists width height (cellPanel eye ray (patchTable (decode bytes)))
+    unfolding unlitLists
+    painted-unlit =
+        painted .unlit-is
+        ∙ ap
+        (λ (f : ℕ → ℕ → Bool). flatten (map (λ (j : ℕ). rowOf width (f j)) (range 0 height)))
+        (fun-ext (λ j. fun-ext (λ i. unlit-closest bytes h eye (λ (k : ℕ). ray k j) i)))

@@ -1,0 +1,107 @@
+-- What an accepted scene gives the walk and the painting.
+use mathlib.Core.Path.{_≡_, sym, _∙_, ap, subst, subst₂}
+use mathlib.Core.List.{List}
+use Prim.Native.Nat.{ℕ, _≤_, _<_}
+use native.Mathlib.Omega.{arith}
+use lib.Dec.{T}
+use lib.ListN.{length, getD, take, drop}
+use lib.Seq.{take-at}
+use Rattle.model.specs.Vector.{Vec}
+use Rattle.model.specs.Patch.{Patch}
+use Rattle.model.specs.Tree.{order}
+use Rattle.model.specs.Window.{direction}
+use Rattle.model.specs.View.{Camera}
+use Rattle.model.specs.Format.{decode, numberTree}
+use Rattle.model.specs.Questions.{patchRunsFollow, cornerRunsFollow, runsProper}
+use Rattle.model.proofs.Tests.{both, true-of}
+use Rattle.model.proofs.Ranges.{getD-member}
+use Rattle.model.specs.Accepted.{AcceptedScene}
+use Rattle.format.specs.declared.layout.Layout.{Layout}
+use Rattle.format.specs.Layout.{LaidOut}
+use Rattle.format.proofs.Decoded.{patch-count}
+use Rattle.gate.proofs.Passed.{checked}
+use Rattle.checked.specs.Checked.{Checked}
+use Rattle.walk.specs.Walked.{WholeWalk}
+use Rattle.walk.proofs.Whole.{walk-length, walk-numbers}
+use Rattle.walk.proofs.Seen.{accepted}
+use Rattle.geometry.specs.declared.Raster.{Raster}
+use Rattle.geometry.specs.Raster.{rayAt}
+use Rattle.edges.specs.declared.Sight.{Sight}
+use Rattle.edges.specs.Edges.{SightBounded}
+use Rattle.scanline.specs.Laying.{walkOf}
+use Rattle.readiness.specs.Ready.{Paintable}
+use Rattle.painting.specs.Framing.{Framed, RowsPainted}
+use Rattle.rendering.specs.Painted.{RaysOf, Painted}
+use Rattle.rendering.proofs.Results.{walked, painted-picture, painted-unlit}
+
+pub walkable : {bytes : List ℕ} {l : Layout} → AcceptedScene bytes → LaidOut bytes l → Checked bytes l
+walkable h laid = checked laid (true-of (h .coordinates)) (true-of (h .children)) (true-of (h .runs))
+
+-- rows painted along a raster with a camera's rays are painted along the camera's directions
+as-seen :
+    {eye : Vec} {walk : List Patch} {a : Camera} {r : Raster} {cells unlit : List ℕ} → RaysOf a r →
+    RowsPainted eye (rayAt r) walk (r .width) (r .height) cells unlit →
+    RowsPainted eye (direction (a .window)) walk (a .window .width) (a .window .height) cells unlit
+as-seen {eye} {walk} {a} {r} {cells} {unlit} rays seen =
+    subst (λ (d : ℕ → ℕ → Vec). RowsPainted eye d walk (a .window .width) (a .window .height) cells unlit) (λ t i j. rays .rays i j t)
+    (subst₂ (λ (w h : ℕ). RowsPainted eye (rayAt r) walk w h cells unlit) (rays .columns) (rays .rows) seen)
+
+pub raster-framed :
+    {a : Camera} {r : Raster} {picture unlit : List ℕ} → RaysOf a r → Framed (a .window .width) (a .window .height) picture unlit →
+    Framed (r .width) (r .height) picture unlit
+raster-framed {picture = picture} {unlit} rays framed =
+    subst₂ (λ (w h : ℕ). Framed w h picture unlit) (sym (rays .columns)) (sym (rays .rows)) framed
+
+module _ {bytes : List ℕ} {l : Layout} {eye : Vec} {before after : List ℕ} {n : ℕ}
+    (h : AcceptedScene bytes)
+    (laid : LaidOut bytes l)
+    (w : WholeWalk bytes l eye before after n)
+  where
+    runs-follow : T (patchRunsFollow (decode bytes))
+    unfolding runsProper
+    runs-follow = both (patchRunsFollow (decode bytes)) (cornerRunsFollow (decode bytes)) .0 (h .runs) .0
+
+    whole : length (order eye (numberTree (decode bytes))) ≡ n
+    whole = walk-length (decode bytes) (accepted h .few-nodes) (h .children) runs-follow eye ∙ patch-count laid ∙ sym (w .all)
+
+    -- the walk is the front of the list that it is written to
+    walk-front : take n after ≡ order eye (numberTree (decode bytes))
+    walk-front = ap (take n) (w .holds) ∙ take-at (order eye (numberTree (decode bytes))) (drop n before) n whole
+
+    pub walk-count : n ≡ length (take n after)
+    walk-count = sym (ap length walk-front ∙ whole)
+
+    walk-patches : (k : ℕ) → k < length (take n after) → getD (take n after) k 0 < l .patches
+    walk-patches =
+        subst (λ (ns : List ℕ). (k : ℕ) → k < length ns → getD ns k 0 < l .patches) (sym walk-front)
+        (λ k b.
+        let m = walk-numbers (decode bytes) (accepted h .few-nodes) (h .children) runs-follow eye
+        (getD (order eye (numberTree (decode bytes))) k 0)
+        (getD-member (order eye (numberTree (decode bytes))) k 0 b) in
+        subst (λ (c : ℕ). getD (order eye (numberTree (decode bytes))) k 0 < c) (patch-count laid) m)
+
+    -- the scene and its walk can be painted as they are seen
+    pub walk-paintable : {s : Sight} → SightBounded s → s .raster .height ≤ 1024 → Paintable bytes l s (take n after)
+    walk-paintable bounded low =
+        record {
+          checked = walkable h laid;
+          proper = h .patches;
+          sight = bounded;
+          low = low;
+          numbers = walk-patches;
+          few = omega (arith, walk-count, w .all, laid .few-patches);
+        }
+
+    -- what the rows show is the result
+    pub painted-all :
+        {a : Camera} {r : Raster} {cells unlit : List ℕ} → RaysOf a r →
+        RowsPainted eye (rayAt r) (walkOf bytes (take n after)) (r .width) (r .height) cells unlit →
+        Painted bytes (record { eye = eye; camera = a }) cells unlit
+    painted-all {a} {r} {cells} {unlit} rays seen =
+        let p : RowsPainted eye (direction (a .window)) (walked bytes eye) (a .window .width) (a .window .height) cells unlit =
+        subst (λ (o : List ℕ). RowsPainted eye (direction (a .window)) (walkOf bytes o) (a .window .width) (a .window .height) cells unlit)
+        walk-front (as-seen rays seen) in
+        record {
+          cells-are = painted-picture h eye (direction (a .window)) p;
+          unlit-are = painted-unlit h eye (direction (a .window)) p;
+        }

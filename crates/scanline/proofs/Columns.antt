@@ -1,0 +1,100 @@
+-- Painting over a set of columns of a row: a span's, and those whose rays meet a patch.
+use mathlib.Core.Path.{_≡_, refl, sym, ap, _∙_}
+use mathlib.Core.Logic.{_⊎_, inl, inr, ⊎-elim}
+use mathlib.Core.Bool.{Bool, true, false, not, _&&_, _||_, and-true, and-false, false≢true}
+use mathlib.Core.List.{List}
+use Prim.Native.Nat.{ℕ, zero, suc, _+_, _-_, _≤_, _<_}
+use native.Mathlib.Omega.{arith}
+use borrow.Author.Tests.{lt-leb, le-leb, lt-ltb, le-ltb}
+use lib.Dec.{leb}
+use lib.ListN.{length}
+use Rattle.model.specs.Lists.{any, range}
+use Rattle.model.specs.Row.{rowOf, afterSpan}
+use Rattle.segments.specs.Columns.{inSpan, allLit}
+use Rattle.rows.specs.Span.{Lays, Reports}
+use Rattle.segments.proofs.Rows.{row-congr}
+use Rattle.segments.proofs.Painting.{painted-congr, painted-none}
+use Rattle.spans.specs.declared.Span.{Span}
+use Rattle.spans.specs.Span.{covers}
+use Rattle.model.proofs.Tests.{lt-or-ge}
+use Rattle.scanline.specs.Laying.{ColumnsPainted, ColumnsLaid}
+
+-- where no column is unlit, each is lit
+none-from : (unlit : ℕ → Bool) (a n : ℕ) → not (any unlit (range a n)) ≡ true → (i : ℕ) → a ≤ i → i < a + n → unlit i ≡ false
+none-from unlit a zero e i h k = absurd (omega arith)
+none-from unlit a (suc n) e i h k = go (unlit a) refl e (λ f. none-from unlit (suc a) n f i) (lt-or-ge a i)
+  where
+    go : (b : Bool) → unlit a ≡ b → not (b || any unlit (range (suc a) n)) ≡ true
+        → (not (any unlit (range (suc a) n)) ≡ true → suc a ≤ i → i < suc a + n → unlit i ≡ false)
+        → (a < i) ⊎ (i ≤ a) → unlit i ≡ false
+    go true u f rest place = absurd (false≢true f)
+    go false u f rest (inl l) = rest f l (omega arith)
+    go false u f rest (inr l) = ap unlit (omega arith) ∙ u
+
+pub each-lit : (width : ℕ) (unlit : ℕ → Bool) → allLit width unlit ≡ true → (i : ℕ) → i < width → unlit i ≡ false
+unfolding allLit
+each-lit width unlit e i h = none-from unlit 0 width e i (omega arith) (omega arith)
+
+-- a set of columns may be said in another way
+pub columns-congr :
+    {columns columns′ : ℕ → Bool} {panel : ℕ} {row cells row′ cells′ : List ℕ} {full : Bool} →
+    ((i : ℕ) → i < length cells → columns i ≡ columns′ i) →
+    ColumnsLaid columns panel row cells row′ cells′ full →
+    ColumnsLaid columns′ panel row cells row′ cells′ full
+columns-congr {columns} {columns′} {panel} {row} {cells} {row′} {cells′} {full} same h =
+    record { laid = λ unlit e. go unlit (h .laid unlit e) }
+  where
+    go : (unlit : ℕ → Bool) → ColumnsPainted columns panel unlit cells row′ cells′ full
+        → ColumnsPainted columns′ panel unlit cells row′ cells′ full
+    go unlit p =
+        record {
+          row-is =
+              p .row-is ∙ row-congr (length cells) _ _ (λ i l. ap (λ (b : Bool). unlit i && not b) (same i l));
+          cells-are = p .cells-are ∙ painted-congr _ _ panel cells (λ i l. ap (λ (b : Bool). unlit i && b) (same i l));
+          full-says = λ t i l. ap (λ (b : Bool). unlit i && not b) (sym (same i l)) ∙ p .full-says t i l;
+        }
+
+-- the columns of a span, whose last one is before its end
+up-to-end : (s : Span) (i : ℕ) → s .first < s .end → inSpan (s .first) (s .end - 1) i ≡ covers s i
+up-to-end s i h =
+    ⊎-elim
+    (λ (l : i < s .end). rw (lt-ltb i (s .end) l, le-leb i (s .end - 1) (omega arith)))
+    (λ (l : s .end ≤ i). rw (le-ltb i (s .end) l, lt-leb i (s .end - 1) (omega arith)))
+    (lt-or-ge i (s .end))
+
+outside : (s : Span) (i : ℕ) → s .end ≤ s .first → covers s i ≡ false
+outside s i h =
+    ⊎-elim
+    (λ (l : i < s .end). rw (lt-leb (s .first) i (omega arith)))
+    (λ (l : s .end ≤ i). rw (le-ltb i (s .end) l) (and-false (leb (s .first) i)))
+    (lt-or-ge i (s .end))
+
+pub span-laid :
+    {s : Span} {panel : ℕ} {row cells row′ cells′ : List ℕ} {full : Bool} →
+    s .first < s .end →
+    ((unlit : ℕ → Bool) → row ≡ rowOf (length cells) unlit → Lays unlit (s .first) (s .end - 1) panel cells row′ cells′) →
+    ((unlit : ℕ → Bool) → row ≡ rowOf (length cells) unlit → Reports unlit (s .first) (s .end - 1) (length cells) full) →
+    ColumnsLaid (covers s) panel row cells row′ cells′ full
+span-laid {s} {panel} {row} {cells} {row′} {cells′} {full} h lays reports =
+    columns-congr {columns = inSpan (s .first) (s .end - 1)} (λ i l. up-to-end s i h)
+    (record {
+      laid = λ unlit e.
+          record {
+            row-is = lays unlit e .row-is;
+            cells-are = lays unlit e .cells-are;
+            full-says = λ t. each-lit (length cells) (afterSpan unlit (s .first) (s .end - 1)) (sym (reports unlit e .full-is) ∙ t);
+          };
+    })
+
+pub span-missed :
+    {s : Span} {panel : ℕ} {row cells : List ℕ} → s .end ≤ s .first → ColumnsLaid (covers s) panel row cells row cells false
+span-missed {s} {panel} {row} {cells} h =
+    columns-congr {columns = λ (i : ℕ). false} (λ i l. sym (outside s i h))
+    (record {
+      laid = λ unlit e.
+          record {
+            row-is = e ∙ row-congr (length cells) _ _ (λ i l. sym (and-true (unlit i)));
+            cells-are = sym (painted-none _ panel cells (λ i l. and-false (unlit i)));
+            full-says = λ t. absurd (false≢true t);
+          };
+    })

@@ -1,0 +1,50 @@
+-- Laying a patch's span in a row is painting over the columns whose rays meet the patch.
+use mathlib.Core.Path.{_≡_, sym, subst, _∙_}
+use mathlib.Core.Bool.{Bool}
+use mathlib.Core.List.{List}
+use Prim.Native.Nat.{ℕ, _<_}
+use native.Mathlib.Omega.{arith}
+use borrow.Author.Tests.{lt-ltb}
+use lib.IntN.{ℤ}
+use lib.ListN.{length}
+use Rattle.model.specs.Ray.{met}
+use Rattle.model.specs.Format.{Run, decode, patchNumbered}
+use Rattle.geometry.specs.Machine.{vecOf}
+use Rattle.geometry.specs.Raster.{rayAt}
+use Rattle.format.specs.declared.layout.Layout.{Layout}
+use Rattle.format.specs.declared.records.PatchRecord.{PatchRecord}
+use Rattle.format.specs.Machine.{runOf}
+use Rattle.checked.specs.Checked.{PatchRecordIs}
+use Rattle.spans.specs.declared.Span.{Span}
+use Rattle.spans.specs.Span.{covers}
+use Rattle.spans.specs.Row.{functionsIn, FunctionRun, RowSpan}
+use Rattle.edges.specs.declared.Sight.{Sight}
+use Rattle.edges.specs.Edges.{EdgesAt}
+use Rattle.edges.proofs.Meeting.{met-seen}
+use Rattle.scanline.specs.Laying.{PatchDrawable, ColumnsLaid, PatchLaid}
+use Rattle.scanline.proofs.Columns.{columns-congr}
+
+module _
+    {bytes : List ℕ} {l : Layout} {s : Sight} {table : List ℤ} {k : ℕ} (drawable : PatchDrawable bytes l s table k)
+    {p : PatchRecord} (is : PatchRecordIs bytes l k p)
+  where
+    edges-read : EdgesAt s (patchNumbered (decode bytes) k) (runOf (p .corners)) table
+    edges-read = subst (λ (run : Run). EdgesAt s (patchNumbered (decode bytes) k) run table) (sym (is .corners .value)) (drawable .edges)
+
+    pub edge-run : FunctionRun table (p .corners .first) (p .corners .count)
+    edge-run = edges-read .bounded
+
+    -- what laying its span leaves is what laying the patch leaves
+    pub patch-laid :
+        (j : ℕ) {row cells row′ cells′ : List ℕ} {full : Bool} {r : Span} →
+        RowSpan (functionsIn table (p .corners .first) (p .corners .count)) j (length cells) r →
+        ColumnsLaid (covers r) (p .panel) row cells row′ cells′ full →
+        PatchLaid (vecOf (s .eye)) (λ (i : ℕ). rayAt (s .raster) i j) (patchNumbered (decode bytes) k) row cells row′ cells′ full
+    patch-laid j {row} {cells} {row′} {cells′} {full} {r} h laid =
+        subst
+        (λ (n : ℕ).
+        ColumnsLaid (λ (i : ℕ). met (vecOf (s .eye)) (rayAt (s .raster) i j) (patchNumbered (decode bytes) k)) n row cells row′ cells′ full)
+        (is .panel-is) (columns-congr columns laid)
+      where
+        columns : (i : ℕ) → i < length cells → covers r i ≡ met (vecOf (s .eye)) (rayAt (s .raster) i j) (patchNumbered (decode bytes) k)
+        columns i b = h .exact i ∙ rw (lt-ltb i (length cells) b) (met-seen edges-read (omega (arith, is .corners .three)) i j)

@@ -1,0 +1,133 @@
+-- A row painted patch after patch: after each patch of the walk it is what the patches so far leave.
+use mathlib.Core.Path.{_≡_, refl, sym, ap, subst, _∙_}
+use mathlib.Core.Bool.{Bool, true, false, cond, _&&_}
+use mathlib.Core.List.{List, [], _∷_, _++_, map, map-append}
+use Prim.Native.Nat.{ℕ, _+_, _≤_, _<_}
+use native.Mathlib.Numerals.{add-one}
+use native.Mathlib.Omega.{arith}
+use lib.ListN.{length, getD, take, drop, replicate, take-append-drop}
+use lib.Seq.{ext-getD, take-suc, take-all}
+use Rattle.model.specs.Vector.{Vec}
+use Rattle.model.specs.Patch.{Patch}
+use Rattle.model.specs.Ray.{met}
+use Rattle.model.specs.Row.{rowOf}
+use Rattle.model.specs.Questions.{unlitAfter}
+use Rattle.format.proofs.Tables.{length-table, table-at, same-table}
+use Rattle.rows.specs.Span.{Row}
+use Rattle.segments.proofs.Rows.{row-congr}
+use Rattle.segments.proofs.Painting.{painted-length, painted-at}
+use Rattle.scanline.specs.Shown.{shownAfter, RowPainted}
+use Rattle.scanline.specs.Laying.{ColumnsPainted, PatchLaid}
+use Rattle.scanline.proofs.Clearing.{zero-table}
+use Rattle.scanline.proofs.FirstShown.{unlit-first, shown-first, unlit-next, shown-next, unlit-stays, shown-stays}
+
+module _ (eye : Vec) (ray : ℕ → Vec) (width : ℕ) where
+  none-painted : {cells row : List ℕ} → cells ≡ replicate width 0 → row ≡ rowOf width (λ (i : ℕ). true) → RowPainted eye ray [] width cells row
+  none-painted e f =
+      record {
+        cells-are =
+            e ∙ sym (zero-table 0 width) ∙ same-table (λ (k : ℕ). 0) (shownAfter eye ray []) 0 0 width (λ k h. sym (shown-first eye ray (0 + k)));
+        row-is = f ∙ row-congr width _ _ (λ i h. sym (unlit-first eye ray i));
+      }
+
+  module _ (done : List Patch) (p : Patch) {cells row cells′ row′ : List ℕ} {full : Bool} where
+    one-more :
+        ColumnsPainted (λ (i : ℕ). met eye (ray i) p) (p .panel) (unlitAfter eye ray done) cells row′ cells′ full →
+        RowPainted eye ray done width cells row → length cells ≡ width →
+        RowPainted eye ray (done ++ p ∷ []) width cells′ row′
+    one-more next so-far e =
+        record {
+          cells-are =
+              next .cells-are
+              ∙ ext-getD 0 _ _ (painted-length _ (p .panel) cells ∙ e ∙ sym (length-table _ 0 width))
+              (λ i h.
+              let l : i < length cells = omega (arith, painted-length (λ (i : ℕ). unlitAfter eye ray done i && met eye (ray i) p) (p .panel) cells) in
+              let w : i < width = omega arith in
+              painted-at _ (p .panel) cells i l
+              ∙ ap (cond (unlitAfter eye ray done i && met eye (ray i) p) (p .panel))
+              (ap (λ (cs : List ℕ). getD cs i 0) (so-far .cells-are) ∙ table-at (shownAfter eye ray done) width i 0 w)
+              ∙ sym (shown-next eye ray done p i)
+              ∙ sym (table-at (shownAfter eye ray (done ++ p ∷ [])) width i 0 w));
+          row-is =
+              next .row-is
+              ∙ rw e (row-congr width _ _ (λ i h. sym (unlit-next eye ray done p i)));
+        }
+
+  -- a full row is what the whole walk leaves
+  stays :
+      (done rest : List Patch) {cells row : List ℕ} → ((i : ℕ) → i < width → unlitAfter eye ray done i ≡ false) →
+      RowPainted eye ray done width cells row → RowPainted eye ray (done ++ rest) width cells row
+  stays done rest full so-far =
+      record {
+        cells-are =
+            so-far .cells-are
+            ∙ same-table (shownAfter eye ray done) (shownAfter eye ray (done ++ rest)) 0 0 width
+            (λ k h. sym (shown-stays eye ray done rest (0 + k) (full (0 + k) (omega arith))));
+        row-is =
+            so-far .row-is
+            ∙ row-congr width _ _ (λ i h. full i h ∙ sym (unlit-stays eye ray done rest i (full i h)));
+      }
+
+-- the first k patches of the walk are painted
+pub record PaintedUpTo
+    (eye : Vec) (ray : ℕ → Vec) (patch : ℕ → Patch) (order : List ℕ) (width : ℕ) (cells row : List ℕ) (k : ℕ) : Type 0 where
+  pub bound : k ≤ length order
+  pub long : length cells ≡ width
+  pub so-far : RowPainted eye ray (map patch (take k order)) width cells row
+
+pub walk-starts :
+    {eye : Vec} {ray : ℕ → Vec} {patch : ℕ → Patch} {order cells row : List ℕ} {width : ℕ} →
+    length cells ≡ width → cells ≡ replicate width 0 → row ≡ rowOf (length cells) (λ (i : ℕ). true) →
+    PaintedUpTo eye ray patch order (length cells) cells row 0
+walk-starts {eye} {ray} {cells = cells} e f g =
+    record {
+      bound = omega arith;
+      long = refl;
+      so-far = none-painted eye ray (length cells) (f ∙ ap (λ (n : ℕ). replicate n 0) (sym e)) g;
+    }
+
+pub as-long :
+    {eye : Vec} {ray : ℕ → Vec} {walk : List Patch} {width width′ : ℕ} {cells row : List ℕ} →
+    width ≡ width′ → RowPainted eye ray walk width cells row → RowPainted eye ray walk width′ cells row
+as-long {eye} {ray} {walk} {cells = cells} {row} e h = subst (λ (n : ℕ). RowPainted eye ray walk n cells row) e h
+
+module _ {eye : Vec} {ray : ℕ → Vec} {patch : ℕ → Patch} {order : List ℕ} {width : ℕ} where
+  module _ {cells row : List ℕ} {k : ℕ} (inv : PaintedUpTo eye ray patch order width cells row k) where
+    -- the row under work is that of a set of columns
+    pub row-of-set : width ≤ 256 → Row (length cells) row
+    row-of-set h =
+        record { fits = omega (arith, inv .long); unlit = unlitAfter eye ray (map patch (take k order)); row-is = rw (inv .long) (inv .so-far .row-is) }
+
+    pub walk-ends : length order ≤ k → RowPainted eye ray (map patch order) width cells row
+    walk-ends h = rw (take-all k order h) at (inv .so-far)
+
+    module _
+        {cells′ row′ : List ℕ} {full : Bool} (h : k < length order)
+        (laid : PatchLaid eye ray (patch (getD order k 0)) row cells row′ cells′ full)
+      where
+        taken : map patch (take k order) ++ patch (getD order k 0) ∷ [] ≡ map patch (take (k + 1) order)
+        taken =
+            rw (add-one k, take-suc order k 0 h) (sym (map-append patch (take k order) (getD order k 0 ∷ [])))
+
+        next : ColumnsPainted (λ (i : ℕ). met eye (ray i) (patch (getD order k 0))) (patch (getD order k 0) .panel)
+            (unlitAfter eye ray (map patch (take k order))) cells row′ cells′ full
+        next = laid .laid (unlitAfter eye ray (map patch (take k order))) (rw (inv .long) (inv .so-far .row-is))
+
+        pub walk-goes : PaintedUpTo eye ray patch order width cells′ row′ (k + 1)
+        walk-goes =
+            record {
+              bound = omega arith;
+              long = ap length (next .cells-are) ∙ painted-length _ (patch (getD order k 0) .panel) cells ∙ inv .long;
+              so-far = rw taken at (one-more eye ray width (map patch (take k order)) (patch (getD order k 0)) next (inv .so-far) (inv .long));
+            }
+
+        pub walk-full : full ≡ true → RowPainted eye ray (map patch order) width cells′ row′
+        walk-full t =
+            subst (λ (ps : List Patch). RowPainted eye ray ps width cells′ row′)
+            (sym (map-append patch (take (k + 1) order) (drop (k + 1) order)) ∙ ap (map patch) (take-append-drop (k + 1) order))
+            (stays eye ray width (map patch (take (k + 1) order)) (map patch (drop (k + 1) order))
+            (λ i l.
+            ap (λ (ps : List Patch). unlitAfter eye ray ps i) (sym taken)
+            ∙ unlit-next eye ray (map patch (take k order)) (patch (getD order k 0)) i
+            ∙ next .full-says t i (omega (arith, inv .long)))
+            (walk-goes .so-far))

@@ -1,0 +1,90 @@
+// A row of the picture, painted patch after patch, front to back.
+use checked::patch_record;
+use edges::Sight;
+use format::layout::Layout;
+use spans::Span;
+use spans::row_span;
+ghost use mathlib.Core.Path.{_≡_};
+ghost use Prim.Native.Nat.{ℕ};
+ghost use lib.ListN.{length, replicate};
+ghost use Rattle.model.specs.Format.{decode, patchNumbered};
+ghost use Rattle.geometry.specs.Machine.{vecOf};
+ghost use Rattle.geometry.specs.Raster.{rayAt};
+ghost use Rattle.spans.specs.Span.{covers, Shaped};
+ghost use Rattle.rows.specs.Span.{Row};
+ghost use Rattle.scanline.specs.Shown.{RowPainted};
+ghost use Rattle.scanline.specs.Laying.{PatchAsked, RowAsked, walkOf, ColumnsLaid, PatchLaid};
+
+// Lays a span on a row, unless it is empty, and says whether the row is full now.
+fn lay_span(span: Span, panel: u16, row: &mut [u16; 256], cells: &mut [u16]) -> bool
+    requires { ⌜ Shaped (length (now cells)) span × Row (length (now cells)) (now row) ⌝ }
+    ensures { λ r. ⌜ ColumnsLaid (covers span) panel (now (row .entry)) (now (cells .entry))
+        (now (row .exit)) (now (cells .exit)) r ⌝ }
+{
+    let first = span.first;
+    let end = span.end;
+    if end <= first {
+        return false;
+    }
+    let laid = rows::lay(row, cells, first as u16, (end - 1) as u16, panel);
+    laid.full
+}
+
+// Paints patch k in row j, over the columns that are unlit, and says whether the row is full now. All that the code must know of the rays is in the edge
+// functions: the sight is a parameter for the contract.
+fn lay_patch(
+    bytes: &[u8],
+    l: Layout,
+    k: usize,
+    sight: Sight,
+    table: &[i64],
+    j: usize,
+    row: &mut [u16; 256],
+    cells: &mut [u16],
+) -> bool
+    requires { ⌜ PatchAsked (now bytes) l sight (now table) k j (now row) (now cells) ⌝ }
+    ensures { λ r. ⌜ PatchLaid (vecOf (sight .eye)) (λ (i : ℕ). rayAt (sight .raster) i j) (patchNumbered (decode (now (bytes .entry))) k)
+        (now (row .entry)) (now (cells .entry)) (now (row .exit)) (now (cells .exit)) r ⌝ }
+{
+    let p = patch_record(bytes, l, k);
+    let run = p.corners;
+    let span = row_span(table, run.first, run.count, j, cells.len());
+    lay_span(span, p.panel, row, cells)
+}
+
+fn clear(cells: &mut [u16])
+    ensures { λ r. ⌜ now (cells .exit) ≡ replicate (length (now (cells .entry))) 0 ⌝ }
+{
+    let mut i = 0;
+    while i < cells.len() {
+        cells[i] = 0;
+        i += 1;
+    }
+}
+
+// Paints row j: its cells, and the unlit segments that it returns. Once it is full the rest of the walk cannot be seen in it.
+pub fn paint_row(
+    bytes: &[u8],
+    l: Layout,
+    order: &[u16],
+    sight: Sight,
+    table: &[i64],
+    j: usize,
+    cells: &mut [u16],
+) -> [u16; 256]
+    requires { ⌜ RowAsked (now bytes) l sight (now table) (now order) j (now cells) ⌝ }
+    ensures { λ r. ⌜ RowPainted (vecOf (sight .eye)) (λ (i : ℕ). rayAt (sight .raster) i j) (walkOf (now (bytes .entry)) (now (order .entry)))
+        (length (now (cells .entry))) (now (cells .exit)) r ⌝ }
+{
+    clear(cells);
+    let mut row = rows::fresh(cells.len() as u16);
+    let mut k = 0;
+    while k < order.len() {
+        let n = order[k] as usize;
+        if lay_patch(bytes, l, n, sight, table, j, &mut row, cells) {
+            return row;
+        }
+        k += 1;
+    }
+    row
+}

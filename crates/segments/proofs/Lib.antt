@@ -1,0 +1,10 @@
+-- `Sets` (the segments of a set of columns), `Rows` (its row), `Cut` (the segments that a span leaves), `Painting` (painted
+-- cells), `Numbers` (a row's numbers, pair by pair), `Full` (the row of a set that is empty, and of all columns).
+pub mod Tests
+pub mod Segments
+pub mod Sets
+pub mod Rows
+pub mod Cut
+pub mod Painting
+pub mod Numbers
+pub mod Full
