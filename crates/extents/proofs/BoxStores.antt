@@ -13,9 +13,6 @@ module _ (l : List ℤ) where
   earlier : {i : ℕ} (j : ℕ) (v : ℤ) → i < j → getD (set l j v) i (pos 0) ≡ getD l i (pos 0)
   earlier {i} j v h = getD-set-other l j i v (pos 0) (λ e. absurd (omega arith))
 
-  later : {i : ℕ} (j : ℕ) (v : ℤ) → j < i → getD (set l j v) i (pos 0) ≡ getD l i (pos 0)
-  later {i} j v h = getD-set-other l j i v (pos 0) (λ e. absurd (omega arith))
-
   here : (i : ℕ) {a z : ℤ} → i < length l → a ≡ z → getD (set l i a) i (pos 0) ≡ z
   here i h e = getD-set-same l i _ (pos 0) h ∙ e
 
@@ -33,8 +30,12 @@ module _ (l : List ℤ) (k : ℕ) (a b c : ℤ) where
   put-long : length put3 ≡ length l
   put-long = simp length-set
 
-  after-point : (i : ℕ) → 3 * k + 2 < i → getD put3 i (pos 0) ≡ getD l i (pos 0)
-  after-point i h = later put2 _ _ h ∙ later put1 _ _ (omega arith) ∙ later l _ _ (omega arith)
+  -- a number that nothing is put over
+  untouched : (i : ℕ) → (i ≡ 3 * k → ⊥) → (i ≡ 3 * k + 1 → ⊥) → (i ≡ 3 * k + 2 → ⊥) → getD put3 i (pos 0) ≡ getD l i (pos 0)
+  untouched i x y z =
+      getD-set-other put2 (3 * k + 2) i _ (pos 0) z
+      ∙ getD-set-other put1 (3 * k + 1) i _ (pos 0) y
+      ∙ getD-set-other l (3 * k) i _ (pos 0) x
 
   -- each number stands where it was put, as none is put there after it
   pub point-stored : 3 * k + 3 ≤ length l → {v : Vector} → a ≡ v .x → b ≡ v .y → c ≡ v .z → Stored pointAt l put3 k v
@@ -42,11 +43,11 @@ module _ (l : List ℤ) (k : ℕ) (a b c : ℤ) where
       record {
         long = put-long;
         stands = λ t. record { x = x-stands t; y = y-stands t; z = z-stands t };
-        beside = λ j m t.
+        others = λ j m t.
             record {
-              x = after-point (3 * j) (omega arith) t;
-              y = after-point (3 * j + 1) (omega arith) t;
-              z = after-point (3 * j + 2) (omega arith) t;
+              x = untouched (3 * j) (λ e. m (omega arith)) (λ e. absurd (omega arith)) (λ e. absurd (omega arith)) t;
+              y = untouched (3 * j + 1) (λ e. absurd (omega arith)) (λ e. m (omega arith)) (λ e. absurd (omega arith)) t;
+              z = untouched (3 * j + 2) (λ e. absurd (omega arith)) (λ e. absurd (omega arith)) (λ e. m (omega arith)) t;
             };
       }
     where
@@ -68,8 +69,8 @@ pub pair-stored :
 pair-stored at joined {k = k} second first =
     record {
       long = first .long ∙ second .long;
-      stands = ap₂ joined (first .stands) (first .beside (2 * k + 1) (omega arith) ∙ second .stands);
-      beside = λ j h.
-          ap₂ joined (first .beside (2 * j) (omega arith) ∙ second .beside (2 * j) (omega arith))
-          (first .beside (2 * j + 1) (omega arith) ∙ second .beside (2 * j + 1) (omega arith));
+      stands = ap₂ joined (first .stands) (first .others (2 * k + 1) (λ e. absurd (omega arith)) ∙ second .stands);
+      others = λ j h.
+          ap₂ joined (first .others (2 * j) (λ e. h (omega arith)) ∙ second .others (2 * j) (λ e. absurd (omega arith)))
+          (first .others (2 * j + 1) (λ e. absurd (omega arith)) ∙ second .others (2 * j + 1) (λ e. h (omega arith)));
     }

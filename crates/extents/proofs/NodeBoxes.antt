@@ -120,7 +120,7 @@ module _ {bytes : List ℕ} {l : Layout} {before : List ℤ} where
     where
       at : (i : ℕ) → (k - 1 ≡ i) ⊎ (k - 1 < i) → i < l .nodes → ExtentOf bytes i (extentAt next i)
       at i (inl e) m = subst (λ (n : ℕ). ExtentOf bytes n (extentAt next n)) e (subst (ExtentOf bytes (k - 1)) (sym (s .stands)) of)
-      at i (inr h) m = subst (ExtentOf bytes i) (sym (s .beside i h)) (f .from .each i (omega arith) m)
+      at i (inr h) m = subst (ExtentOf bytes i) (sym (s .others i (λ e. absurd (omega arith)))) (f .from .each i (omega arith) m)
 
   pub filling-all : {after : List ℤ} {k : ℕ} → Filling bytes l before after k → k ≤ 0 → ExtentsFrom bytes l 0 after
   filling-all {after} {k} f h =

@@ -74,8 +74,8 @@ pointAt boxes i = record { x = getD boxes (3 * i) (pos 0); y = getD boxes (3 * i
 abbrev pub boxAt : List ℤ → ℕ → Bounds
 boxAt boxes i = record { low = pointAt boxes (2 * i); high = pointAt boxes (2 * i + 1) }
 
--- v now stands at place i, and what stands after it is as it was
+-- v now stands at place i, and what stands at any other place is as it was
 pub record Stored {X : Type 0} (at : List ℤ → ℕ → X) (before after : List ℤ) (i : ℕ) (v : X) : Type 0 where
   pub long : length after ≡ length before
   pub stands : at after i ≡ v
-  pub beside : (j : ℕ) → i < j → at after j ≡ at before j
+  pub others : (j : ℕ) → (j ≡ i → ⊥) → at after j ≡ at before j

@@ -115,7 +115,8 @@ fn node_extent(bytes: &[u8], l: Layout, k: usize, boxes: &[i16]) -> Extent
     with_child(front, boxes, l.nodes, n.negative)
 }
 
-// the extents of all nodes, from the last one down: children have higher numbers than their parents
+// The extents of all nodes, from the last one down: children have higher numbers than their parents. An extent need not be the least one, which costs time
+// alone; what the list holds after the last node's is left free.
 pub fn fill_extents(bytes: &[u8], l: Layout, boxes: &mut [i16])
     requires { ⌜ Checked (now bytes) l × (12 * l .nodes ≤ length (now boxes)) ⌝ }
     ensures { λ r. ⌜ ExtentsFrom (now (bytes .entry)) l 0 (now (boxes .exit)) ⌝ }
