@@ -1,11 +1,3 @@
--- Laws of question 8.
-mod Edges
-mod Corners
+-- Laws of question 8 over the table of patches.
 mod PatchTables
-mod Projected
-mod Asked
-mod Axes
-mod Along
-mod FewCorners
-mod ThreeCorners
-mod FourCorners
+mod TableCorners

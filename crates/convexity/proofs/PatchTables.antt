@@ -20,9 +20,10 @@ use Rattle.format.proofs.Tables.{length-table}
 use Rattle.format.proofs.Decoded.{tablePatch, patch-table, patch-numbered, patch-corners}
 use Rattle.model.proofs.Loops.{IsEvery, every-entry}
 use Rattle.format.proofs.InRange.{corner-within}
-use Rattle.convexity.specs.Bounds.{Cornered, PatchBounded}
-use Rattle.convexity.specs.Tests.{patchProper}
-use Rattle.convexity.proofs.Corners.{corner-in, count-in}
+use Rattle.convexity.specs.Cornered.{Cornered}
+use Rattle.polygons.specs.Bounds.{PatchBounded}
+use Rattle.polygons.specs.Tests.{patchProper}
+use Rattle.polygons.proofs.Corners.{corner-in, count-in}
 
 pub patches-asked :
     {bytes : List ℕ} {l : Layout} →

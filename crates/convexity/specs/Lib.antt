@@ -1,6 +1,2 @@
 -- What the crate's contracts cite.
-pub mod Tests
-pub mod Bounds
-pub mod Projected
-pub mod Four
-pub mod Three
+pub mod Cornered

@@ -10,7 +10,7 @@ use Rattle.model.proofs.Tests.{is-true}
 use Rattle.format.specs.declared.layout.Layout.{Layout}
 use Rattle.format.specs.Layout.{LaidOut, RunsInside}
 use Rattle.scene.proofs.RunTables.{runs-inside}
-use Rattle.convexity.specs.Bounds.{Cornered}
+use Rattle.convexity.specs.Cornered.{Cornered}
 use Rattle.checked.specs.Checked.{Checked}
 
 module _ {bytes : List ℕ} {l : Layout} (laid : LaidOut bytes l) where

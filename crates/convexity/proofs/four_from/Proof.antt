@@ -2,8 +2,8 @@ use mathlib.Core.Path.{ap, _∙_}
 use native.Mathlib.Omega.{arith}
 use borrow.Author.Needs.{needs}
 use Rattle.format.proofs.InRange.{corner-within, bounded}
-use Rattle.convexity.specs.Tests.{patchProper}
-use Rattle.convexity.proofs.FewCorners.{four-in}
+use Rattle.polygons.specs.Tests.{patchProper}
+use Rattle.convexity.proofs.TableCorners.{four-in}
 use Rattle.convexity.proofs.four_from.Statement.{statement}
 use Rattle.convexity.proofs.four_from.Tie as tie
 

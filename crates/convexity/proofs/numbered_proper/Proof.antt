@@ -1,8 +1,8 @@
 use mathlib.Core.Path.{ap, _∙_}
 use borrow.Author.Needs.{needs}
-use Rattle.convexity.specs.Tests.{patchProper}
+use Rattle.polygons.specs.Tests.{patchProper}
 use Rattle.convexity.proofs.PatchTables.{patch-bounded}
-use Rattle.convexity.proofs.FewCorners.{run-inside, run-numbered}
+use Rattle.convexity.proofs.TableCorners.{run-inside, run-numbered}
 use Rattle.convexity.proofs.numbered_proper.Statement.{statement}
 use Rattle.convexity.proofs.numbered_proper.Tie as tie
 

@@ -2,7 +2,7 @@ use Prim.Native.Nat.{ℕ, _-_}
 use borrow.Author.Needs.{needs}
 use borrow.Author.Tests.{not-true, not-false}
 use Rattle.model.specs.Format.{decode, patchNumbered}
-use Rattle.convexity.specs.Tests.{patchProper}
+use Rattle.polygons.specs.Tests.{patchProper}
 use Rattle.model.proofs.Loops.{Passed, none-passed, one-passed, refused, accepted}
 use Rattle.convexity.proofs.PatchTables.{patches-asked}
 use Rattle.convexity.proofs.patches_proper.Statement.{statement}

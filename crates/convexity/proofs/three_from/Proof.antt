@@ -2,8 +2,8 @@ use mathlib.Core.Path.{ap, _∙_}
 use native.Mathlib.Omega.{arith}
 use borrow.Author.Needs.{needs}
 use Rattle.format.proofs.InRange.{corner-within, bounded}
-use Rattle.convexity.specs.Tests.{patchProper}
-use Rattle.convexity.proofs.FewCorners.{three-in}
+use Rattle.polygons.specs.Tests.{patchProper}
+use Rattle.convexity.proofs.TableCorners.{three-in}
 use Rattle.convexity.proofs.three_from.Statement.{statement}
 use Rattle.convexity.proofs.three_from.Tie as tie
 
