@@ -13,8 +13,9 @@ use Rattle.geometry.specs.Machine.{planeOf}
 use Rattle.format.specs.declared.records.Node.{Node}
 use Rattle.format.specs.declared.layout.Layout.{Layout}
 use Rattle.checked.specs.Checked.{treeBelow, NodeIs}
-use Rattle.division.specs.Division.{PlaneIs, held, nodeDivides}
-use Rattle.division.specs.declared.planes.Plane.{Plane}
+use Rattle.halfspaces.specs.Sides.{PlaneIs, held}
+use Rattle.division.specs.Division.{nodeDivides}
+use Rattle.halfspaces.specs.declared.planes.Plane.{Plane}
 use Rattle.model.proofs.Loops.{IsThree}
 use Rattle.checked.proofs.Subtrees.{contents-map}
 use Rattle.division.proofs.Placed.{held-on, held-front, held-back}

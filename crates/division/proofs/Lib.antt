@@ -1,8 +1,5 @@
--- What a plane says of the patches below it, and when an extent answers for them.
+-- What a plane says of the patches below it.
 mod Placed
-mod SidesFound
 mod Branches
-mod BoxCorners
-mod BoxTold
-mod BoxSides
+mod SettledBelow
 mod EveryNode

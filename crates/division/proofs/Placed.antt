@@ -14,8 +14,8 @@ use Rattle.model.specs.Vector.{Vec, side, minus, dot, isZero, turnedOver}
 use Rattle.model.specs.Patch.{Patch}
 use Rattle.model.specs.Tree.{liesOn, inFront}
 use Rattle.model.proofs.Vectors.{side-turned}
-use Rattle.division.specs.Division.{PlaneIs, sideOf, onNegative, onPositive, held}
-use Rattle.division.specs.declared.planes.Plane.{Plane}
+use Rattle.halfspaces.specs.Sides.{PlaneIs, sideOf, onNegative, onPositive, held}
+use Rattle.halfspaces.specs.declared.planes.Plane.{Plane}
 
 -- ---- numbers
 

@@ -1,34 +1,22 @@
--- On which sides of a plane a patch has corners.
-use mathlib.Core.Path.{_≡_}
-use mathlib.Core.Bool.{Bool, _&&_, _||_, Bool·beq}
+-- Question 9 at one node, and what is known where it is asked.
+use mathlib.Core.Bool.{Bool, _&&_}
 use mathlib.Core.List.{List, map}
 use Prim.Native.Nat.{ℕ, _+_, _≤_}
-use lib.IntN.{ℤ, pos}
-use lib.Signed.{ltZ}
-use Rattle.model.specs.Lists.{every, any, range}
+use lib.IntN.{ℤ}
+use Rattle.model.specs.Lists.{every, range}
 use Rattle.model.specs.Vector as model
-use Rattle.model.specs.Vector.{Vec, minus, dot, planeNormal, turnedOver}
-use Rattle.model.specs.Patch.{Patch}
+use Rattle.model.specs.Vector.{turnedOver}
 use Rattle.model.specs.Tree.{contents, liesOn, inFront}
 use Rattle.model.specs.Format.{decode, patchNumbered}
-use Rattle.geometry.specs.Machine.{vecOf, planeOf, Bounded}
+use Rattle.geometry.specs.Machine.{planeOf}
 use Rattle.format.specs.declared.records.Node.{Node}
 use Rattle.format.specs.declared.layout.Layout.{Layout}
 use Rattle.checked.specs.Checked.{Checked, PointsBounded, treeBelow}
 use Rattle.extents.specs.Extents.{ExtentsFrom}
-use Rattle.division.specs.declared.planes.Plane.{Plane}
-use Rattle.division.specs.declared.planes.Sides.{Sides}
+use Rattle.halfspaces.specs.Sides.{PlaneAsked}
+use Rattle.halfspaces.specs.declared.planes.Plane.{Plane}
 
-pub record PlaneBounded (r : Plane) : Type 0 where
-  pub a-bounded : Bounded 10000 (r .a)
-  pub normal-bounded : Bounded 800000000 (r .normal)
-
--- a checked scene, and a plane that its patches are held against
-pub record PlaneAsked (bytes : List ℕ) (l : Layout) (r : Plane) : Type 0 where
-  pub scene : Checked bytes l
-  pub plane-bounded : PlaneBounded r
-
--- the same with the extents of all nodes
+-- a checked scene with the extents of all nodes, and a plane that its patches are held against
 pub record Against (bytes : List ℕ) (l : Layout) (r : Plane) (boxes : List ℤ) : Type 0 where
   pub asked : PlaneAsked bytes l r
   pub extents : ExtentsFrom bytes l 0 boxes
@@ -39,38 +27,6 @@ pub record NodeAsked (bytes : List ℕ) (l : Layout) (n : Node) (boxes : List �
   pub extents : ExtentsFrom bytes l 0 boxes
   pub points : PointsBounded n
   pub run-inside : n .patches .first + n .patches .count ≤ l .patches
-
--- the machine's plane r is s
-pub record PlaneIs (s : model.Plane) (r : Plane) : Type 0 where
-  pub a-is : vecOf (r .a) ≡ s .a
-  pub normal-is : vecOf (r .normal) ≡ planeNormal s
-  pub bounded : PlaneBounded r
-
--- the side number of c
-abbrev pub sideOf : Plane → Vec → ℤ
-sideOf s c = dot (minus c (vecOf (s .a))) (vecOf (s .normal))
-
-abbrev pub onNegative : Plane → Vec → Bool
-onNegative s c = ltZ (sideOf s c) (pos 0)
-
-abbrev pub onPositive : Plane → Vec → Bool
-onPositive s c = ltZ (pos 0) (sideOf s c)
-
--- on which sides some corner lies
-pub record SidesAre (s : Plane) (corners : List Vec) (r : Sides) : Type 0 where
-  pub negative-is : r .negative ≡ any (onNegative s) corners
-  pub positive-is : r .positive ≡ any (onPositive s) corners
-
--- one corner more, with side number z
-pub record Joins (s : Sides) (z : ℤ) (r : Sides) : Type 0 where
-  pub negative-too : r .negative ≡ (s .negative || ltZ z (pos 0))
-  pub positive-too : r .positive ≡ (s .positive || ltZ (pos 0) z)
-
--- the patch has corners on just the sides that are wanted
-unfoldable pub held : Plane → Sides → Patch → Bool
-held s wanted p =
-    Bool·beq (any (onNegative s) (p .corners)) (wanted .negative)
-    && Bool·beq (any (onPositive s) (p .corners)) (wanted .positive)
 
 -- question 9 at one node: its own patches, and those below each child
 unfoldable pub nodeDivides : List ℕ → Node → Bool

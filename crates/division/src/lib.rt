@@ -1,17 +1,13 @@
 // Question 9: the planes divide the patches as the tree says.
-mod beyond;
-mod held;
-mod planes;
-
-use crate::beyond::settled;
-use crate::held::run_held;
-use crate::planes::Plane;
-use crate::planes::Sides;
-use crate::planes::plane_of;
+use box_sides::settled;
 use checked::node;
-use extents::subtrees::fill_extents;
+use extents::fill_extents;
 use format::layout::Layout;
 use format::records::Node;
+use halfspaces::held::run_held;
+use halfspaces::planes::Plane;
+use halfspaces::planes::Sides;
+use halfspaces::planes::plane_of;
 ghost use mathlib.Core.Path.{_≡_};
 ghost use mathlib.Core.List.{map};
 ghost use Prim.Native.Nat.{_<_};
@@ -21,7 +17,8 @@ ghost use Rattle.model.specs.Format.{decode, patchNumbered};
 ghost use Rattle.model.specs.Questions.{planesDivide};
 ghost use Rattle.checked.specs.Checked.{Checked, treeBelow};
 ghost use Rattle.extents.specs.Extents.{ExtentsFrom};
-ghost use Rattle.division.specs.Division.{Against, NodeAsked, held, nodeDivides};
+ghost use Rattle.division.specs.Division.{Against, NodeAsked, nodeDivides};
+ghost use Rattle.halfspaces.specs.Sides.{held};
 
 // every patch at and below node k is held; the child's test comes before its call, as most children are settled by it
 fn subtree_held(

@@ -20,12 +20,13 @@ use Rattle.format.specs.Layout.{cornerNumber}
 use Rattle.format.specs.declared.layout.Layout.{Layout}
 use Rattle.format.specs.declared.records.Run.{Run}
 use Rattle.checked.specs.Checked.{CornersAre}
-use Rattle.extents.specs.Boxes.{InBox, Covers, BoxBounded, Extreme, upward, downward, Joined, Common}
-use Rattle.extents.specs.Extents.{Widened, takesCorner, Along, Encloses, Wider, ExtentBounded, takesPatch, PatchTaken}
-use Rattle.extents.specs.declared.boxes.Bounds.{Bounds}
-use Rattle.extents.specs.declared.boxes.Extent.{Extent}
+use Rattle.boxes.specs.Boxes.{InBox, Covers, BoxBounded, Extreme, upward, downward, Joined, Common}
+use Rattle.extents.specs.Extents.{Widened, takesCorner, Wider, takesPatch, PatchTaken}
+use Rattle.boxes.specs.Enclosed.{Along, Encloses, ExtentBounded}
+use Rattle.boxes.specs.declared.Bounds.{Bounds}
+use Rattle.boxes.specs.declared.Extent.{Extent}
 use Rattle.model.proofs.Ranges.{in-range}
-use Rattle.extents.proofs.BoxLaws.{at-most-refl, covers-refl, covers-trans, in-wider, joined-first, joined-second, joined-bounded, common-first, common-second, common-bounded}
+use Rattle.boxes.proofs.BoxLaws.{at-most-refl, covers-refl, covers-trans, in-wider, joined-first, joined-second, joined-bounded, common-first, common-second, common-bounded}
 
 pub wider-refl : (e : Extent) → Wider e e
 wider-refl e = record { outer-covers = covers-refl (e .outer); inner-covers = covers-refl (e .inner) }

@@ -1,5 +1,3 @@
--- Boxes and extents: what they hold, and how they stand in the table.
-pub mod BoxLaws
-mod BoxStores
+-- Extents of patches and of nodes.
 mod ExtentLaws
 pub mod NodeBoxes

@@ -16,11 +16,12 @@ use Rattle.model.proofs.Ranges.{of-range}
 use Rattle.format.specs.declared.layout.Layout.{Layout}
 use Rattle.format.specs.declared.records.Node.{Node}
 use Rattle.checked.specs.Checked.{Checked, treeBelow, NodeIs}
-use Rattle.extents.specs.Boxes.{Joined, Common}
-use Rattle.extents.specs.Boxes.{Stored}
-use Rattle.extents.specs.Extents.{Widened, Encloses, Wider, ExtentBounded, takesPatch, extentAt, ExtentOf, ExtentsFrom, ChildExtent, ChildJoined}
-use Rattle.extents.specs.declared.boxes.Bounds.{Bounds}
-use Rattle.extents.specs.declared.boxes.Extent.{Extent}
+use Rattle.boxes.specs.Boxes.{Joined, Common}
+use Rattle.boxes.specs.Boxes.{Stored}
+use Rattle.extents.specs.Extents.{Widened, Wider, takesPatch, ExtentOf, ExtentsFrom, ChildJoined}
+use Rattle.boxes.specs.Enclosed.{Encloses, ExtentBounded, extentAt, ChildExtent}
+use Rattle.boxes.specs.declared.Bounds.{Bounds}
+use Rattle.boxes.specs.declared.Extent.{Extent}
 use Rattle.checked.proofs.Nodes.{no-node}
 use Rattle.extents.proofs.ExtentLaws.{wider-refl, wider-trans, encloses-wider, extent-first, extent-second, extent-bounded}
 

@@ -2,18 +2,17 @@
 use mathlib.Core.List.{List, List·Memᴰ}
 use Prim.Native.Nat.{ℕ, _+_, _*_, _≤_, _<_}
 use lib.IntN.{ℤ}
-use lib.Signed.{_≤ℤ_}
 use lib.ListN.{length}
-use Rattle.model.specs.Vector.{Vec}
 use Rattle.model.specs.Patch.{Patch}
 use Rattle.model.specs.Tree.{contents}
 use Rattle.model.specs.Format.{decode, patchNumbered}
 use Rattle.format.specs.Layout.{cornerNumber}
 use Rattle.format.specs.declared.layout.Layout.{Layout}
 use Rattle.checked.specs.Checked.{Checked, treeBelow}
-use Rattle.extents.specs.Boxes.{InBox, Covers, BoxBounded, boxAt}
-use Rattle.extents.specs.declared.boxes.Bounds.{Bounds}
-use Rattle.extents.specs.declared.boxes.Extent.{Extent}
+use Rattle.boxes.specs.Boxes.{InBox, Covers}
+use Rattle.boxes.specs.Enclosed.{Encloses, ExtentBounded, extentAt}
+use Rattle.boxes.specs.declared.Bounds.{Bounds}
+use Rattle.boxes.specs.declared.Extent.{Extent}
 
 -- ---- what a run of corners or patches takes up
 
@@ -27,26 +26,10 @@ pub record Widened {X : Type 0} (wider : X → X → Type 0) (good : X → Type 
 abbrev pub takesCorner : List ℕ → Layout → ℕ → Bounds → ℕ → Type 0
 takesCorner bytes l first b j = InBox b (cornerNumber bytes l (first + j))
 
--- along an axis the patch reaches up to `high` and down to `low`
-pub record Along (axis : Vec → ℤ) (low high : ℤ) (p : Patch) : Type 0 where
-  pub up : (c : Vec) × List·Memᴰ c (p .corners) × (high ≤ℤ axis c)
-  pub down : (c : Vec) × List·Memᴰ c (p .corners) × (axis c ≤ℤ low)
-
--- all corners of the patch lie in the outer box, and along each axis it reaches the ends of the inner one
-pub record Encloses (e : Extent) (p : Patch) : Type 0 where
-  pub corners-in : (c : Vec) → List·Memᴰ c (p .corners) → InBox (e .outer) c
-  pub x-along : Along (λ (c : Vec). c .x) (e .inner .low .x) (e .inner .high .x) p
-  pub y-along : Along (λ (c : Vec). c .y) (e .inner .low .y) (e .inner .high .y) p
-  pub z-along : Along (λ (c : Vec). c .z) (e .inner .low .z) (e .inner .high .z) p
-
 -- what e encloses r encloses
 pub record Wider (e r : Extent) : Type 0 where
   pub outer-covers : Covers (e .outer) (r .outer)
   pub inner-covers : Covers (r .inner) (e .inner)
-
-pub record ExtentBounded (e : Extent) : Type 0 where
-  pub outer-bounded : BoxBounded (e .outer)
-  pub inner-bounded : BoxBounded (e .inner)
 
 -- the patches from `first` on
 abbrev pub takesPatch : List ℕ → ℕ → Extent → ℕ → Type 0
@@ -65,19 +48,10 @@ pub record ExtentOf (bytes : List ℕ) (k : ℕ) (e : Extent) : Type 0 where
   pub bounded : ExtentBounded e
   pub encloses : (j : ℕ) → List·Memᴰ j (contents (treeBelow bytes k)) → Encloses e (patchNumbered (decode bytes) j)
 
--- the extent of node k: two boxes
-abbrev pub extentAt : List ℤ → ℕ → Extent
-extentAt boxes k = record { outer = boxAt boxes (2 * k); inner = boxAt boxes (2 * k + 1) }
-
 -- the nodes from number `first` on have their extents in the list
 pub record ExtentsFrom (bytes : List ℕ) (l : Layout) (first : ℕ) (boxes : List ℤ) : Type 0 where
   pub room : 12 * l .nodes ≤ length boxes
   pub each : (k : ℕ) → first ≤ k → k < l .nodes → ExtentOf bytes k (extentAt boxes k)
-
--- the list has room for all nodes, and the extent of k, where that is a node, is bounded
-pub record ChildExtent (nodes k : ℕ) (boxes : List ℤ) : Type 0 where
-  pub room : 12 * nodes ≤ length boxes
-  pub child : k < nodes → ExtentBounded (extentAt boxes k)
 
 -- a checked scene whose nodes after k have their extents in the list
 pub record NodeAsked (bytes : List ℕ) (l : Layout) (k : ℕ) (boxes : List ℤ) : Type 0 where

@@ -8,16 +8,16 @@ use borrow.Author.Tests.{not-true, not-false}
 use borrow.Fn.Kinds.{In}
 use borrow.Fn.PlainCycle.{Measures, is, falls, and}
 use Rattle.model.specs.Lists.{every}
-use Rattle.division.specs.Division.{held}
+use Rattle.halfspaces.specs.Sides.{held}
 use Rattle.model.proofs.Loops.{first-of-three, second-of-three, third-decides}
 use Rattle.division.proofs.Branches.{patchesBelow, every-node}
 use Rattle.extents.proofs.NodeBoxes.{child-extent}
-use Rattle.division.proofs.BoxSides.{settled-held}
+use Rattle.division.proofs.SettledBelow.{settled-held}
 use Rattle.division.proofs.subtree_held.Reads as subtree-held
 use Rattle.division.proofs.subtree_held.Kinds as subtree-held-kinds
 use Rattle.division.proofs.+subtree_held.Lts-subtree_held as lts
-use Rattle.division.proofs.beyond.settled.Reads as settled
-use Rattle.division.proofs.held.run_held.Reads as run-held
+use Rattle.box_sides.proofs.settled.Reads as settled
+use Rattle.halfspaces.proofs.held.run_held.Reads as run-held
 use Rattle.checked.proofs.node.Reads as node
 use Rattle.division.proofs.+subtree_held.{statement}
 use Rattle.division.proofs.+subtree_held.Tie.{close}

@@ -6,11 +6,12 @@ use native.Mathlib.Omega.{arith}
 use borrow.Author.Needs.{needs}
 use borrow.Author.Tests.{not-true, not-false}
 use Rattle.model.specs.Lists.{every}
-use Rattle.division.specs.Division.{Against, held}
+use Rattle.division.specs.Division.{Against}
+use Rattle.halfspaces.specs.Sides.{held}
 use Rattle.model.proofs.Loops.{first-of-three, second-of-three, third-decides}
 use Rattle.extents.proofs.NodeBoxes.{child-extent}
 use Rattle.division.proofs.Branches.{patchesBelow, node-divides}
-use Rattle.division.proofs.BoxSides.{settled-held}
+use Rattle.division.proofs.SettledBelow.{settled-held}
 use Rattle.division.proofs.node_divides.Statement.{statement}
 use Rattle.division.proofs.node_divides.Tie as tie
 

@@ -1,0 +1,2 @@
+-- What the corners of a patch say of it.
+mod SidesFound
