@@ -1,9 +1,7 @@
 -- Laws of the byte format.
 pub mod Tables
 pub mod Decoded
-mod TwosComplement
 mod Made
-mod HeaderTests
 pub mod Sections
 pub mod PatchRecords
 mod Places

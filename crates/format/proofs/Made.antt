@@ -4,9 +4,7 @@ use mathlib.Core.List.{List}
 use Prim.Native.Nat.{ℕ, _+_}
 use lib.IntN.{ℤ}
 use Rattle.model.specs.Vector.{Vec, vec}
-use Rattle.model.specs.Format.{NodeRecord, PatchRecord, u16At, u32At, i16At, pointAt, sectionAt, headerOf, nodeAt, patchAt}
-use Rattle.format.specs.declared.header.Section.{Section}
-use Rattle.format.specs.Machine.{NaturalIs, SectionIs, HeaderIs}
+use Rattle.model.specs.Format.{NodeRecord, PatchRecord, u16At, i16At, pointAt, nodeAt, patchAt}
 
 pub vec-made : {a b c x y z : ℤ} → a ≡ x → b ≡ y → c ≡ z → vec a b c ≡ vec x y z
 vec-made p q r = λ i. vec (p i) (q i) (r i)
@@ -21,11 +19,6 @@ module _ (bytes : List ℕ) (at : ℕ) where
       v ≡ pointAt bytes at
   unfolding pointAt
   point-made e p q r = rw e (vec-made p q r)
-
-  pub section-made : {offset size : ℕ} → NaturalIs 4294967296 (u32At bytes at) offset → NaturalIs 4294967296 (u32At bytes (at + 4)) size →
-      SectionIs (sectionAt bytes at) (record { offset = offset; size = size })
-  unfolding sectionAt
-  section-made o s = record { value = λ i. record { offset = o .value i; size = s .value i }; offset-below = o .below; size-below = s .below }
 
   pub node-made : {a b c : Vec} {p n first count : ℕ} →
       a ≡ pointAt bytes at → b ≡ pointAt bytes (at + 6) → c ≡ pointAt bytes (at + 12) →
@@ -42,10 +35,3 @@ module _ (bytes : List ℕ) (at : ℕ) where
       _≡_ {A = PatchRecord} (record { panel = panel; cornerRun = record { first = first; count = count } }) (patchAt bytes at)
   unfolding patchAt
   patch-made ep ef ek = λ i. record { panel = ep i; cornerRun = record { first = ef i; count = ek i } }
-
-pub header-made : (bytes : List ℕ) {v z w : ℕ} {n p c : Section} →
-    v ≡ u16At bytes 0 → z ≡ u16At bytes 2 → w ≡ u32At bytes 4 →
-    SectionIs (sectionAt bytes 8) n → SectionIs (sectionAt bytes 16) p → SectionIs (sectionAt bytes 24) c →
-    HeaderIs (headerOf bytes) (record { version = v; reserved = z; whole = w; nodes = n; patches = p; corners = c })
-unfolding headerOf
-header-made bytes ev ez ew en ep ec = record { version = ev; reserved = ez; whole = ew; nodes = en; patches = ep; corners = ec }

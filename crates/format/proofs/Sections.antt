@@ -11,9 +11,9 @@ use Rattle.model.specs.Lists.{range}
 use Rattle.model.specs.Format.{Section, headerOf, recordsOf, nodeAt, patchAt, pointAt, decode}
 use Rattle.model.specs.Questions.{hasHeader, hasSections, isSection, within, sectionEnd}
 use Rattle.model.proofs.Tests.{both-true}
-use Rattle.format.specs.declared.header.Header.{Header}
+use Rattle.header.specs.declared.Header.{Header}
 use Rattle.format.specs.declared.layout.Layout.{Layout}
-use Rattle.format.specs.Machine.{HeaderIs}
+use Rattle.header.specs.Header.{HeaderIs}
 use Rattle.format.specs.Layout.{LaidOut, patchesStart, cornersStart}
 
 -- what three tests that hold together tell, and four

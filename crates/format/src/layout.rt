@@ -1,15 +1,15 @@
 // The records of a scene by their numbers, once questions 1 and 2 are answered yes.
-use crate::header::read_header;
 use crate::records::Node;
 use crate::records::PatchRecord;
 use crate::records::node_at;
 use crate::records::patch_record_at;
 use crate::records::point_at;
-use crate::sizes::CORNER_SIZE;
-use crate::sizes::HEADER_SIZE;
-use crate::sizes::NODE_SIZE;
-use crate::sizes::PATCH_SIZE;
 use geometry::Vector;
+use header::read_header;
+use header::sizes::CORNER_SIZE;
+use header::sizes::HEADER_SIZE;
+use header::sizes::NODE_SIZE;
+use header::sizes::PATCH_SIZE;
 ghost use mathlib.Core.Path.{_≡_};
 ghost use mathlib.Core.Bool.{true};
 ghost use Prim.Native.Nat.{_<_};

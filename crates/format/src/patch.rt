@@ -1,12 +1,12 @@
 // A patch in hand, with its corners.
-use crate::bytes::i16_at;
 use crate::layout::Layout;
 use crate::layout::patch_record;
 use crate::records::vector;
-use crate::sizes::CORNER_SIZE;
-use crate::sizes::HEADER_SIZE;
-use crate::sizes::NODE_SIZE;
 use geometry::Vector;
+use header::sizes::CORNER_SIZE;
+use header::sizes::HEADER_SIZE;
+use header::sizes::NODE_SIZE;
+use little_endian::i16_at;
 ghost use mathlib.Core.Path.{_≡_};
 ghost use Prim.Native.Nat.{_+_, _*_, _≤_, _<_};
 ghost use lib.ListN.{length};

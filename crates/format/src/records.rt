@@ -1,7 +1,7 @@
 // The records of a scene: points, nodes and patches, each at its offset.
-use crate::bytes::i16_at;
-use crate::bytes::u16_at;
 use geometry::Vector;
+use little_endian::i16_at;
+use little_endian::u16_at;
 ghost use mathlib.Core.Path.{_≡_};
 ghost use Prim.Native.Nat.{_+_, _≤_};
 ghost use lib.ListN.{length};

@@ -1,9 +1,9 @@
 // The questions on a scene, 1 to 9, put in order to any byte string.
 use convexity::patches_proper;
 use division::planes_divide;
-use format::header::has_header;
-use format::header::has_sections;
 use format::layout::read_layout;
+use header::has_header;
+use header::has_sections;
 use scene::children::children_proper;
 use scene::coordinates::coordinates_in_range;
 use scene::panels::panels_proper;

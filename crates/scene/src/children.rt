@@ -2,8 +2,8 @@
 use format::layout::Layout;
 use format::layout::node;
 use format::records::Node;
-use format::sizes::MOST_NODES;
-use format::sizes::NO_CHILD;
+use header::sizes::MOST_NODES;
+use header::sizes::NO_CHILD;
 ghost use mathlib.Core.Path.{_≡_};
 ghost use Prim.Native.Nat.{_≤_, _<_};
 ghost use lib.ListN.{length, getD};

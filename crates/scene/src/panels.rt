@@ -4,7 +4,7 @@ use format::layout::node;
 use format::layout::patch_record;
 use format::records::PatchRecord;
 use format::records::Run;
-use format::sizes::HIGHEST_PANEL;
+use header::sizes::HIGHEST_PANEL;
 ghost use mathlib.Core.Path.{_≡_};
 ghost use mathlib.Core.Bool.{true};
 ghost use Prim.Native.Nat.{_+_, _≤_, _<_};

@@ -1,11 +1,11 @@
 // Question 6: the runs follow each other and use every record, and each patch has 3 to 8 corners.
-use format::bytes::u16_at;
 use format::layout::Layout;
 use format::layout::patch_record;
-use format::sizes::HEADER_SIZE;
-use format::sizes::NODE_RUN;
-use format::sizes::NODE_SIZE;
-use format::sizes::PATCH_RUN;
+use header::sizes::HEADER_SIZE;
+use header::sizes::NODE_RUN;
+use header::sizes::NODE_SIZE;
+use header::sizes::PATCH_RUN;
+use little_endian::u16_at;
 ghost use mathlib.Core.Path.{_≡_};
 ghost use mathlib.Core.Bool.{true};
 ghost use mathlib.Core.List.{map};

@@ -2,7 +2,7 @@ use borrow.Author.Needs.{needs}
 use Prim.Native.Nat.{_-_}
 use mathlib.Core.Path.{refl}
 use mir.Syntax.{w16}
-use Rattle.format.proofs.TwosComplement.{through}
+use Rattle.little_endian.proofs.TwosComplement.{through}
 use Rattle.format.proofs.Places.{Filled, none-filled, one-filled, all-filled}
 use Rattle.format.proofs.patch.axis.Statement.{statement}
 use Rattle.format.proofs.patch.axis.Tie as tie

@@ -1,6 +1,6 @@
 use mathlib.Core.Path.{refl, _∙_}
 use mir.Syntax.{w16}
-use Rattle.format.proofs.TwosComplement.{through}
+use Rattle.little_endian.proofs.TwosComplement.{through}
 use Rattle.format.proofs.Made.{vec-made}
 use borrow.Author.Needs.{needs}
 use Rattle.format.proofs.patch.corner_of.Statement.{statement}

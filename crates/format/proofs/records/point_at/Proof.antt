@@ -1,5 +1,5 @@
 use mir.Syntax.{w16}
-use Rattle.format.proofs.TwosComplement.{through}
+use Rattle.little_endian.proofs.TwosComplement.{through}
 use Rattle.format.proofs.Made.{point-made}
 use borrow.Author.Needs.{needs}
 use Rattle.format.proofs.records.point_at.Statement.{statement}

@@ -2,9 +2,9 @@ use mathlib.Core.Path.{_∙_, ap}
 use mir.Syntax.{w16}
 use borrow.Author.Needs.{needs}
 use Rattle.model.specs.Format.{signed16}
-use Rattle.format.proofs.TwosComplement.{through}
-use Rattle.format.proofs.bytes.i16_at.Statement.{statement}
-use Rattle.format.proofs.bytes.i16_at.Tie as tie
+use Rattle.little_endian.proofs.TwosComplement.{through}
+use Rattle.little_endian.proofs.i16_at.Statement.{statement}
+use Rattle.little_endian.proofs.i16_at.Tie as tie
 
 pub i16-at-spec : {M : Type 1} → statement M
 i16-at-spec =

@@ -1,21 +1,23 @@
 // The header of a scene, and questions 1 and 2.
-use crate::bytes::u16_at;
-use crate::bytes::u32_at;
-use crate::sizes::CORNER_SIZE;
-use crate::sizes::HEADER_SIZE;
-use crate::sizes::LONGEST_SCENE;
-use crate::sizes::MOST_CORNERS;
-use crate::sizes::MOST_NODES;
-use crate::sizes::MOST_PATCHES;
-use crate::sizes::NODE_SIZE;
-use crate::sizes::PATCH_SIZE;
-use crate::sizes::VERSION;
+pub mod sizes;
+
+use little_endian::u16_at;
+use little_endian::u32_at;
+use sizes::CORNER_SIZE;
+use sizes::HEADER_SIZE;
+use sizes::LONGEST_SCENE;
+use sizes::MOST_CORNERS;
+use sizes::MOST_NODES;
+use sizes::MOST_PATCHES;
+use sizes::NODE_SIZE;
+use sizes::PATCH_SIZE;
+use sizes::VERSION;
 ghost use mathlib.Core.Path.{_≡_};
 ghost use Prim.Native.Nat.{_+_, _≤_, _<_};
 ghost use lib.ListN.{length};
 ghost use Rattle.model.specs.Format.{headerOf, sectionAt};
 ghost use Rattle.model.specs.Questions.{hasHeader, isSection, hasSections};
-ghost use Rattle.format.specs.Machine.{sectionOf, SectionIs, HeaderIs};
+ghost use Rattle.header.specs.Header.{sectionOf, SectionIs, HeaderIs};
 
 pub struct Section {
     pub offset: usize,

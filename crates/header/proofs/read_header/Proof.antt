@@ -1,7 +1,7 @@
-use Rattle.format.proofs.Made.{header-made}
+use Rattle.header.proofs.HeaderMade.{header-made}
 use borrow.Author.Needs.{needs}
-use Rattle.format.proofs.header.read_header.Statement.{statement}
-use Rattle.format.proofs.header.read_header.Tie as tie
+use Rattle.header.proofs.read_header.Statement.{statement}
+use Rattle.header.proofs.read_header.Tie as tie
 
 returns : tie.Need-returns
 returns c =

@@ -9,8 +9,8 @@ use borrow.Author.Tests.{le-leb, lt-leb, eq-eqb, ne-eqb}
 use Rattle.model.specs.Format as model
 use Rattle.model.specs.Format.{headerOf}
 use Rattle.model.specs.Questions.{hasHeader, hasSections, isSection, sectionEnd}
-use Rattle.format.specs.declared.header.Header.{Header}
-use Rattle.format.specs.Machine.{sectionOf, HeaderIs}
+use Rattle.header.specs.declared.Header.{Header}
+use Rattle.header.specs.Header.{sectionOf, HeaderIs}
 
 -- ---- question 1
 module _ (bytes : List ℕ) where

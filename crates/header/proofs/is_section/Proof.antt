@@ -1,7 +1,7 @@
-use Rattle.format.proofs.HeaderTests.{other-start, part-record, section-most}
+use Rattle.header.proofs.HeaderTests.{other-start, part-record, section-most}
 use borrow.Author.Needs.{needs}
-use Rattle.format.proofs.header.is_section.Statement.{statement}
-use Rattle.format.proofs.header.is_section.Tie as tie
+use Rattle.header.proofs.is_section.Statement.{statement}
+use Rattle.header.proofs.is_section.Tie as tie
 
 returns : tie.Need-returns
 returns c = search other-start

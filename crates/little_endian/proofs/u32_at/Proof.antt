@@ -1,7 +1,7 @@
 use borrow.Author.Needs.{needs}
 use Rattle.model.specs.Format.{u32At}
-use Rattle.format.proofs.bytes.u32_at.Statement.{statement}
-use Rattle.format.proofs.bytes.u32_at.Tie as tie
+use Rattle.little_endian.proofs.u32_at.Statement.{statement}
+use Rattle.little_endian.proofs.u32_at.Tie as tie
 
 returns : tie.Need-returns
 unfolding u32At

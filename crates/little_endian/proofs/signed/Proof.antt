@@ -1,7 +1,7 @@
 use borrow.Author.Needs.{needs}
-use Rattle.format.proofs.TwosComplement.{low-fits, low, difference-fits, high-fits, high}
-use Rattle.format.proofs.bytes.signed.Statement.{statement}
-use Rattle.format.proofs.bytes.signed.Tie as tie
+use Rattle.little_endian.proofs.TwosComplement.{low-fits, low, difference-fits, high-fits, high}
+use Rattle.little_endian.proofs.signed.Statement.{statement}
+use Rattle.little_endian.proofs.signed.Tie as tie
 
 pub signed-spec : {M : Type 1} → statement M
 signed-spec =

@@ -1,7 +1,7 @@
-use Rattle.format.proofs.Made.{section-made}
+use Rattle.header.proofs.HeaderMade.{section-made}
 use borrow.Author.Needs.{needs}
-use Rattle.format.proofs.header.section_at.Statement.{statement}
-use Rattle.format.proofs.header.section_at.Tie as tie
+use Rattle.header.proofs.section_at.Statement.{statement}
+use Rattle.header.proofs.section_at.Tie as tie
 
 returns : tie.Need-returns
 returns c = section-made _ _ (c .before .u32-at .ensures) (c .u32-at2 .ensures)

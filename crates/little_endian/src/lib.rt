@@ -3,7 +3,7 @@ ghost use mathlib.Core.Path.{_≡_};
 ghost use Prim.Native.Nat.{_+_, _*_, _≤_, _<_};
 ghost use lib.ListN.{length};
 ghost use Rattle.model.specs.Format.{u16At, u32At, signed16, i16At};
-ghost use Rattle.format.specs.Machine.{NaturalIs};
+ghost use Rattle.little_endian.specs.Natural.{NaturalIs};
 
 fn joined(low: u8, high: u8) -> usize
     ensures { λ r. ⌜ NaturalIs 65536 (low + 256 * high) r ⌝ }

@@ -1,8 +1,8 @@
 use borrow.Author.Tests.{not-true, not-false}
-use Rattle.format.proofs.HeaderTests.{no-nodes, no-patches, no-corners, sections-whole}
+use Rattle.header.proofs.HeaderTests.{no-nodes, no-patches, no-corners, sections-whole}
 use borrow.Author.Needs.{needs}
-use Rattle.format.proofs.header.has_sections.Statement.{statement}
-use Rattle.format.proofs.header.has_sections.Tie as tie
+use Rattle.header.proofs.has_sections.Statement.{statement}
+use Rattle.header.proofs.has_sections.Tie as tie
 
 returns : tie.Need-returns
 returns c = search (no-nodes, not-true)

@@ -1,8 +1,8 @@
 use native.Mathlib.Omega.{arith}
-use Rattle.format.proofs.HeaderTests.{too-short, too-long, other-version, not-reserved, header-whole}
+use Rattle.header.proofs.HeaderTests.{too-short, too-long, other-version, not-reserved, header-whole}
 use borrow.Author.Needs.{needs}
-use Rattle.format.proofs.header.has_header.Statement.{statement}
-use Rattle.format.proofs.header.has_header.Tie as tie
+use Rattle.header.proofs.has_header.Statement.{statement}
+use Rattle.header.proofs.has_header.Tie as tie
 
 returns : tie.Need-returns
 returns c = search too-short

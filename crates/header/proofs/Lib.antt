@@ -1,0 +1,3 @@
+-- Laws of the header.
+mod HeaderMade
+mod HeaderTests

@@ -1,0 +1,2 @@
+-- Numbers of two bytes, signed.
+pub mod TwosComplement
