@@ -1,11 +1,11 @@
 // The questions on a scene, 1 to 9, put in order to any byte string.
+use children::children_proper;
 use convexity::patches_proper;
+use coordinates::coordinates_in_range;
 use division::planes_divide;
 use format::layout::read_layout;
 use header::has_header;
 use header::has_sections;
-use scene::children::children_proper;
-use scene::coordinates::coordinates_in_range;
 use scene::panels::panels_proper;
 use scene::planes::planes_proper;
 use scene::runs::runs_proper;

@@ -1,8 +1,5 @@
--- Laws of questions 3 to 7.
-mod InRange
+-- Laws of questions 4, 6 and 7.
 mod OffOneLine
-mod ChildOrder
-mod Named
 mod Following
 pub mod RunTables
 mod NeverFalling

@@ -1,6 +1,6 @@
 // Questions 10, 11 and 12.
+use coordinates::point_in_range;
 use geometry::Vector;
-use scene::coordinates::point_in_range;
 ghost use mathlib.Core.Path.{_≡_};
 ghost use mathlib.Core.Bool.{_&&_};
 ghost use Prim.Native.Nat.{_*_};

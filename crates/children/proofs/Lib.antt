@@ -1,0 +1,3 @@
+-- Laws of question 5.
+mod ChildOrder
+mod Named

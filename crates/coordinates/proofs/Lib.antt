@@ -1,0 +1,2 @@
+-- Laws of question 3.
+mod InRange
