@@ -18,8 +18,7 @@ use Rattle.model.proofs.Loops.{range-passes, range-fails, range-same}
 use Rattle.format.specs.declared.layout.Layout.{Layout}
 use Rattle.format.specs.Layout.{LaidOut, nodeNumber}
 use Rattle.format.proofs.Decoded.{node-count}
-use Rattle.children.specs.Children.{eachOnce, namedOnce}
-use Rattle.children.specs.Children.{OneMore, TimesNamed}
+use Rattle.children.specs.Children.{eachOnce, namedOnce, OneMore, TimesNamed}
 
 -- ---- one more naming
 pub counted-once : {child : ℕ} {times : List ℕ} → child < length times → OneMore child times (set times child (getD times child 0 + 1))

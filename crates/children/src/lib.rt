@@ -11,8 +11,7 @@ ghost use Rattle.format.specs.Machine.{nodeOf};
 ghost use Rattle.format.specs.Layout.{LaidOut};
 ghost use Rattle.model.specs.Format.{decode};
 ghost use Rattle.model.specs.Questions.{properChild, childrenProper};
-ghost use Rattle.children.specs.Children.{properChildren, childrenInOrder, namedOnce, eachOnce};
-ghost use Rattle.children.specs.Children.{OneMore, TimesNamed};
+ghost use Rattle.children.specs.Children.{properChildren, childrenInOrder, namedOnce, eachOnce, OneMore, TimesNamed};
 
 fn proper_child(nodes: usize, parent: usize, child: usize) -> bool
     ensures { λ r. ⌜ r ≡ properChild nodes parent child ⌝ }

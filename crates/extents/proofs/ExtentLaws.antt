@@ -13,7 +13,7 @@ use Rattle.model.specs.Lists.{range}
 use Rattle.model.specs.Vector.{Vec}
 use Rattle.model.specs.Patch.{Patch}
 use Rattle.model.specs.Format.{decode, patchNumbered}
-use Rattle.model.proofs.Ranges.{of-map, of-range}
+use Rattle.model.proofs.Ranges.{of-map, of-range, in-range}
 use Rattle.geometry.specs.Machine.{vecOf, VectorIs}
 use Rattle.geometry.specs.declared.Vector.{Vector}
 use Rattle.format.specs.Layout.{cornerNumber}
@@ -25,7 +25,6 @@ use Rattle.extents.specs.Extents.{Widened, takesCorner, Wider, takesPatc
 use Rattle.boxes.specs.Enclosed.{Along, Encloses, ExtentBounded}
 use Rattle.boxes.specs.declared.Bounds.{Bounds}
 use Rattle.boxes.specs.declared.Extent.{Extent}
-use Rattle.model.proofs.Ranges.{in-range}
 use Rattle.boxes.proofs.BoxLaws.{at-most-refl, covers-refl, covers-trans, in-wider, joined-first, joined-second, joined-bounded, common-first, common-second, common-bounded}
 
 pub wider-refl : (e : Extent) → Wider e e

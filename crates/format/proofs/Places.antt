@@ -7,10 +7,9 @@ use lib.IntN.{ℤ, pos}
 use lib.ListN.{length, getD, set, length-set}
 use lib.Seq.{getD-set-same, getD-set-other}
 use borrow.Author.Count.{below-none, below-more}
-use Rattle.model.specs.Format.{i16At}
+use Rattle.model.specs.Format.{i16At, pointAt, decode, patchNumbered}
 use Rattle.model.specs.Vector.{vec}
 use Rattle.model.specs.Format as model
-use Rattle.model.specs.Format.{pointAt, decode, patchNumbered}
 use Rattle.format.specs.declared.layout.Layout.{Layout}
 use Rattle.format.specs.declared.records.Run.{Run}
 use Rattle.format.specs.declared.records.PatchRecord.{PatchRecord}

@@ -20,8 +20,7 @@ use Rattle.geometry.specs.Machine.{vecOf, Bounded, VectorIs}
 use Rattle.format.specs.declared.patch.Patch.{Patch}
 use Rattle.format.specs.Patch.{cornerOf, patchOf}
 use Rattle.polygons.specs.Bounds.{PatchBounded, WithNormal}
-use Rattle.projection.specs.Projected.{wrap}
-use Rattle.projection.specs.Projected.{Projected, projectedAt, ProjectionBounded, turnsProjected, convexProjected}
+use Rattle.projection.specs.Projected.{wrap, Projected, projectedAt, ProjectionBounded, turnsProjected, convexProjected}
 use Rattle.projection.specs.declared.Projection.{Projection}
 use Rattle.model.proofs.Loops.{each}
 use Rattle.geometry.proofs.Zeros.{zero-word}

@@ -5,8 +5,7 @@ use Prim.Native.Nat.{ℕ, zero, suc, _+_, _-_, _≤_, _<_}
 use native.Mathlib.Omega.{arith}
 use lib.Dec.{leb}
 use borrow.Author.Tests.{le-leb, lt-leb}
-use Rattle.projection.specs.Projected.{wrap}
-use Rattle.projection.specs.Projected.{asked}
+use Rattle.projection.specs.Projected.{wrap, asked}
 
 pub next-asked : {n : ℕ} → n ≤ 4 → 1 ≡ asked n
 unfolding asked

@@ -10,8 +10,7 @@ use Rattle.integer.proofs.Order.{lt-ltZ, le-ltZ}
 use Rattle.geometry.specs.Machine.{NumberIs}
 use Rattle.projection.specs.declared.Point.{Point}
 use Rattle.projection.specs.declared.Projection.{Projection}
-use Rattle.projection.specs.Projected.{wrap}
-use Rattle.projection.specs.Projected.{Projected, projected, projectedOf, projectedAt, ProjectedWithin, ProjectionBounded, turnPart, asked, turnsProjected, turnsProjectedAt, convexProjected}
+use Rattle.projection.specs.Projected.{wrap, Projected, projected, projectedOf, projectedAt, ProjectedWithin, ProjectionBounded, turnPart, asked, turnsProjected, turnsProjectedAt, convexProjected}
 use Rattle.model.proofs.Loops.{IsEvery, every-entry, every-number}
 
 pub projected-made : {a b c d : ℤ} → a ≡ c → b ≡ d → projected a b ≡ projected c d

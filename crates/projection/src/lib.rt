@@ -5,8 +5,7 @@ ghost use Prim.Native.Nat.{_+_, _≤_, _<_};
 ghost use lib.IntN.{_*ℤ_};
 ghost use Rattle.integer.specs.Magnitude.{Within};
 ghost use Rattle.geometry.specs.Machine.{Bounded, NumberIs};
-ghost use Rattle.projection.specs.Projected.{wrap};
-ghost use Rattle.projection.specs.Projected.{projected, projectedOf, projectedAt, ThreeWithin, ProjectionBounded, turnPart, asked, turnsProjectedAt, convexProjected};
+ghost use Rattle.projection.specs.Projected.{wrap, projected, projectedOf, projectedAt, ThreeWithin, ProjectionBounded, turnPart, asked, turnsProjectedAt, convexProjected};
 
 // the part of the patch's normal along the axis, and how many corners it has
 pub struct Projection {

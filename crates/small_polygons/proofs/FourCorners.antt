@@ -17,8 +17,7 @@ use Rattle.format.specs.declared.patch.Patch.{Patch}
 use Rattle.format.specs.Patch.{cornerOf, patchOf}
 use Rattle.format.specs.Bounds.{VecWithin}
 use Rattle.polygons.specs.Bounds.{PatchBounded, WithNormal}
-use Rattle.projection.specs.Projected.{wrap}
-use Rattle.projection.specs.Projected.{projectedOf, ProjectedWithin, projectedAt, turnsProjected, turnsProjectedAt, convexProjected, asked}
+use Rattle.projection.specs.Projected.{wrap, projectedOf, ProjectedWithin, projectedAt, turnsProjected, turnsProjectedAt, convexProjected, asked}
 use Rattle.small_polygons.specs.Four.{FourBounded, FourFlat, FourWithin, patchOfFour, convexFour}
 use Rattle.projection.specs.declared.Point.{Point}
 use Rattle.projection.specs.declared.Projection.{Projection}
