@@ -2,7 +2,7 @@
 use format::bytes::i16_at;
 use format::bytes::u16_at;
 use libc::STDOUT_FILENO;
-use survey::call::area;
+use call::area;
 ghost use mathlib.Core.Path.{_≡_};
 ghost use Prim.Native.Nat.{_+_, _≤_, min};
 ghost use lib.ListN.{length};

@@ -22,8 +22,7 @@ use Rattle.geometry.specs.Raster.{rayAt}
 use Rattle.format.specs.declared.layout.Layout.{Layout}
 use Rattle.format.proofs.Tables.{same-table}
 use Rattle.segments.proofs.Rows.{row-congr}
-use Rattle.reach.specs.Reach.{spanAt}
-use Rattle.reach.specs.Selection.{reached, reaching, passing, Selected}
+use Rattle.selection.specs.Selection.{spanAt, reached, reaching, passing, Selected}
 use Rattle.edges.specs.declared.Sight.{Sight}
 use Rattle.scanline.specs.Shown.{shownAfter}
 use Rattle.scanline.specs.Laying.{PatchDrawable, Drawable, walkOf}

@@ -1,8 +1,8 @@
 // The picture and the unlit lists, painted row after row, from the top.
 use edges::Sight;
 use format::layout::Layout;
-use reach::rows::row_planes;
-use reach::selection::select;
+use reach::row_planes;
+use selection::select;
 use readiness::extend_ready;
 use readiness::wanted;
 use scanline::paint_row;

@@ -6,7 +6,7 @@ use console::print_total;
 use console::survey_input;
 use console::word;
 use libc::STDIN_FILENO;
-use survey::call::area;
+use call::area;
 ghost use Prim.Native.Nat.{_≤_};
 ghost use lib.ListN.{length};
 
