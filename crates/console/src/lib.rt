@@ -1,8 +1,8 @@
 // What the programs share: the lines that they print, and the survey of a view (an eye and a window, 12 bytes) and a scene.
+use call::area;
 use format::bytes::i16_at;
 use format::bytes::u16_at;
 use libc::STDOUT_FILENO;
-use call::area;
 ghost use mathlib.Core.Path.{_≡_};
 ghost use Prim.Native.Nat.{_+_, _≤_, min};
 ghost use lib.ListN.{length};

@@ -1,8 +1,8 @@
 // The patches of a walk that can be met in some rows.
 pub mod table;
 
-use table::span_at;
 use spans::Span;
+use table::span_at;
 ghost use mathlib.Core.Path.{_≡_};
 ghost use mathlib.Core.Bool.{cond};
 ghost use Prim.Native.Nat.{_+_, _≤_, _<_};

@@ -4,9 +4,9 @@ use Prim.Native.Nat.{_-_}
 use native.Mathlib.Omega.{arith}
 use borrow.Author.Needs.{needs}
 use lib.ListN.{length}
-use Rattle.painting.proofs.Copying.{Copied, copy-starts, copy-length, copy-goes, copy-ends}
-use Rattle.painting.proofs.picture.put_row.Statement.{statement}
-use Rattle.painting.proofs.picture.put_row.Tie as tie
+use Rattle.placing.proofs.Copying.{Copied, copy-starts, copy-length, copy-goes, copy-ends}
+use Rattle.placing.proofs.put_row.Statement.{statement}
+use Rattle.placing.proofs.put_row.Tie as tie
 
 abbrev Inv-loop : tie.InvT-loop
 Inv-loop place₀ row k₀ place k = Copied row place₀ place k

@@ -19,7 +19,7 @@ use Rattle.format.proofs.Tables.{length-table}
 use Rattle.segments.proofs.Rows.{row-length}
 use Rattle.segments.proofs.Full.{first-length}
 use Rattle.scanline.specs.Shown.{RowPainted}
-use Rattle.painting.specs.Framing.{RowsPainted, Framed, withRow, RowPlaced, RowDone, cellsOf, unlitOf, RowsUpTo}
+use Rattle.placing.specs.Framing.{RowsPainted, Framed, withRow, RowPlaced, RowDone, cellsOf, unlitOf, RowsUpTo}
 use Rattle.scanline.proofs.Columns.{each-lit}
 use Rattle.scanline.proofs.WalkPainted.{as-long}
 

@@ -3,11 +3,11 @@ use mathlib.Core.Path.{_∙_}
 use Prim.Native.Nat.{_-_}
 use native.Mathlib.Omega.{arith}
 use borrow.Author.Needs.{needs}
-use Rattle.painting.proofs.RowsPlaced.{still-framed}
-use Rattle.painting.proofs.NearWalk.{near-count, near-drawable, near-reached, near-done}
+use Rattle.placing.proofs.RowsPlaced.{still-framed}
+use Rattle.placing.proofs.NearWalk.{near-count, near-drawable, near-reached, near-done}
 use Rattle.painting.proofs.BandRows.{BandUpTo, band-start, band-go, band-waits, band-end}
-use Rattle.painting.proofs.picture.paint_band.Statement.{statement}
-use Rattle.painting.proofs.picture.paint_band.Tie as tie
+use Rattle.painting.proofs.paint_band.Statement.{statement}
+use Rattle.painting.proofs.paint_band.Tie as tie
 
 abbrev Inv-loop : tie.InvT-loop
 Inv-loop bytes l order sight edges rows picture₀ unlit₀ whole to near n j₀ picture unlit j =

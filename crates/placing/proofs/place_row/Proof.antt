@@ -2,9 +2,9 @@
 use mathlib.Core.Path.{refl}
 use borrow.Author.Needs.{needs}
 use native.Mathlib.Omega.{arith}
-use Rattle.painting.proofs.RowsPlaced.{cells-fit, row-done}
-use Rattle.painting.proofs.picture.place_row.Statement.{statement}
-use Rattle.painting.proofs.picture.place_row.Tie as tie
+use Rattle.placing.proofs.RowsPlaced.{cells-fit, row-done}
+use Rattle.placing.proofs.place_row.Statement.{statement}
+use Rattle.placing.proofs.place_row.Tie as tie
 
 mul-start : tie.Need-mul-start
 mul-start c = omega (arith, cells-fit (c .before .before .before .before .pre .framed) (c .before .before .before .before .pre .inside))

@@ -4,11 +4,11 @@ use Prim.Native.Nat.{_+_, _-_}
 use native.Mathlib.Omega.{arith}
 use lib.ListN.{length}
 use lib.Seq.{length-take-le}
-use Rattle.painting.proofs.RowsPlaced.{still-framed}
+use Rattle.placing.proofs.RowsPlaced.{still-framed}
 use Rattle.readiness.proofs.ReadyWalk.{room-stays, ready-drawable, ready-reached}
 use Rattle.painting.proofs.Progress.{Progress, progress-start, progress-goes, progress-less, progress-end}
-use Rattle.painting.proofs.picture.paint_rows.Statement.{statement}
-use Rattle.painting.proofs.picture.paint_rows.Tie as tie
+use Rattle.painting.proofs.paint_rows.Statement.{statement}
+use Rattle.painting.proofs.paint_rows.Tie as tie
 
 abbrev Inv-loop : tie.InvT-loop
 Inv-loop bytes l order sight edges₀ rows₀ picture₀ unlit₀ planes height all ready₀ from₀ edges rows picture unlit ready from =

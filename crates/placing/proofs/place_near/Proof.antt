@@ -1,9 +1,9 @@
 -- `place_near` meets its contract: the patches that reach the row show in it what all show.
 use borrow.Author.Needs.{needs}
 use native.Mathlib.Omega.{arith}
-use Rattle.painting.proofs.NearWalk.{near-count, near-drawable, near-done}
-use Rattle.painting.proofs.picture.place_near.Statement.{statement}
-use Rattle.painting.proofs.picture.place_near.Tie as tie
+use Rattle.placing.proofs.NearWalk.{near-count, near-drawable, near-done}
+use Rattle.placing.proofs.place_near.Statement.{statement}
+use Rattle.placing.proofs.place_near.Tie as tie
 
 slice-aggregate-place-row : tie.Need-slice-aggregate-place-row
 slice-aggregate-place-row c = near-count (c .before .before .select .ensures)

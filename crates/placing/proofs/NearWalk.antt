@@ -26,7 +26,7 @@ use Rattle.selection.specs.Selection.{spanAt, reached, reaching, passing, Selec
 use Rattle.edges.specs.declared.Sight.{Sight}
 use Rattle.scanline.specs.Shown.{shownAfter}
 use Rattle.scanline.specs.Laying.{PatchDrawable, Drawable, walkOf}
-use Rattle.painting.specs.Framing.{withRow, RowDone}
+use Rattle.placing.specs.Framing.{withRow, RowDone}
 use Rattle.readiness.specs.Ready.{ReachKnown, Reached}
 
 -- what holds of every number holds of those that pass
