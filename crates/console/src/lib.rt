@@ -1,8 +1,8 @@
 // What the programs share: the lines that they print, and the survey of a view (an eye and a window, 12 bytes) and a scene.
+use call::area;
 use libc::STDOUT_FILENO;
 use little_endian::i16_at;
 use little_endian::u16_at;
-use survey::call::area;
 ghost use mathlib.Core.Path.{_≡_};
 ghost use Prim.Native.Nat.{_+_, _≤_, min};
 ghost use lib.ListN.{length};

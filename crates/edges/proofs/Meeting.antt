@@ -20,7 +20,8 @@ use Rattle.geometry.specs.declared.EdgeFunction.{EdgeFunction}
 use Rattle.geometry.specs.Machine.{vecOf}
 use Rattle.geometry.specs.Raster.{rayAt, seenBy}
 use Rattle.format.proofs.Tables.{length-table}
-use Rattle.spans.specs.Row.{functionAt, functionsIn, numberIn, allAbove}
+use Rattle.tables.specs.Functions.{functionAt, functionsIn}
+use Rattle.spans.specs.Row.{numberIn, allAbove}
 use Rattle.edges.specs.declared.Sight.{Sight}
 use Rattle.edges.specs.Edges.{orientedEdges, EdgesAt}
 use Rattle.edges.proofs.Orientation.{inside, every-map, met-none, met-inside}

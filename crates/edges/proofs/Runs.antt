@@ -28,7 +28,7 @@ use Rattle.model.proofs.Runs.{runEnd, runs-in-turn}
 use Rattle.checked.specs.Checked.{Checked, CornersAre}
 use Rattle.checked.proofs.Corners.{corner-is}
 use Rattle.geometry.specs.Raster.{FunctionBounded}
-use Rattle.spans.specs.Row.{functionAt}
+use Rattle.tables.specs.Functions.{functionAt}
 use Rattle.edges.specs.declared.Sight.{Sight}
 use Rattle.edges.specs.Edges.{EdgesAt, EdgesWritten}
 

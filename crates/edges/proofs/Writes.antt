@@ -16,7 +16,8 @@ use Rattle.geometry.specs.declared.EdgeFunction.{EdgeFunction}
 use Rattle.geometry.specs.Machine.{vecOf}
 use Rattle.geometry.specs.Raster.{seenBy, FunctionIs}
 use Rattle.format.proofs.Tables.{same-table}
-use Rattle.spans.specs.Row.{functionAt, FunctionStored}
+use Rattle.tables.specs.Stored.{Stored}
+use Rattle.tables.specs.Functions.{functionAt}
 use Rattle.edges.specs.declared.Sight.{Sight}
 use Rattle.edges.specs.Edges.{EdgesWritten}
 use Rattle.edges.proofs.Places.{edgeNumbered, fromCorner, oriented-table, oriented-at}
@@ -37,7 +38,7 @@ writing-none s p first count table =
 
 module _ {s : Sight} {p : Patch} {first count i : ℕ} {before after : List ℤ} (w : Writing s p first count before after i) where
   pub writing-more :
-      {after′ : List ℤ} {f : EdgeFunction} → i < count → FunctionStored after after′ (first + i) f →
+      {after′ : List ℤ} {f : EdgeFunction} → i < count → Stored functionAt after after′ (first + i) f →
       FunctionIs (seenBy (s .raster) (edgeNumbered (vecOf (s .eye)) p i)) f →
       Writing s p first count before after′ (i + 1)
   writing-more {after′} h stored is =
@@ -47,7 +48,7 @@ module _ {s : Sight} {p : Patch} {first count i : ℕ} {before after : List ℤ}
         written =
             below-more _ i
             (λ j b. subst (FunctionIs (seenBy (s .raster) (edgeNumbered (vecOf (s .eye)) p j))) (sym (stored .others (first + j) (λ e. absurd (omega arith)))) (w .written j b))
-            (subst (FunctionIs (seenBy (s .raster) (edgeNumbered (vecOf (s .eye)) p i))) (sym (stored .here)) is);
+            (subst (FunctionIs (seenBy (s .raster) (edgeNumbered (vecOf (s .eye)) p i))) (sym (stored .stands)) is);
         others = λ m o. stored .others m (apart m o) ∙ w .others m o;
       }
     where

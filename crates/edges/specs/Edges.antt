@@ -17,7 +17,7 @@ use Rattle.geometry.specs.Machine.{vecOf, Bounded}
 use Rattle.geometry.specs.Raster.{RasterBounded, seenBy}
 use Rattle.format.specs.declared.layout.Layout.{Layout}
 use Rattle.checked.specs.Checked.{Checked}
-use Rattle.spans.specs.Row.{functionAt, functionsIn, FunctionRun}
+use Rattle.tables.specs.Functions.{functionAt, functionsIn, FunctionRun}
 use Rattle.edges.specs.declared.Sight.{Sight}
 
 pub record SightBounded (s : Sight) : Type 0 where

@@ -5,7 +5,7 @@ use format::layout::Layout;
 use geometry::Raster;
 use geometry::Vector;
 use geometry::edge_function;
-use spans::table::store_function;
+use tables::store_function;
 ghost use mathlib.Core.Path.{_≡_};
 ghost use Prim.Native.Nat.{_<_};
 ghost use Rattle.model.specs.Vector.{minus, times, cross};

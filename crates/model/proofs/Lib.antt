@@ -5,7 +5,6 @@ pub mod Computing
 pub mod Encode
 pub mod Scenes
 pub mod Stations
-pub mod Refusals
 pub mod Limits
 -- tests over lists
 pub mod Tests

@@ -15,13 +15,13 @@ use Rattle.geometry.specs.Raster.{rayAt}
 use Rattle.format.proofs.Tables.{same-table}
 use Rattle.segments.proofs.Rows.{row-congr}
 use Rattle.edges.specs.declared.Sight.{Sight}
-use Rattle.painting.specs.declared.picture.Band.{Band}
+use Rattle.painting.specs.declared.Band.{Band}
 use Rattle.scanline.specs.Shown.{shownAfter}
 use Rattle.scanline.specs.Laying.{walkOf}
-use Rattle.painting.specs.Framing.{Framed, withRow, RowPlaced, RowDone, RowsUpTo}
+use Rattle.placing.specs.Framing.{Framed, withRow, RowPlaced, RowDone, RowsUpTo}
 use Rattle.painting.specs.Bands.{BandPainted}
 use Rattle.scanline.proofs.FirstShown.{unlit-stays, shown-stays}
-use Rattle.painting.proofs.RowsPlaced.{still-framed, rows-go, rows-stay}
+use Rattle.placing.proofs.RowsPlaced.{still-framed, rows-go, rows-stay}
 
 -- a full row is what the whole walk leaves
 full-placed :

@@ -1,7 +1,3 @@
--- A row copied, all rows,
-mod Copying
-mod RowsPlaced
--- the patches that reach some rows, a band of rows, and the whole picture.
-mod NearWalk
+-- A band of rows, and the whole picture.
 mod BandRows
 mod Progress

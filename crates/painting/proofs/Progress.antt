@@ -15,10 +15,10 @@ use Rattle.geometry.specs.Raster.{rayAt}
 use Rattle.format.specs.declared.layout.Layout.{Layout}
 use Rattle.edges.specs.declared.Sight.{Sight}
 use Rattle.scanline.specs.Laying.{walkOf}
-use Rattle.painting.specs.Framing.{RowsPainted, Framed, RowsUpTo}
+use Rattle.placing.specs.Framing.{RowsPainted, Framed, RowsUpTo}
 use Rattle.painting.specs.Bands.{BandPainted}
 use Rattle.readiness.specs.Ready.{ReadyUpTo}
-use Rattle.painting.proofs.RowsPlaced.{still-framed, rows-start, rows-end}
+use Rattle.placing.proofs.RowsPlaced.{still-framed, rows-start, rows-end}
 use Rattle.readiness.proofs.ReadyWalk.{ready-none}
 
 pub record Progress

@@ -1,36 +1,20 @@
--- A row, a band of rows and a whole picture, painted with the part of a walk that is ready: what is asked, and what a band leaves.
+-- A band of rows and a whole picture, painted with the part of a walk that is ready: what is asked, and what a band leaves.
 use mathlib.Core.Path.{_≡_}
 use mathlib.Core.Bool.{true}
 use mathlib.Core.List.{List, [], _++_}
-use Prim.Native.Nat.{ℕ, _≤_, _<_}
+use Prim.Native.Nat.{ℕ, _≤_}
 use lib.IntN.{ℤ}
 use lib.ListN.{length}
 use Rattle.geometry.specs.Machine.{vecOf}
 use Rattle.geometry.specs.Raster.{rayAt}
 use Rattle.format.specs.declared.layout.Layout.{Layout}
 use Rattle.edges.specs.declared.Sight.{Sight}
-use Rattle.painting.specs.declared.picture.Band.{Band}
+use Rattle.painting.specs.declared.Band.{Band}
 use Rattle.scanline.specs.Laying.{Drawable, walkOf}
-use Rattle.painting.specs.Framing.{Framed, RowsUpTo}
+use Rattle.placing.specs.Framing.{Framed, RowsUpTo}
 use Rattle.readiness.specs.Ready.{Paintable, Room, Reached}
 
--- what painting a row in its places asks
-pub record RowAsked
-    (bytes : List ℕ) (l : Layout) (s : Sight) (edges : List ℤ) (order picture unlit : List ℕ) (j : ℕ) : Type 0 where
-  pub drawable : Drawable bytes l s edges order
-  pub framed : Framed (s .raster .width) (s .raster .height) picture unlit
-  pub inside : j < s .raster .height
-
--- and what it asks where the patches that do not reach the row are passed over
-pub record NearAsked
-    (bytes : List ℕ) (l : Layout) (s : Sight) (edges : List ℤ) (rows order picture unlit : List ℕ) (j : ℕ) : Type 0 where
-  pub drawable : Drawable bytes l s edges order
-  pub reached : Reached bytes s rows order
-  pub few : length order ≤ 1024
-  pub framed : Framed (s .raster .width) (s .raster .height) picture unlit
-  pub inside : j < s .raster .height
-
--- the same of a band's rows
+-- what painting a band's rows asks
 pub record BandAsked
     (bytes : List ℕ) (l : Layout) (s : Sight) (edges : List ℤ) (rows order : List ℕ) (band : Band) (picture unlit : List ℕ) : Type 0 where
   pub drawable : Drawable bytes l s edges order

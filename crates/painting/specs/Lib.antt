@@ -1,3 +1,2 @@
 -- What the parts of the painting ask and leave.
-pub mod Framing
 pub mod Bands

@@ -1,2 +1,122 @@
-// A walk painted: the rows of its picture and of the unlit lists.
-pub mod picture;
+// The picture and the unlit lists, painted row after row, from the top.
+use edges::Sight;
+use format::layout::Layout;
+use placing::place_near;
+use reach::row_planes;
+use readiness::extend_ready;
+use readiness::wanted;
+use selection::select;
+ghost use mathlib.Core.Path.{_≡_};
+ghost use mathlib.Core.Bool.{not, _&&_};
+ghost use Prim.Native.Nat.{_≤_, _<_};
+ghost use Rattle.geometry.specs.Machine.{vecOf};
+ghost use Rattle.geometry.specs.Raster.{rayAt};
+ghost use Rattle.placing.specs.Framing.{RowsPainted};
+ghost use Rattle.scanline.specs.Laying.{walkOf};
+ghost use Rattle.painting.specs.Bands.{BandAsked, PictureAsked, BandPainted};
+
+// the rows from `from` up to before `to`; `whole` says that the whole walk is ready
+pub struct Band {
+    pub from: u16,
+    pub to: u16,
+    pub whole: bool,
+}
+
+// a row that is not full waits for the rest of the walk, unless there is none
+fn waits(whole: bool, full: bool) -> bool
+    ensures { λ r. ⌜ r ≡ (not whole && not full) ⌝ }
+{
+    if whole {
+        return false;
+    }
+    !full
+}
+
+// Paints the rows of a band with the part of the walk that is ready, and returns the row after the last one painted: the first that is not full while the
+// walk goes on. The patches that reach none of the rows are left out once for all.
+fn paint_band(
+    bytes: &[u8],
+    l: Layout,
+    order: &[u16],
+    sight: Sight,
+    edges: &[i64],
+    rows: &[u16],
+    band: Band,
+    picture: &mut [u16],
+    unlit: &mut [u16],
+) -> u16
+    requires { ⌜ BandAsked (now bytes) l sight (now edges) (now rows) (now order) band (now picture) (now unlit) ⌝ }
+    ensures { λ r. ⌜ BandPainted (now (bytes .entry)) sight (now (order .entry)) band (now (picture .entry)) (now (unlit .entry))
+        (now (picture .exit)) (now (unlit .exit)) r ⌝ }
+{
+    let whole = band.whole;
+    let to = band.to;
+    let mut near = [0u16; 1024];
+    let n = select(order, rows, band.from, to, &mut near);
+    let mut j = band.from;
+    while j < to {
+        let full = place_near(bytes, l, &near[..n], sight, edges, rows, j, picture, unlit);
+        if waits(whole, full) {
+            return j;
+        }
+        j += 1;
+    }
+    j
+}
+
+// A band has 8 rows, the last one what is left.
+fn band_end(from: u16, height: u16) -> u16
+    requires { ⌜ from < height ⌝ }
+    ensures { λ r. ⌜ (from < r) × (r ≤ height) ⌝ }
+{
+    if height - from < 8 {
+        return height;
+    }
+    from + 8
+}
+
+// Band after band. Where a row is not full with the part of the walk that is ready, more of it is made ready, and the row is painted anew.
+// What the two tables hold at entry does not matter; what they hold at exit is left free.
+pub fn paint_rows(
+    bytes: &[u8],
+    l: Layout,
+    order: &[u16],
+    sight: Sight,
+    edges: &mut [i64],
+    rows: &mut [u16],
+    picture: &mut [u16],
+    unlit: &mut [u16],
+)
+    requires { ⌜ PictureAsked (now bytes) l sight (now order) (now edges) (now rows) (now picture) (now unlit) ⌝ }
+    ensures { λ r. ⌜ RowsPainted (vecOf (sight .eye)) (rayAt (sight .raster)) (walkOf (now (bytes .entry)) (now (order .entry)))
+        (sight .raster .width) (sight .raster .height) (now (picture .exit)) (now (unlit .exit)) ⌝ }
+{
+    let planes = row_planes(sight.raster);
+    let height = sight.raster.height as u16;
+    let all = order.len();
+    let mut ready = 0;
+    let mut from = 0u16;
+    while from < height {
+        let to = band_end(from, height);
+        let band = Band {
+            from,
+            to,
+            whole: ready == all,
+        };
+        let row = paint_band(
+            bytes,
+            l,
+            &order[..ready],
+            sight,
+            edges,
+            rows,
+            band,
+            picture,
+            unlit,
+        );
+        let more = wanted(ready, all, row < to);
+        extend_ready(bytes, l, order, ready, more, sight, planes, edges, rows);
+        ready = more;
+        from = row;
+    }
+}

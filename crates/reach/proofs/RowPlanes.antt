@@ -16,7 +16,7 @@ use Rattle.model.proofs.Fan.{met-ahead}
 use Rattle.geometry.specs.declared.Raster.{Raster}
 use Rattle.geometry.specs.Machine.{vecOf}
 use Rattle.geometry.specs.Raster.{rayAt}
-use Rattle.reach.specs.declared.rows.Planes.{Planes}
+use Rattle.reach.specs.declared.Planes.{Planes}
 use Rattle.reach.specs.Reach.{PlanesOf, rowNormal}
 
 missed :

@@ -14,11 +14,11 @@ use Rattle.model.proofs.Tests.{lt-or-ge}
 use Rattle.geometry.specs.declared.Raster.{Raster}
 use Rattle.geometry.specs.Raster.{rayAt}
 use Rattle.spans.specs.declared.Span.{Span}
-use Rattle.spans.specs.Span.{covers}
+use Rattle.spans.specs.Span.{covers, Limited}
 use Rattle.spans.proofs.Clipping.{covers-says}
-use Rattle.reach.specs.declared.rows.Planes.{Planes}
-use Rattle.reach.specs.declared.rows.Sides.{Sides}
-use Rattle.reach.specs.Reach.{PlanesOf, SidesBeside, Without, Reach, Limited}
+use Rattle.reach.specs.declared.Planes.{Planes}
+use Rattle.reach.specs.declared.Sides.{Sides}
+use Rattle.reach.specs.Reach.{PlanesOf, SidesBeside, Without, Reach}
 use Rattle.reach.proofs.RowPlanes.{row-missed}
 
 module _ (rows s : Span) where

@@ -1,3 +1,2 @@
 -- What the crate's contracts cite.
 pub mod Reach
-pub mod Selection

@@ -2,10 +2,9 @@
 use mathlib.Core.Path.{_≡_}
 use mathlib.Core.Bool.{false}
 use mathlib.Core.List.{List, List·Memᴰ}
-use Prim.Native.Nat.{ℕ, _+_, _*_, _≤_, _<_}
+use Prim.Native.Nat.{ℕ, _≤_, _<_}
 use lib.Dec.{T}
 use lib.IntN.{ℤ, pos, negsuc, negℤ}
-use lib.ListN.{length, getD}
 use lib.Signed.{_<ℤ_}
 use Rattle.model.specs.Vector.{Vec, minus, plus, times, dot, cross}
 use Rattle.model.specs.Patch.{Patch, Proper}
@@ -19,8 +18,8 @@ use Rattle.format.specs.declared.layout.Layout.{Layout}
 use Rattle.spans.specs.declared.Span.{Span}
 use Rattle.spans.specs.Span.{covers, Shaped, Clipped}
 use Rattle.checked.specs.Checked.{Checked}
-use Rattle.reach.specs.declared.rows.Planes.{Planes}
-use Rattle.reach.specs.declared.rows.Sides.{Sides}
+use Rattle.reach.specs.declared.Planes.{Planes}
+use Rattle.reach.specs.declared.Sides.{Sides}
 
 -- ---- the rows' planes
 -- the normals are square to the rays: across × origin in row 0, and across × down more from row to row
@@ -77,18 +76,3 @@ pub record Reach (eye : Vec) (r : Raster) (p : Patch) (rows : Span) : Type 0 whe
       (rows .first ≤ j → j < rows .end → ⊥) →
       (i : ℕ) →
       met eye (rayAt r i j) p ≡ false
-
--- both ends are within the height
-pub record Limited (height : ℕ) (r : Span) : Type 0 where
-  pub first-limit : r .first ≤ height
-  pub end-limit : r .end ≤ height
-
--- ---- a table of rows: two numbers an entry
-abbrev pub spanAt : List ℕ → ℕ → Span
-spanAt t k = record { first = getD t (2 * k) 0; end = getD t (2 * k + 1) 0 }
-
--- entry k is s now, and the others are as they were
-pub record SpanStored (before after : List ℕ) (k : ℕ) (s : Span) : Type 0 where
-  pub long : length after ≡ length before
-  pub here : spanAt after k ≡ s
-  pub others : (m : ℕ) → (m ≡ k → ⊥) → spanAt after m ≡ spanAt before m

@@ -12,7 +12,7 @@ use Rattle.model.specs.Format.{decode, patchNumbered}
 use Rattle.geometry.specs.Machine.{vecOf}
 use Rattle.format.specs.declared.layout.Layout.{Layout}
 use Rattle.format.specs.Layout.{patchNumber}
-use Rattle.reach.specs.declared.rows.Planes.{Planes}
+use Rattle.reach.specs.declared.Planes.{Planes}
 use Rattle.reach.specs.Reach.{PlanesOf, Sighting, Reach}
 use Rattle.reach.proofs.ProperPatches.{numbered-proper}
 use Rattle.edges.specs.declared.Sight.{Sight}
@@ -77,7 +77,7 @@ module _ {bytes : List ℕ} {l : Layout} {s : Sight} {order : List ℕ} (paintab
         drawn-now = record { numbered = paintable .numbers n h; edges = new .edges-are .edges }
 
         reached-now : ReachKnown bytes s rows′ m
-        reached-now = subst (Reach (vecOf (s .eye)) (s .raster) (patchNumbered (decode bytes) m)) (sym (new .rows-are .here)) (new .reach)
+        reached-now = subst (Reach (vecOf (s .eye)) (s .raster) (patchNumbered (decode bytes) m)) (sym (new .rows-are .stands)) (new .reach)
 
         drawn : (k : ℕ) → k < n → Dec (getD order k 0 ≡ m) → PatchDrawable bytes l s edges′ (getD order k 0)
         drawn k b (yes e) = subst (PatchDrawable bytes l s edges′) (sym e) drawn-now

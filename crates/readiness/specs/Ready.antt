@@ -10,8 +10,10 @@ use Rattle.geometry.specs.Machine.{vecOf}
 use Rattle.format.specs.declared.layout.Layout.{Layout}
 use Rattle.format.specs.Layout.{patchNumber}
 use Rattle.checked.specs.Checked.{Checked}
-use Rattle.reach.specs.declared.rows.Planes.{Planes}
-use Rattle.reach.specs.Reach.{PlanesOf, Sighting, Reach, spanAt, SpanStored}
+use Rattle.reach.specs.declared.Planes.{Planes}
+use Rattle.tables.specs.Stored.{Stored}
+use Rattle.selection.specs.Selection.{spanAt}
+use Rattle.reach.specs.Reach.{PlanesOf, Sighting, Reach}
 use Rattle.spans.specs.declared.Span.{Span}
 use Rattle.edges.specs.declared.Sight.{Sight}
 use Rattle.edges.specs.Edges.{SightBounded, EdgesWritten}
@@ -52,7 +54,7 @@ pub record PatchReady
     (bytes : List ℕ) (l : Layout) (s : Sight) (n : ℕ) (edges edges′ : List ℤ) (rows rows′ : List ℕ) : Type 0 where
   pub edges-are : EdgesWritten s (patchNumbered (decode bytes) n) (patchNumber bytes l n .cornerRun) edges edges′
   pub found : Span
-  pub rows-are : SpanStored rows rows′ n found
+  pub rows-are : Stored spanAt rows rows′ n found
   pub reach : Reach (vecOf (s .eye)) (s .raster) (patchNumbered (decode bytes) n) found
 
 -- the first n patches of a walk are ready

@@ -3,9 +3,9 @@
 use edges::Sight;
 use edges::patch_edges;
 use format::layout::Layout;
-use reach::rows::Planes;
-use reach::rows::patch_rows;
-use reach::table::store_span;
+use reach::Planes;
+use reach::patch_rows;
+use selection::table::store_span;
 ghost use mathlib.Core.Bool.{true};
 ghost use mathlib.Core.Path.{_≡_};
 ghost use Prim.Native.Nat.{_≤_, _<_};

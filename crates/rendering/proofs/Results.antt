@@ -20,7 +20,7 @@ use Rattle.model.specs.Accepted.{AcceptedScene}
 use Rattle.walk.proofs.Whole.{walk-numbers}
 use Rattle.walk.proofs.Seen.{accepted, first-met-closest}
 use Rattle.scanline.specs.Shown.{shownAfter}
-use Rattle.painting.specs.Framing.{RowsPainted}
+use Rattle.placing.specs.Framing.{RowsPainted}
 use Rattle.rendering.proofs.PanelNumbers.{panel-positive}
 use Rattle.scanline.proofs.FirstShown.{unlit-shows-0}
 

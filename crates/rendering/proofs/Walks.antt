@@ -30,7 +30,7 @@ use Rattle.edges.specs.declared.Sight.{Sight}
 use Rattle.edges.specs.Edges.{SightBounded}
 use Rattle.scanline.specs.Laying.{walkOf}
 use Rattle.readiness.specs.Ready.{Paintable}
-use Rattle.painting.specs.Framing.{Framed, RowsPainted}
+use Rattle.placing.specs.Framing.{Framed, RowsPainted}
 use Rattle.rendering.specs.Painted.{RaysOf, Painted}
 use Rattle.rendering.proofs.Results.{walked, painted-picture, painted-unlit}
 

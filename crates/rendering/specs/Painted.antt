@@ -11,7 +11,7 @@ use Rattle.geometry.specs.declared.Vector.{Vector}
 use Rattle.geometry.specs.declared.Raster.{Raster}
 use Rattle.geometry.specs.Machine.{Bounded}
 use Rattle.geometry.specs.Raster.{rayAt, RasterBounded}
-use Rattle.painting.specs.Framing.{Framed}
+use Rattle.placing.specs.Framing.{Framed}
 
 -- a raster with a camera's rays, columns and rows
 pub record RaysOf (c : Camera) (r : Raster) : Type 0 where

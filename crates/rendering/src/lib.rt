@@ -5,7 +5,7 @@ use camera::camera_raster;
 use edges::Sight;
 use format::layout::read_layout;
 use geometry::Vector;
-use painting::picture::paint_rows;
+use painting::paint_rows;
 use walk::order::walk;
 ghost use Rattle.geometry.specs.Machine.{vecOf};
 ghost use Rattle.rendering.specs.Painted.{PaintingAsked, Painted};

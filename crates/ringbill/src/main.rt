@@ -1,4 +1,5 @@
 // Reads an eye, a window and a scene from standard input and prints the bill: the cells of each panel.
+use call::area;
 use console::print;
 use console::print_line;
 use console::print_number;
@@ -6,7 +7,6 @@ use console::print_total;
 use console::survey_input;
 use console::word;
 use libc::STDIN_FILENO;
-use survey::call::area;
 ghost use Prim.Native.Nat.{_≤_};
 ghost use lib.ListN.{length};
 

@@ -17,7 +17,8 @@ use Rattle.format.specs.Machine.{runOf}
 use Rattle.checked.specs.Checked.{PatchRecordIs}
 use Rattle.spans.specs.declared.Span.{Span}
 use Rattle.spans.specs.Span.{covers}
-use Rattle.spans.specs.Row.{functionsIn, FunctionRun, RowSpan}
+use Rattle.tables.specs.Functions.{functionsIn, FunctionRun}
+use Rattle.spans.specs.Row.{RowSpan}
 use Rattle.edges.specs.declared.Sight.{Sight}
 use Rattle.edges.specs.Edges.{EdgesAt}
 use Rattle.edges.proofs.Meeting.{met-seen}

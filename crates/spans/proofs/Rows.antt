@@ -16,7 +16,8 @@ use Rattle.model.proofs.Ranges.{range-at, range-length}
 use Rattle.geometry.specs.declared.EdgeFunction.{EdgeFunction}
 use Rattle.spans.specs.declared.Span.{Span}
 use Rattle.spans.specs.Span.{covers, Shaped, numberAt, Clipped}
-use Rattle.spans.specs.Row.{functionAt, functionsIn, allAbove, RowSpan}
+use Rattle.tables.specs.Functions.{functionAt, functionsIn}
+use Rattle.spans.specs.Row.{allAbove, RowSpan}
 use Rattle.model.proofs.Tests.{lt-or-ge}
 
 -- the span of all columns

@@ -23,6 +23,11 @@ pub record Shaped (width : ℕ) (s : Span) : Type 0 where
   pub written : (s .first < s .end) ⊎ ((s .first ≡ 0) × (s .end ≡ 0))
   pub limited : s .end ≤ width
 
+-- both ends are within a limit
+pub record Limited (most : ℕ) (s : Span) : Type 0 where
+  pub first-limit : s .first ≤ most
+  pub end-limit : s .end ≤ most
+
 -- a number that changes evenly along a row: slope · i + start at column i
 abbrev pub numberAt : ℤ → ℤ → ℕ → ℤ
 numberAt slope start i = slope *ℤ pos i +ℤ start

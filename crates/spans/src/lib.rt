@@ -1,15 +1,14 @@
 // The columns of a row where each of some edge functions is above 0: one span of consecutive columns.
-pub mod table;
-
 use geometry::EdgeFunction;
-use table::function_at;
+use tables::function_at;
 ghost use mathlib.Core.Path.{_≡_};
 ghost use Prim.Native.Nat.{_+_, _/_, _≤_};
 ghost use lib.IntN.{pos, natAbs};
 ghost use lib.Signed.{_<ℤ_, _≤ℤ_};
 ghost use Rattle.geometry.specs.Raster.{FunctionBounded};
 ghost use Rattle.spans.specs.Span.{Occupied, numberAt, Linear, Clipped};
-ghost use Rattle.spans.specs.Row.{functionsIn, FunctionRun, RowSpan};
+ghost use Rattle.tables.specs.Functions.{functionsIn, FunctionRun};
+ghost use Rattle.spans.specs.Row.{RowSpan};
 
 // The columns first .. end − 1. A span with no column is written 0 and 0.
 pub struct Span {

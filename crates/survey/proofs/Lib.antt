@@ -1,7 +1,6 @@
--- The results of a painted walk, and the questions on the call.
+-- The results of a painted walk, and the answer of the call.
 pub mod Refusal
 pub mod Results
 pub mod Handed
 mod Gates
 mod Calls
-mod CallTests

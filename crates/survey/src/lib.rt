@@ -1,6 +1,4 @@
 // The survey call and its gate, for a console in C.
-pub mod call;
-
 use call::counter_below_end;
 use call::lengths_fit;
 use call::view_in_range;

@@ -14,7 +14,7 @@ mkdir -p "$built"
     ar rcs "$built/libsurvey.a" "$built/stub.o"
 }
 export SURVEY_LIB_DIR="$built" CARGO_TARGET_DIR="$built"
-cargo build --release --offline --quiet --features library --bin differential
+cargo build --release --offline --quiet --features library
 differential="$built/release/differential"
 printf '#!/bin/sh\ncat >/dev/null\necho refused 14\n' >"$work/ringbill"
 chmod +x "$work/ringbill"

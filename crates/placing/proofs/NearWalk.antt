@@ -1,0 +1,142 @@
+-- A walk without patches that a row does not meet shows the same in that row.
+use mathlib.Core.Path.{_≡_, refl, sym, _∙_, ap}
+use mathlib.Core.Bool.{Bool, true, false, not, cond, _&&_, _||_}
+use mathlib.Core.List.{List, [], _∷_, map}
+use mathlib.Core.Option.{some}
+use Prim.Native.Nat.{ℕ, zero, suc, _+_, _*_, _≤_, _<_}
+use native.Mathlib.Omega.{arith}
+use lib.IntN.{ℤ}
+use lib.ListN.{length, getD, take}
+use lib.Seq.{length-take-le}
+use borrow.Author.Tests.{ltb-false}
+use lib.Dec.{ltb}
+use Rattle.model.specs.Lists.{any}
+use Rattle.model.specs.Vector.{Vec}
+use Rattle.model.specs.Patch.{Patch}
+use Rattle.model.specs.Ray.{met, panelOf, firstMet}
+use Rattle.model.specs.Format.{decode, patchNumbered}
+use Rattle.model.specs.Row.{rowLength}
+use Rattle.model.specs.Questions.{unlitAfter}
+use Rattle.geometry.specs.Machine.{vecOf}
+use Rattle.geometry.specs.Raster.{rayAt}
+use Rattle.format.specs.declared.layout.Layout.{Layout}
+use Rattle.format.proofs.Tables.{same-table}
+use Rattle.segments.proofs.Rows.{row-congr}
+use Rattle.selection.specs.Selection.{spanAt, reached, reaching, passing, Selected}
+use Rattle.edges.specs.declared.Sight.{Sight}
+use Rattle.scanline.specs.Shown.{shownAfter}
+use Rattle.scanline.specs.Laying.{PatchDrawable, Drawable, walkOf}
+use Rattle.placing.specs.Framing.{withRow, RowDone}
+use Rattle.readiness.specs.Ready.{ReachKnown, Reached}
+
+-- what holds of every number holds of those that pass
+passing-all :
+    (test : ℕ → Bool) (P : ℕ → Type 0) (ns : List ℕ) → ((k : ℕ) → k < length ns → P (getD ns k 0)) →
+    (k : ℕ) → k < length (passing test ns) → P (getD (passing test ns) k 0)
+unfolding passing
+passing-all test P [] f k h = absurd (omega arith)
+passing-all test P (n ∷ ns) f k h = go (passing-all test P ns (λ k h. f (suc k) (omega arith))) (test n) k h
+  where
+    go :
+        ((k : ℕ) → k < length (passing test ns) → P (getD (passing test ns) k 0)) → (b : Bool) (k : ℕ) →
+        k < length (cond b (n ∷ passing test ns) (passing test ns)) → P (getD (cond b (n ∷ passing test ns) (passing test ns)) k 0)
+    go others true zero h = f 0 (omega arith)
+    go others true (suc k) h = others k (omega arith)
+    go others false k h = others k h
+
+-- numbers that do not pass the test are those of patches that the ray does not meet
+abbrev Unmet : Vec → Vec → (ℕ → Patch) → (ℕ → Bool) → List ℕ → Type 0
+Unmet eye d patch test ns = (k : ℕ) → k < length ns → test (getD ns k 0) ≡ false → met eye d (patch (getD ns k 0)) ≡ false
+
+module _ (eye d : Vec) (patch : ℕ → Patch) (test : ℕ → Bool) where
+  passing-first : (ns : List ℕ) → Unmet eye d patch test ns → firstMet eye d (map patch (passing test ns)) ≡ firstMet eye d (map patch ns)
+  unfolding passing firstMet
+  passing-first [] f = refl
+  passing-first (n ∷ ns) f = go (passing-first ns (λ k h. f (suc k) (omega arith))) (test n) refl
+    where
+      go : firstMet eye d (map patch (passing test ns)) ≡ firstMet eye d (map patch ns) → (b : Bool) → test n ≡ b →
+          firstMet eye d (map patch (cond b (n ∷ passing test ns) (passing test ns))) ≡ cond (met eye d (patch n)) (some (patch n)) (firstMet eye d (map patch ns))
+      go rest true e = ap (cond (met eye d (patch n)) (some (patch n))) rest
+      go rest false e = rw (f 0 (omega arith) e) rest
+
+  passing-any : (ns : List ℕ) → Unmet eye d patch test ns → any (met eye d) (map patch (passing test ns)) ≡ any (met eye d) (map patch ns)
+  unfolding passing
+  passing-any [] f = refl
+  passing-any (n ∷ ns) f = go (passing-any ns (λ k h. f (suc k) (omega arith))) (test n) refl
+    where
+      go : any (met eye d) (map patch (passing test ns)) ≡ any (met eye d) (map patch ns) → (b : Bool) → test n ≡ b →
+          any (met eye d) (map patch (cond b (n ∷ passing test ns) (passing test ns))) ≡ (met eye d (patch n) || any (met eye d) (map patch ns))
+      go rest true e = ap (met eye d (patch n) ||_) rest
+      go rest false e = rw (f 0 (omega arith) e) rest
+
+-- ---- the walk of some rows
+module _ {rows order near : List ℕ} {from to n : ℕ} (s : Selected rows from to order near n) where
+  pub near-count : n ≡ length (take n near)
+  near-count = sym (length-take-le n near (s .inside))
+
+  near-each : (P : ℕ → Type 0) → ((k : ℕ) → k < length order → P (getD order k 0)) → (k : ℕ) → k < length (take n near) → P (getD (take n near) k 0)
+  near-each P f = rw (s .front) (passing-all (reaching rows from to) P order f)
+
+  pub near-drawable :
+      {bytes : List ℕ} {l : Layout} {sight : Sight} {edges : List ℤ} → Drawable bytes l sight edges order → Drawable bytes l sight edges (take n near)
+  near-drawable {bytes} {l} {sight} {edges} d =
+      record { checked = d .checked; each = near-each (PatchDrawable bytes l sight edges) (d .each) }
+
+  module _ {bytes : List ℕ} {sight : Sight} (r : Reached bytes sight rows order) where
+    pub near-reached : Reached bytes sight rows (take n near)
+    near-reached =
+        record {
+          inside = near-each (λ (p : ℕ). 2 * p + 2 ≤ length rows) (r .inside);
+          each = near-each (ReachKnown bytes sight rows) (r .each);
+        }
+
+    module _ {j : ℕ} (above : from ≤ j) (below : j < to) (h : j < sight .raster .height) where
+      abbrev eye : Vec
+      eye = vecOf (sight .eye)
+
+      abbrev ray : ℕ → Vec
+      ray i = rayAt (sight .raster) i j
+
+      unmet : (i : ℕ) → Unmet eye (ray i) (patchNumbered (decode bytes)) (reaching rows from to) order
+      unmet i k b e = r .each k b .missed j h (outside (spanAt rows p .first) (spanAt rows p .end) e) i
+        where
+          p : ℕ
+          p = getD order k 0
+
+          outside : (low high : ℕ) → reached low high from to ≡ false → low ≤ j → j < high → ⊥
+          outside low high e x y = go (ltb low to) refl e
+            where
+              go : (b : Bool) → ltb low to ≡ b → (b && ltb from high) ≡ false → ⊥
+              go true t f = let z : high ≤ from = ltb-false from high f in omega arith
+              go false t f = let z : to ≤ low = ltb-false low to t in omega arith
+
+      first-same : (i : ℕ) → firstMet eye (ray i) (walkOf bytes (take n near)) ≡ firstMet eye (ray i) (walkOf bytes order)
+      first-same i = rw (s .front) (passing-first eye (ray i) (patchNumbered (decode bytes)) (reaching rows from to) order (unmet i))
+
+      some-same : (i : ℕ) → any (met eye (ray i)) (walkOf bytes (take n near)) ≡ any (met eye (ray i)) (walkOf bytes order)
+      some-same i = rw (s .front) (passing-any eye (ray i) (patchNumbered (decode bytes)) (reaching rows from to) order (unmet i))
+
+      unlit-same : (i : ℕ) → unlitAfter eye ray (walkOf bytes (take n near)) i ≡ unlitAfter eye ray (walkOf bytes order) i
+      unfolding unlitAfter
+      unlit-same i = ap not (some-same i)
+
+      -- a row painted with the patches that reach it is painted with all
+      pub near-done :
+          {width : ℕ} {picture unlit picture′ unlit′ : List ℕ} {full : Bool} →
+          RowDone eye ray (walkOf bytes (take n near)) width j picture unlit picture′ unlit′ full →
+          RowDone eye ray (walkOf bytes order) width j picture unlit picture′ unlit′ full
+      unfolding shownAfter
+      near-done {width} {picture} {unlit} done =
+          record {
+            placed =
+                record {
+                  cells-are =
+                      done .placed .cells-are
+                      ∙ ap (λ (cells : List ℕ). withRow width j cells picture)
+                      (same-table (shownAfter eye ray (walkOf bytes (take n near))) (shownAfter eye ray (walkOf bytes order)) 0 0 width
+                      (λ i b. ap panelOf (first-same (0 + i))));
+                  row-is =
+                      done .placed .row-is ∙ ap (λ (row : List ℕ). withRow rowLength j row unlit) (row-congr width _ _ (λ i b. unlit-same i));
+                };
+            full-says = λ t i b. sym (unlit-same i) ∙ done .full-says t i b;
+          }

@@ -1,0 +1,3 @@
+-- A row in its places.
+pub mod Framing
+pub mod Places

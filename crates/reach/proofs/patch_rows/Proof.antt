@@ -1,0 +1,17 @@
+-- `reach::patch_rows` meets its contract.
+use borrow.Author.Needs.{needs}
+use mathlib.Core.Path.{refl}
+use Rattle.reach.proofs.RowsLeft.{reach-left, reach-limited}
+use Rattle.reach.proofs.patch_rows.Statement.{statement}
+use Rattle.reach.proofs.patch_rows.Tie as tie
+
+returns : tie.Need-returns
+returns c =
+    let b = c .before .before in
+    let s = b .before .before in (
+      reach-left (s .args .raster) (b .rows-beside .ensures) (c .before .without .ensures) (c .without2 .ensures) (s .pre .planes-of) (s .pre .proper) refl,
+      reach-limited (s .args .raster) (b .rows-beside .ensures) (c .before .without .ensures) (c .without2 .ensures),
+    )
+
+pub patch-rows-spec : {M : Type 1} → statement M
+patch-rows-spec = tie.close (tie.spec (λ c κs. search needs) (λ c κs. search needs) (λ c κs. search needs) returns)

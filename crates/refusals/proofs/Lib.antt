@@ -1,0 +1,2 @@
+-- The questions tried at their limits.
+pub mod Refusals

@@ -1,7 +1,0 @@
-use borrow.Author.Needs.{needs}
-use Rattle.survey.proofs.CallTests.{area-fits}
-use Rattle.survey.proofs.call.area.Statement.{statement}
-use Rattle.survey.proofs.call.area.Tie as tie
-
-pub area-spec : {M : Type 1} → statement M
-area-spec = tie.close (tie.spec (λ c. area-fits (search needs) (search needs)) (λ c. search needs))

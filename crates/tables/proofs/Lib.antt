@@ -1,0 +1,2 @@
+-- An edge function stored in its table.
+mod Stored

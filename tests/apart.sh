@@ -1,0 +1,12 @@
+#!/usr/bin/env bash
+# The tests that need no proved library: the tools, and that the comparison from outside can fail, against the model with one fault at a time and against a library of
+# wrong answers.
+set -euo pipefail
+cd "$(dirname "${BASH_SOURCE[0]}")/.."
+
+tests/tools.sh
+for text in samples/stations/*.txt; do
+    python3 tools/scene.py build "$text" - | cmp - "crates/stations/data/$(basename "$text" .txt)"
+done
+tests/outside/stub/check.sh
+tests/outside/target/stub/release/selftest | grep -v '^holds \|^found '
