@@ -7,7 +7,8 @@ use lib.IntN.{ℤ, pos}
 use lib.ListN.{length, getD, set, length-set}
 use lib.Seq.{getD-set-same, getD-set-other}
 use Rattle.geometry.specs.declared.Vector.{Vector}
-use Rattle.boxes.specs.Boxes.{pointAt, Stored}
+use Rattle.tables.specs.Stored.{Stored}
+use Rattle.boxes.specs.Boxes.{pointAt}
 
 module _ (l : List ℤ) where
   earlier : {i : ℕ} (j : ℕ) (v : ℤ) → i < j → getD (set l j v) i (pos 0) ≡ getD l i (pos 0)

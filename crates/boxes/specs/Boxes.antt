@@ -5,7 +5,7 @@ use mathlib.Core.List.{List}
 use Prim.Native.Nat.{ℕ, _+_, _*_}
 use lib.IntN.{ℤ, pos}
 use lib.Signed.{_≤ℤ_}
-use lib.ListN.{length, getD}
+use lib.ListN.{getD}
 use Rattle.integer.specs.Magnitude.{Within}
 use Rattle.model.specs.Vector.{Vec}
 use Rattle.geometry.specs.Machine.{vecOf, Bounded}
@@ -73,9 +73,3 @@ pointAt boxes i = record { x = getD boxes (3 * i) (pos 0); y = getD boxes (3 * i
 -- box number i: two points
 abbrev pub boxAt : List ℤ → ℕ → Bounds
 boxAt boxes i = record { low = pointAt boxes (2 * i); high = pointAt boxes (2 * i + 1) }
-
--- v now stands at place i, and what stands at any other place is as it was
-pub record Stored {X : Type 0} (at : List ℤ → ℕ → X) (before after : List ℤ) (i : ℕ) (v : X) : Type 0 where
-  pub long : length after ≡ length before
-  pub stands : at after i ≡ v
-  pub others : (j : ℕ) → (j ≡ i → ⊥) → at after j ≡ at before j

@@ -6,7 +6,8 @@ ghost use lib.ListN.{length, getD};
 ghost use lib.IntN.{pos};
 ghost use Rattle.integer.specs.Magnitude.{Within};
 ghost use Rattle.geometry.specs.Machine.{Bounded};
-ghost use Rattle.boxes.specs.Boxes.{Extreme, ExtremeCorner, upward, downward, BoxBounded, Joined, Common, pointAt, boxAt, Stored};
+ghost use Rattle.tables.specs.Stored.{Stored};
+ghost use Rattle.boxes.specs.Boxes.{Extreme, ExtremeCorner, upward, downward, BoxBounded, Joined, Common, pointAt, boxAt};
 ghost use Rattle.boxes.specs.Enclosed.{ExtentBounded, extentAt};
 
 pub struct Bounds {

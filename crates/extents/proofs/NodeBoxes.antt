@@ -16,7 +16,8 @@ use Rattle.model.proofs.Ranges.{of-range}
 use Rattle.format.specs.declared.layout.Layout.{Layout}
 use Rattle.format.specs.declared.records.Node.{Node}
 use Rattle.checked.specs.Checked.{Checked, treeBelow, NodeIs}
-use Rattle.boxes.specs.Boxes.{Joined, Common, Stored}
+use Rattle.tables.specs.Stored.{Stored}
+use Rattle.boxes.specs.Boxes.{Joined, Common}
 use Rattle.extents.specs.Extents.{Widened, Wider, takesPatch, ExtentOf, ExtentsFrom, ChildJoined}
 use Rattle.boxes.specs.Enclosed.{Encloses, ExtentBounded, extentAt, ChildExtent}
 use Rattle.boxes.specs.declared.Bounds.{Bounds}
