@@ -1,2 +1,2 @@
--- Laws that the proofs of this crate cite.
-mod Inputs
+-- What is known of an input that was read.
+pub mod Bytes

@@ -1,2 +1,2 @@
--- What an input of the programs says.
-pub mod Input
+-- What the contracts of reading and writing cite.
+pub mod Reading

@@ -1,82 +1,49 @@
-// What the programs share: the lines that they print, and the survey of a view (an eye and a window, 12 bytes) and a scene.
-use call::area;
-use libc::STDOUT_FILENO;
-use little_endian::i16_at;
-use little_endian::u16_at;
-ghost use mathlib.Core.Path.{_≡_};
-ghost use Prim.Native.Nat.{_+_, _≤_, min};
-ghost use lib.ListN.{length};
-ghost use Rattle.model.specs.Format.{u16At};
-ghost use Rattle.model.specs.Questions.{surveyAnswer};
-ghost use Rattle.console.specs.Input.{inputCall, inputCounts};
+// Reading all of an input and writing all of an output. A failed read is told from the end of the input,
+// and a failed write is told on standard error.
+ghost use Rattle.console.specs.Reading.{Within};
 
-pub fn print(text: &[u8]) {
-    io::write_all(STDOUT_FILENO, text);
+// What reading an input came to.
+pub enum Got {
+    // All of it, or as much as the buffer holds: so many bytes at the buffer's start.
+    Bytes(usize),
+    Failed,
 }
 
-pub fn print_number(n: usize) {
-    io::print_decimal(STDOUT_FILENO, n as u64);
-}
-
-// "name n", as a line
-pub fn print_line(name: &[u8], n: usize) {
-    print(name);
-    print(b" ");
-    print_number(n);
-    print(b"\n");
-}
-
-pub fn print_total(name: &[u8], n: u32) {
-    print_line(name, n as usize);
-}
-
-pub fn word(bytes: &[u8], at: usize) -> u16
-    requires { ⌜ at + 2 ≤ length (now bytes) ⌝ }
-    ensures { λ r. ⌜ r ≡ u16At (now (bytes .entry)) at ⌝ }
+// One read: so many bytes, 0 at the end of the input.
+fn read_some(file: i32, part: &mut [u8]) -> Got
+    ensures { λ r. ⌜ Within r (now (part .exit)) ⌝ }
 {
-    u16_at(bytes, at) as u16
+    let got = libc::read(file, part);
+    if got < 0 {
+        return Got::Failed;
+    }
+    Got::Bytes(io::count(got, part))
 }
 
-// as much of a buffer as is wanted and there
-fn part(wanted: usize) -> usize
-    ensures { λ r. ⌜ r ≡ min wanted 32768 ⌝ }
-    ensures { λ r. ⌜ r ≤ 32768 ⌝ }
+pub fn read_all(file: i32, buffer: &mut [u8]) -> Got
+    ensures { λ r. ⌜ Within r (now (buffer .exit)) ⌝ }
 {
-    if wanted < 32768 { wanted } else { 32768 }
+    let mut done = 0;
+    while done < buffer.len() {
+        let Got::Bytes(more) = read_some(file, &mut buffer[done..]) else {
+            return Got::Failed;
+        };
+        if more == 0 {
+            return Got::Bytes(done);
+        }
+        done += more;
+    }
+    Got::Bytes(done)
 }
 
-// Room for the largest picture, and for the unlit lists of its rows. The contract gives the length, which lending a part needs.
-fn buffer() -> [u16; 32768]
-    ensures { λ r. ⌜ 32768 ≡ length r ⌝ }
-{
-    [0; 32768]
+// Writes the text to standard output. Where that fails, the message goes to standard error.
+pub fn write_or_tell(text: &[u8], message: &[u8]) {
+    if !io::write_all(libc::STDOUT_FILENO, text) {
+        tell(message);
+    }
 }
 
-// The survey of an input of a view and a scene, with the station counter at 0: the answer, and the counts.
-pub fn survey_input(input: &[u8], counts: &mut [u32]) -> u32
-    requires { ⌜ 12 ≤ length (now input) ⌝ }
-    ensures { λ r. ⌜ r ≡ surveyAnswer (inputCall (now (input .entry)) (length (now (counts .entry)))) ⌝ }
-    ensures { λ _. ⌜ now (counts .exit) ≡ inputCounts (now (input .entry)) (now (counts .entry)) ⌝ }
-{
-    let width = word(input, 6);
-    let height = word(input, 8);
-    let lens = word(input, 10);
-    let mut picture = buffer();
-    let mut unlit = buffer();
-    let mut counter = 0u32;
-    let cells = part(area(width, height));
-    let rows = part(area(height, 256));
-    survey::ring_survey(
-        &input[12..],
-        i16_at(input, 0),
-        i16_at(input, 2),
-        i16_at(input, 4),
-        width,
-        height,
-        lens,
-        &mut picture[..cells],
-        counts,
-        &mut unlit[..rows],
-        &mut counter,
-    )
+// a message, on standard error
+pub fn tell(message: &[u8]) {
+    io::write_all(libc::STDERR_FILENO, message);
 }

@@ -1,11 +1,23 @@
 // Lays a span in each of the eight positions against the segment of columns 4 to 11 of a row of 16 columns, whose second segment is columns 14 and 15.
 // Writes the position's number, the row's used pairs, and its cells: 1 beside the segments, 2 in the span.
+use console::write_or_tell;
+use text::put_number;
 ghost use mathlib.Core.Path.{_≡_};
 ghost use lib.ListN.{length};
 
+fn write(text: &[u8]) {
+    write_or_tell(text, b"rows_demo: a row could not be written\n");
+}
+
+fn write_digits(n: u32) {
+    let mut digits = [0u8; 10];
+    let end = put_number(&mut digits, 0, n);
+    write(&digits[..end]);
+}
+
 fn write_number(n: u16) {
-    io::write_all(1, b" ");
-    io::print_decimal(1, n as u64);
+    write(b" ");
+    write_digits(n as u32);
 }
 
 fn write_numbers(numbers: &[u16]) {
@@ -27,15 +39,15 @@ fn laid(cells: &mut [u16], first: u16, last: u16) -> [u16; 256]
     row
 }
 
-fn show(position: u64, first: u16, last: u16) {
+fn show(position: u32, first: u16, last: u16) {
     let mut cells = [0u16; 16];
     let row = laid(&mut cells, first, last);
-    io::print_decimal(1, position);
-    io::write_all(1, b":");
+    write_digits(position);
+    write(b":");
     write_numbers(rows::used_pairs(&row, 0));
-    io::write_all(1, b" |");
+    write(b" |");
     write_numbers(&cells);
-    io::write_all(1, b"\n");
+    write(b"\n");
 }
 
 fn main() {

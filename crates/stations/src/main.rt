@@ -1,22 +1,33 @@
 // Surveys stored scenes at the limits of the questions and prints each one's name and answer. A file holds a view (12 bytes) and a scene.
-use console::print_line;
-use console::print_total;
-use console::survey_input;
+use console::write_or_tell;
+use input::survey_input;
+use text::put_line;
 ghost use Prim.Native.Nat.{_≤_};
 ghost use lib.ListN.{length};
 
 // The longest input, and one byte more, which tells a longer one.
 const ROOM: usize = 57389;
 
+fn print_answer(name: &[u8], answer: u32)
+    requires { ⌜ length (now name) ≤ 20 ⌝ }
+{
+    let mut line = [0u8; 32];
+    let end = put_line(&mut line, 0, name, answer);
+    write_or_tell(&line[..end], b"stations: an answer could not be written\n");
+}
+
 fn survey_and_print(name: &[u8], input: &[u8])
+    requires { ⌜ length (now name) ≤ 20 ⌝ }
     requires { ⌜ 12 ≤ length (now input) ⌝ }
 {
     let mut counts = [0u32; 1025];
-    print_total(name, survey_input(input, &mut counts));
+    print_answer(name, survey_input(input, &mut counts));
 }
 
 // opens the file of this name, reads it, and surveys it
-fn run(name: &[u8]) {
+fn run(name: &[u8])
+    requires { ⌜ length (now name) ≤ 20 ⌝ }
+{
     let file = os::open_read(name);
     if file < 0 {
         os::fail(name);
@@ -26,7 +37,7 @@ fn run(name: &[u8]) {
     let n = io::read_full(file, &mut input);
     libc::close(file);
     if n < 12 {
-        print_line(name, 1);
+        print_answer(name, 1);
         return;
     }
     survey_and_print(name, &input[..n]);

@@ -1,4 +1,4 @@
--- `console::survey_input` meets its contract: the buffers that it lends are as long as it says, and the survey call's contract gives the rest.
+-- `input::survey_input` meets its contract: the buffers that it lends are as long as it says, and the survey call's contract gives the rest.
 use mathlib.Core.Path.{sym, _∙_, ap}
 use Prim.Native.Nat.{ℕ, min}
 use denote.Ref.{now}
@@ -6,9 +6,9 @@ use native.Mathlib.Omega.{arith}
 use borrow.Author.Needs.{needs}
 use lib.Seq.{length-take-le}
 use Rattle.model.specs.Vector.{vec}
-use Rattle.console.proofs.Inputs.{rest, coordinate, surveyed-input}
-use Rattle.console.proofs.survey_input.Statement.{statement}
-use Rattle.console.proofs.survey_input.Tie as tie
+use Rattle.input.proofs.Inputs.{rest, coordinate, surveyed-input}
+use Rattle.input.proofs.survey_input.Statement.{statement}
+use Rattle.input.proofs.survey_input.Tie as tie
 
 returns : tie.Need-returns
 returns c =

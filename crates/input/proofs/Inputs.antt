@@ -16,7 +16,7 @@ use Rattle.model.specs.Questions.{surveyAnswer}
 use Rattle.model.specs.Survey.{callCounts}
 use Rattle.model.specs.Lent.{Lent}
 use Rattle.survey.specs.Contract.{lentOf, cameraOf, viewFrom, lengthsBy, gateCall, results, leftBy, Surveyed}
-use Rattle.console.specs.Input.{inputCall, countsBy, inputCounts}
+use Rattle.input.specs.Input.{inputCall, countsBy, inputCounts}
 
 -- the counts of what is left
 counts-left : (n : ℕ) (new old : Lent) → leftBy n new old .counts ≡ countsBy n (new .counts) (old .counts)

@@ -1,0 +1,3 @@
+-- Laws on the bill.
+pub mod Bills
+pub mod Examples

@@ -1,0 +1,2 @@
+-- What an input of the programs says.
+pub mod Input

@@ -1,0 +1,61 @@
+// The survey that an input asks for: a view (an eye and a window, 12 bytes) and a scene.
+use call::area;
+use little_endian::i16_at;
+use little_endian::u16_at;
+ghost use mathlib.Core.Path.{_≡_};
+ghost use Prim.Native.Nat.{_+_, _≤_, min};
+ghost use lib.ListN.{length};
+ghost use Rattle.model.specs.Format.{u16At};
+ghost use Rattle.model.specs.Questions.{surveyAnswer};
+ghost use Rattle.input.specs.Input.{inputCall, inputCounts};
+
+pub fn word(bytes: &[u8], at: usize) -> u16
+    requires { ⌜ at + 2 ≤ length (now bytes) ⌝ }
+    ensures { λ r. ⌜ r ≡ u16At (now (bytes .entry)) at ⌝ }
+{
+    u16_at(bytes, at) as u16
+}
+
+// as much of a buffer as is wanted and there
+fn part(wanted: usize) -> usize
+    ensures { λ r. ⌜ r ≡ min wanted 32768 ⌝ }
+    ensures { λ r. ⌜ r ≤ 32768 ⌝ }
+{
+    if wanted < 32768 { wanted } else { 32768 }
+}
+
+// Room for the largest picture, and for the unlit lists of its rows. The contract gives the length, which lending a part needs.
+fn buffer() -> [u16; 32768]
+    ensures { λ r. ⌜ 32768 ≡ length r ⌝ }
+{
+    [0; 32768]
+}
+
+// The survey of an input of a view and a scene, with the station counter at 0: the answer, and the counts.
+pub fn survey_input(input: &[u8], counts: &mut [u32]) -> u32
+    requires { ⌜ 12 ≤ length (now input) ⌝ }
+    ensures { λ r. ⌜ r ≡ surveyAnswer (inputCall (now (input .entry)) (length (now (counts .entry)))) ⌝ }
+    ensures { λ _. ⌜ now (counts .exit) ≡ inputCounts (now (input .entry)) (now (counts .entry)) ⌝ }
+{
+    let width = word(input, 6);
+    let height = word(input, 8);
+    let lens = word(input, 10);
+    let mut picture = buffer();
+    let mut unlit = buffer();
+    let mut counter = 0u32;
+    let cells = part(area(width, height));
+    let rows = part(area(height, 256));
+    survey::ring_survey(
+        &input[12..],
+        i16_at(input, 0),
+        i16_at(input, 2),
+        i16_at(input, 4),
+        width,
+        height,
+        lens,
+        &mut picture[..cells],
+        counts,
+        &mut unlit[..rows],
+        &mut counter,
+    )
+}

@@ -1,0 +1,4 @@
+-- Laws on the lines of a bill.
+mod Panels
+mod Rooms
+mod Sheets

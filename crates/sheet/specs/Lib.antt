@@ -1,0 +1,2 @@
+-- What a bill is made of.
+pub mod Sheet
