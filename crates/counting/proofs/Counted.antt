@@ -1,9 +1,9 @@
--- The loops that count the cells of a list: one adds each cell to one of its number's four counters, one sums these.
+-- The loops that count the cells of a list: one adds cells to one of their number's four counters, one sums these.
 use mathlib.Core.Path.{_≡_, refl, sym, ap, subst, _∙_}
 use mathlib.Core.Bool.{Bool, true, false}
 use mathlib.Core.List.{List, [], _∷_, _++_}
-use Prim.Native.Nat.{ℕ, zero, suc, _+_, _*_, _%_, _≤_, _<_}
-use native.Mathlib.Numerals.{add-one}
+use Prim.Native.Nat.{ℕ, zero, suc, _+_, _*_, _≤_, _<_}
+use native.Mathlib.Nat.{add-zero, add-suc}
 use native.Mathlib.Decide.{ℕ-discrete}
 use native.Mathlib.Omega.{arith}
 use borrow.Author.Tests.{eq-eqb, ne-eqb}
@@ -14,7 +14,7 @@ use Rattle.model.specs.Lists.{range, addIf, occurrences}
 use Rattle.model.specs.Picture.{counts, countEntries}
 use Rattle.model.proofs.Ranges.{range-length}
 use Rattle.model.proofs.Counts.{counts-at}
-use Rattle.counting.specs.Counting.{laneSum, Laned, Summed}
+use Rattle.counting.specs.Counting.{Countable, Alike, laneSum, CountedTo, Summed}
 
 one-more : (n x : ℕ) (xs : List ℕ) → occurrences n (xs ++ x ∷ []) ≡ addIf (eqb x n) (occurrences n xs)
 one-more n x [] = refl
@@ -43,15 +43,36 @@ zero-entry zero i = refl
 zero-entry (suc n) zero = refl
 zero-entry (suc n) (suc i) = zero-entry n i
 
--- counter i, one of the four of n
-module _ (lanes : List ℕ) (i n : ℕ) where
+-- cells that hold n, and cells that do not
+module _ (cells : List ℕ) (k n : ℕ) where
+  next : (m : ℕ) → k + m < length cells → occurrences n (take (k + suc m) cells) ≡ addIf (eqb (getD cells (k + m) 0) n) (occurrences n (take (k + m) cells))
+  next m h = rw (add-suc k m, take-suc cells (k + m) 0 h) (one-more n (getD cells (k + m) 0) (take (k + m) cells))
+
+  run-here :
+      (m : ℕ) → k + m ≤ length cells → ((i : ℕ) → i < m → getD cells (k + i) 0 ≡ n) →
+      occurrences n (take (k + m) cells) ≡ occurrences n (take k cells) + m
+  run-here zero h same = rw (add-zero k) (omega arith)
+  run-here (suc m) h same =
+      next m (omega arith)
+      ∙ rw (eq-eqb (getD cells (k + m) 0) n (same m (omega arith))) (omega (arith, run-here m (omega arith) (λ i l. same i (omega arith))))
+
+  run-elsewhere :
+      (m : ℕ) → k + m ≤ length cells → ((i : ℕ) → i < m → getD cells (k + i) 0 ≡ n → ⊥) →
+      occurrences n (take (k + m) cells) ≡ occurrences n (take k cells)
+  run-elsewhere zero h other = rw (add-zero k)
+  run-elsewhere (suc m) h other =
+      next m (omega arith)
+      ∙ rw (ne-eqb (getD cells (k + m) 0) n (other m (omega arith))) (run-elsewhere m (omega arith) (λ i l. other i (omega arith)))
+
+-- counter i, one of the four of n, raised by m
+module _ (lanes : List ℕ) (i n m : ℕ) where
   abbrev raised : List ℕ
-  raised = set lanes i (getD lanes i 0 + 1)
+  raised = set lanes i (getD lanes i 0 + m)
 
-  other : (m : ℕ) → (m ≡ i → ⊥) → getD raised m 0 ≡ getD lanes m 0
-  other m f = getD-set-other lanes i m (getD lanes i 0 + 1) 0 f
+  other : (o : ℕ) → (o ≡ i → ⊥) → getD raised o 0 ≡ getD lanes o 0
+  other o f = getD-set-other lanes i o (getD lanes i 0 + m) 0 f
 
-  pub lane-below : (j : ℕ) → j < 4 → i ≡ 4 * n + j → getD lanes i 0 ≤ laneSum lanes n
+  lane-below : (j : ℕ) → j < 4 → i ≡ 4 * n + j → getD lanes i 0 ≤ laneSum lanes n
   lane-below zero h e = let q : i ≡ 4 * n = omega arith in rw q (omega arith)
   lane-below (suc zero) h e = rw e (omega arith)
   lane-below (suc (suc zero)) h e = rw e (omega arith)
@@ -59,10 +80,10 @@ module _ (lanes : List ℕ) (i n : ℕ) where
   lane-below (suc (suc (suc (suc j)))) h e = absurd (omega arith)
 
   module _ (l : i < length lanes) where
-    here : (m : ℕ) → m ≡ i → getD raised m 0 ≡ getD lanes m 0 + 1
-    here m e = rw e (getD-set-same lanes i (getD lanes i 0 + 1) 0 l)
+    here : (o : ℕ) → o ≡ i → getD raised o 0 ≡ getD lanes o 0 + m
+    here o e = rw e (getD-set-same lanes i (getD lanes i 0 + m) 0 l)
 
-    pub sum-rises : (j : ℕ) → j < 4 → i ≡ 4 * n + j → laneSum raised n ≡ suc (laneSum lanes n)
+    sum-rises : (j : ℕ) → j < 4 → i ≡ 4 * n + j → laneSum raised n ≡ laneSum lanes n + m
     sum-rises zero h e =
         omega (arith, here (4 * n) (omega arith), other (4 * n + 1) (λ f. omega arith), other (4 * n + 2) (λ f. omega arith), other (4 * n + 3) (λ f. omega arith))
     sum-rises (suc zero) h e =
@@ -73,66 +94,86 @@ module _ (lanes : List ℕ) (i n : ℕ) where
         omega (arith, other (4 * n) (λ f. omega arith), other (4 * n + 1) (λ f. omega arith), other (4 * n + 2) (λ f. omega arith), here (4 * n + 3) (omega arith))
     sum-rises (suc (suc (suc (suc j)))) h e = absurd (omega arith)
 
-  pub sum-stays : (m j : ℕ) → (m ≡ n → ⊥) → j < 4 → i ≡ 4 * n + j → laneSum raised m ≡ laneSum lanes m
-  sum-stays m j f h e =
+  sum-stays : (o j : ℕ) → (o ≡ n → ⊥) → j < 4 → i ≡ 4 * n + j → laneSum raised o ≡ laneSum lanes o
+  sum-stays o j f h e =
       rw (
-        other (4 * m) (λ q. f (omega arith)),
-        other (4 * m + 1) (λ q. f (omega arith)),
-        other (4 * m + 2) (λ q. f (omega arith)),
-        other (4 * m + 3) (λ q. f (omega arith)),
+        other (4 * o) (λ q. f (omega arith)),
+        other (4 * o + 1) (λ q. f (omega arith)),
+        other (4 * o + 2) (λ q. f (omega arith)),
+        other (4 * o + 3) (λ q. f (omega arith)),
       )
 
-pub lanes-start : {lanes : List ℕ} → lanes ≡ replicate 4100 0 → Laned [] lanes
-lanes-start e =
+pub counting-starts : {cells lanes totals : List ℕ} → Countable cells totals → lanes ≡ replicate 4100 0 → CountedTo cells 0 lanes
+counting-starts c e =
     record {
+      numbered = c .numbered;
+      few = c .few;
       size = rw e (length-replicate 4100 ℕ.zero);
       sums = λ n h. rw (e, zero-entry 4100 (4 * n), zero-entry 4100 (4 * n + 1), zero-entry 4100 (4 * n + 2), zero-entry 4100 (4 * n + 3));
     }
 
--- cell k is added to one of its number's counters
-module _ (cells : List ℕ) (k : ℕ) where
+-- m cells of one number, from cell k on, are added to one of its counters
+module _ {cells : List ℕ} {k : ℕ} {lanes : List ℕ} (inv : CountedTo cells k lanes) {m : ℕ} (alike : Alike cells k m) where
   abbrev cell : ℕ
   cell = getD cells k 0
 
-  abbrev lane : ℕ
-  lane = 4 * cell + k % 4
+  pub has-entry : cell < countEntries
+  has-entry = inv .numbered k (omega arith)
 
-  module _ {lanes : List ℕ} (inv : Laned (take k cells) lanes) (h : k < length cells) (x : cell < countEntries) where
-    pub lane-fits : length cells ≤ 32768 → getD lanes lane 0 < 32768
-    lane-fits f =
+  module _ {j : ℕ} (four : j < 4) where
+    abbrev lane : ℕ
+    lane = 4 * cell + j
+
+    pub lane-fits : getD lanes lane 0 + m ≤ 32768
+    lane-fits =
         omega
-        (arith, lane-below lanes lane cell (k % 4) (omega arith) refl, inv .sums cell x, at-most cell (take k cells), length-take k cells)
+        (arith, lane-below lanes lane cell m j four refl, inv .sums cell has-entry, at-most cell (take k cells), length-take k cells)
 
-    pub lanes-go : Laned (take (k + 1) cells) (set lanes lane (getD lanes lane 0 + 1))
+    pub lanes-go : CountedTo cells (k + m) (set lanes lane (getD lanes lane 0 + m))
     lanes-go =
         record {
-          size = length-set lanes lane (getD lanes lane 0 + 1) ∙ inv .size;
-          sums = λ n m. rw (add-one k, take-suc cells k 0 h, one-more n cell (take k cells)) (entry n m (ℕ-discrete n cell));
+          numbered = inv .numbered;
+          few = inv .few;
+          size = length-set lanes lane (getD lanes lane 0 + m) ∙ inv .size;
+          sums = λ n l. entry n l (ℕ-discrete n cell);
         }
       where
         entry :
             (n : ℕ) → n < countEntries → Dec (n ≡ cell) →
-            laneSum (set lanes lane (getD lanes lane 0 + 1)) n ≡ addIf (eqb cell n) (occurrences n (take k cells))
-        entry n m (yes q) =
-            rw (q, eq-eqb cell cell refl)
-            (sum-rises lanes lane cell (omega (arith, inv .size)) (k % 4) (omega arith) refl ∙ ap suc (inv .sums cell x))
-        entry n m (no f) =
-            rw (ne-eqb cell n (λ q. f (sym q))) (sum-stays lanes lane cell n (k % 4) f (omega arith) refl ∙ inv .sums n m)
+            laneSum (set lanes lane (getD lanes lane 0 + m)) n ≡ occurrences n (take (k + m) cells)
+        entry n l (yes q) =
+            rw q
+            (sum-rises lanes lane cell m (omega (arith, inv .size, has-entry)) j four refl
+            ∙ ap (λ (s : ℕ). s + m) (inv .sums cell has-entry)
+            ∙ sym (run-here cells k cell m (alike .inside) (alike .same)))
+        entry n l (no f) =
+            sum-stays lanes lane cell m n j f four refl
+            ∙ inv .sums n l
+            ∙ sym (run-elsewhere cells k n m (alike .inside) (λ o b e. f (sym e ∙ alike .same o b)))
 
-pub lanes-end : {cells lanes : List ℕ} {k : ℕ} → Laned (take k cells) lanes → length cells ≤ k → Laned cells lanes
-lanes-end {cells} {lanes} {k} inv h = subst (λ (xs : List ℕ). Laned xs lanes) (take-all k cells h) inv
+-- a cell is like itself
+pub one-alike : (cells : List ℕ) (k : ℕ) → k < length cells → Alike cells k 1
+one-alike cells k h =
+    record { some = omega arith; inside = omega arith; same = λ i l. ap (λ (n : ℕ). getD cells n 0) (omega arith) }
 
-module _ {cells lanes : List ℕ} (inv : Laned cells lanes) where
+pub counted-to : {cells lanes : List ℕ} {k m : ℕ} → k ≤ m → m ≤ k → CountedTo cells k lanes → CountedTo cells m lanes
+counted-to {cells} {lanes} {k} {m} h l inv = subst (λ (n : ℕ). CountedTo cells n lanes) {x = k} {y = m} (omega arith) inv
+
+-- all cells are counted
+module _ {cells lanes : List ℕ} (inv : CountedTo cells (length cells) lanes) where
+  all-counted : (n : ℕ) → n < countEntries → laneSum lanes n ≡ occurrences n cells
+  all-counted n l = inv .sums n l ∙ ap (occurrences n) (take-all (length cells) cells (omega arith))
+
   -- a count of some cells is at most the number of all cells
-  pub lanes-few : length cells ≤ 32768 → (n : ℕ) → n < countEntries → laneSum lanes n ≤ 32768
-  lanes-few h n l = omega (arith, inv .sums n l, at-most n cells)
+  pub lanes-few : (n : ℕ) → n < countEntries → laneSum lanes n ≤ 32768
+  lanes-few n l = omega (arith, all-counted n l, at-most n cells)
 
   pub lanes-counted : {totals : List ℕ} → Summed lanes totals countEntries → totals ≡ counts cells
   lanes-counted {totals} s =
       ext-getD 0 totals (counts cells) (s .entries ∙ sym (counts-length cells))
       (λ n l.
       let m : n < countEntries = omega (arith, s .entries) in
-      s .sums n m ∙ inv .sums n m ∙ sym (counts-at cells n m))
+      s .sums n m ∙ all-counted n m ∙ sym (counts-at cells n m))
 
 pub sums-start : {totals : List ℕ} (lanes : List ℕ) → length totals ≡ countEntries → Summed lanes totals 0
 sums-start lanes e = record { entries = e; sums = λ m h. absurd (omega arith) }

@@ -1,24 +1,72 @@
 // The counts of a picture: how many cells show each panel and, in entry 0, nothing.
 ghost use mathlib.Core.Path.{_≡_};
-ghost use Prim.Native.Nat.{ℕ, _≤_, _<_};
-ghost use lib.ListN.{length, getD, replicate};
+ghost use mathlib.Core.Bool.{true};
+ghost use Prim.Native.Nat.{ℕ, _+_, _≤_, _<_};
+ghost use lib.ListN.{length};
 ghost use Rattle.model.specs.Picture.{counts, countEntries};
-ghost use Rattle.counting.specs.Counting.{Countable, laneSum, Laned, Summed};
+ghost use Rattle.counting.specs.Counting.{Countable, Alike, laneSum, CountedTo, Summed};
 
-// Each number has four counters, and a cell adds to the one of its place. Cells of one number mostly stand side by
-// side: with one counter each of them would wait for the one before.
-fn count_lanes(picture: &[u16], lanes: &mut [u32; 4100])
-    requires { ⌜ ((k : ℕ) → k < length (now picture) → getD (now picture) k 0 < countEntries)
-        × (length (now picture) ≤ 32768) × (now lanes ≡ replicate 4100 0) ⌝ }
-    ensures { λ r. ⌜ Laned (now (picture .entry)) (now (lanes .exit)) ⌝ }
+// Says yes only where the eight cells from cell k on hold one number. All are looked at: no jump depends on a cell.
+fn alike(picture: &[u16], k: usize) -> bool
+    requires { ⌜ k + 8 ≤ length (now picture) ⌝ }
+    ensures { λ r. ⌜ (r ≡ true → Alike (now (picture .entry)) k 8) ⌝ }
 {
-    let mut k = 0;
-    while k < picture.len() {
-        let panel = picture[k] as usize;
-        let lane = 4 * panel + k % 4;
-        lanes[lane] += 1;
+    let first = picture[k];
+    let mut differ: u16 = 0;
+    let mut i = 0;
+    while i < 8 {
+        let cell = picture[k + i];
+        differ = differ | (cell ^ first);
+        i += 1;
+    }
+    differ == 0
+}
+
+// Adds the `count` cells of one number from cell k on to one of its four counters. Cells of one number mostly stand side by side: with one counter each of them would
+// wait for the one before, so they take turns.
+fn count_alike(picture: &[u16], k: usize, count: u32, turn: usize, lanes: &mut [u32; 4100])
+    requires { ⌜ CountedTo (now picture) k (now lanes) × Alike (now picture) k count × (turn < 4) ⌝ }
+    ensures { λ r. ⌜ CountedTo (now (picture .entry)) (k + count) (now (lanes .exit)) ⌝ }
+{
+    let panel = picture[k] as usize;
+    let lane = 4 * panel + turn;
+    lanes[lane] += count;
+}
+
+// Cell after cell, up to the one before `end`.
+fn count_run(picture: &[u16], from: usize, end: usize, lanes: &mut [u32; 4100])
+    requires { ⌜ CountedTo (now picture) from (now lanes) × (from ≤ end) × (end ≤ length (now picture)) ⌝ }
+    ensures { λ r. ⌜ CountedTo (now (picture .entry)) end (now (lanes .exit)) ⌝ }
+{
+    let mut k = from;
+    while k < end {
+        count_alike(picture, k, 1, k % 4, lanes);
         k += 1;
     }
+}
+
+// Eight cells: at once where they hold one number.
+fn count_eight(picture: &[u16], k: usize, lanes: &mut [u32; 4100])
+    requires { ⌜ CountedTo (now picture) k (now lanes) × (k + 8 ≤ length (now picture)) ⌝ }
+    ensures { λ r. ⌜ CountedTo (now (picture .entry)) (k + 8) (now (lanes .exit)) ⌝ }
+{
+    if alike(picture, k) {
+        count_alike(picture, k, 8, k / 8 % 4, lanes);
+        return;
+    }
+    count_run(picture, k, k + 8, lanes);
+}
+
+fn count_lanes(picture: &[u16], lanes: &mut [u32; 4100])
+    requires { ⌜ CountedTo (now picture) 0 (now lanes) ⌝ }
+    ensures { λ r. ⌜ CountedTo (now (picture .entry)) (length (now (picture .entry))) (now (lanes .exit)) ⌝ }
+{
+    let mut k = 0;
+    while k + 8 <= picture.len() {
+        count_eight(picture, k, lanes);
+        k += 8;
+    }
+    count_run(picture, k, picture.len(), lanes);
 }
 
 fn lane_sum(lanes: &[u32; 4100], n: usize) -> u32

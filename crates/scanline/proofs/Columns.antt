@@ -35,23 +35,26 @@ pub each-lit : (width : ℕ) (unlit : ℕ → Bool) → allLit width unlit ≡ t
 unfolding allLit
 each-lit width unlit e i h = none-from unlit 0 width e i (omega arith) (omega arith)
 
--- a set of columns may be said in another way
+under : (u : Bool) {a b : Bool} (f : Bool → Bool) → (u ≡ true → a ≡ b) → (u && f a) ≡ (u && f b)
+under true f h = ap f (h refl)
+under false f h = refl
+
+-- Sets of columns leave the same where they agree on the unlit ones: the others are lit already.
 pub columns-congr :
     {columns columns′ : ℕ → Bool} {panel : ℕ} {row cells row′ cells′ : List ℕ} {full : Bool} →
-    ((i : ℕ) → i < length cells → columns i ≡ columns′ i) →
+    ((unlit : ℕ → Bool) → row ≡ rowOf (length cells) unlit → (i : ℕ) → i < length cells → unlit i ≡ true → columns i ≡ columns′ i) →
     ColumnsLaid columns panel row cells row′ cells′ full →
     ColumnsLaid columns′ panel row cells row′ cells′ full
 columns-congr {columns} {columns′} {panel} {row} {cells} {row′} {cells′} {full} same h =
-    record { laid = λ unlit e. go unlit (h .laid unlit e) }
+    record { laid = λ unlit e. go unlit (same unlit e) (h .laid unlit e) }
   where
-    go : (unlit : ℕ → Bool) → ColumnsPainted columns panel unlit cells row′ cells′ full
-        → ColumnsPainted columns′ panel unlit cells row′ cells′ full
-    go unlit p =
+    go : (unlit : ℕ → Bool) → ((i : ℕ) → i < length cells → unlit i ≡ true → columns i ≡ columns′ i)
+        → ColumnsPainted columns panel unlit cells row′ cells′ full → ColumnsPainted columns′ panel unlit cells row′ cells′ full
+    go unlit agree p =
         record {
-          row-is =
-              p .row-is ∙ row-congr (length cells) _ _ (λ i l. ap (λ (b : Bool). unlit i && not b) (same i l));
-          cells-are = p .cells-are ∙ painted-congr _ _ panel cells (λ i l. ap (λ (b : Bool). unlit i && b) (same i l));
-          full-says = λ t i l. ap (λ (b : Bool). unlit i && not b) (sym (same i l)) ∙ p .full-says t i l;
+          row-is = p .row-is ∙ row-congr (length cells) _ _ (λ i l. under (unlit i) not (agree i l));
+          cells-are = p .cells-are ∙ painted-congr _ _ panel cells (λ i l. under (unlit i) (λ (b : Bool). b) (agree i l));
+          full-says = λ t i l. sym (under (unlit i) not (agree i l)) ∙ p .full-says t i l;
         }
 
 -- the columns of a span, whose last one is before its end
@@ -76,7 +79,7 @@ pub span-laid :
     ((unlit : ℕ → Bool) → row ≡ rowOf (length cells) unlit → Reports unlit (s .first) (s .end - 1) (length cells) full) →
     ColumnsLaid (covers s) panel row cells row′ cells′ full
 span-laid {s} {panel} {row} {cells} {row′} {cells′} {full} h lays reports =
-    columns-congr {columns = inSpan (s .first) (s .end - 1)} (λ i l. up-to-end s i h)
+    columns-congr {columns = inSpan (s .first) (s .end - 1)} (λ unlit e i l u. up-to-end s i h)
     (record {
       laid = λ unlit e.
           record {
@@ -89,7 +92,7 @@ span-laid {s} {panel} {row} {cells} {row′} {cells′} {full} h lays reports =
 pub span-missed :
     {s : Span} {panel : ℕ} {row cells : List ℕ} → s .end ≤ s .first → ColumnsLaid (covers s) panel row cells row cells false
 span-missed {s} {panel} {row} {cells} h =
-    columns-congr {columns = λ (i : ℕ). false} (λ i l. sym (outside s i h))
+    columns-congr {columns = λ (i : ℕ). false} (λ unlit e i l u. sym (outside s i h))
     (record {
       laid = λ unlit e.
           record {

@@ -1,7 +1,8 @@
 -- What a row shows while a walk is painted.
 pub mod FirstShown
--- cleared cells, a patch, a row
+-- cleared cells, the unlit columns' hull, a patch, a row
 mod Clearing
+mod Hull
 pub mod Columns
 mod PatchLaying
 pub mod WalkPainted

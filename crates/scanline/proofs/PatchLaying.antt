@@ -1,14 +1,14 @@
 -- Laying a patch's span in a row is painting over the columns whose rays meet the patch.
 use mathlib.Core.Path.{_≡_, sym, subst, _∙_}
-use mathlib.Core.Bool.{Bool}
+use mathlib.Core.Bool.{Bool, true}
 use mathlib.Core.List.{List}
 use Prim.Native.Nat.{ℕ, _<_}
 use native.Mathlib.Omega.{arith}
-use borrow.Author.Tests.{lt-ltb}
 use lib.IntN.{ℤ}
 use lib.ListN.{length}
 use Rattle.model.specs.Ray.{met}
 use Rattle.model.specs.Format.{Run, decode, patchNumbered}
+use Rattle.model.specs.Row.{rowOf}
 use Rattle.geometry.specs.Machine.{vecOf}
 use Rattle.geometry.specs.Raster.{rayAt}
 use Rattle.format.specs.declared.layout.Layout.{Layout}
@@ -22,7 +22,7 @@ use Rattle.spans.specs.Row.{RowSpan}
 use Rattle.edges.specs.declared.Sight.{Sight}
 use Rattle.edges.specs.Edges.{EdgesAt}
 use Rattle.edges.proofs.Meeting.{met-seen}
-use Rattle.scanline.specs.Laying.{PatchDrawable, ColumnsLaid, PatchLaid}
+use Rattle.scanline.specs.Laying.{PatchDrawable, UnlitHull, ColumnsLaid, PatchLaid}
 use Rattle.scanline.proofs.Columns.{columns-congr}
 
 module _
@@ -35,17 +35,20 @@ module _
     pub edge-run : FunctionRun table (p .corners .first) (p .corners .count)
     edge-run = edges-read .bounded
 
-    -- what laying its span leaves is what laying the patch leaves
+    -- what laying its span leaves is what laying the patch leaves, if the span was sought among all unlit columns
     pub patch-laid :
-        (j : ℕ) {row cells row′ cells′ : List ℕ} {full : Bool} {r : Span} →
-        RowSpan (functionsIn table (p .corners .first) (p .corners .count)) j (length cells) r →
+        (j : ℕ) {row cells row′ cells′ : List ℕ} {full : Bool} {hull r : Span} →
+        UnlitHull (length cells) row hull →
+        RowSpan (functionsIn table (p .corners .first) (p .corners .count)) j hull r →
         ColumnsLaid (covers r) (p .panel) row cells row′ cells′ full →
         PatchLaid (vecOf (s .eye)) (λ (i : ℕ). rayAt (s .raster) i j) (patchNumbered (decode bytes) k) row cells row′ cells′ full
-    patch-laid j {row} {cells} {row′} {cells′} {full} {r} h laid =
+    patch-laid j {row} {cells} {row′} {cells′} {full} {hull} {r} u h laid =
         subst
         (λ (n : ℕ).
         ColumnsLaid (λ (i : ℕ). met (vecOf (s .eye)) (rayAt (s .raster) i j) (patchNumbered (decode bytes) k)) n row cells row′ cells′ full)
         (is .panel-is) (columns-congr columns laid)
       where
-        columns : (i : ℕ) → i < length cells → covers r i ≡ met (vecOf (s .eye)) (rayAt (s .raster) i j) (patchNumbered (decode bytes) k)
-        columns i b = h .exact i ∙ rw (lt-ltb i (length cells) b) (met-seen edges-read (omega (arith, is .corners .three)) i j)
+        columns :
+            (unlit : ℕ → Bool) → row ≡ rowOf (length cells) unlit → (i : ℕ) → i < length cells → unlit i ≡ true →
+            covers r i ≡ met (vecOf (s .eye)) (rayAt (s .raster) i j) (patchNumbered (decode bytes) k)
+        columns unlit e i b t = h .exact i ∙ rw (u .all unlit e i b t) (met-seen edges-read (omega (arith, is .corners .three)) i j)

@@ -15,6 +15,8 @@ use Rattle.format.specs.Layout.{patchNumber}
 use Rattle.checked.specs.Checked.{Checked}
 use Rattle.segments.specs.Columns.{painted}
 use Rattle.rows.specs.Span.{Row}
+use Rattle.spans.specs.declared.Span.{Span}
+use Rattle.spans.specs.Span.{covers}
 use Rattle.edges.specs.declared.Sight.{Sight}
 use Rattle.edges.specs.Edges.{EdgesAt}
 
@@ -41,6 +43,11 @@ pub record RowAsked (bytes : List ℕ) (l : Layout) (s : Sight) (table : List �
   pub drawable : Drawable bytes l s table order
   pub below : j ≤ 1024
   pub narrow : length cells ≤ 256
+
+-- the span has every column below the width that the row says is unlit, and none from the width on
+pub record UnlitHull (width : ℕ) (row : List ℕ) (r : Span) : Type 0 where
+  pub all : (unlit : ℕ → Bool) → row ≡ rowOf width unlit → (i : ℕ) → i < width → unlit i ≡ true → covers r i ≡ true
+  pub limited : r .end ≤ width
 
 -- the patches of a walk, by their numbers
 abbrev pub walkOf : List ℕ → List ℕ → List Patch

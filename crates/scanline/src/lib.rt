@@ -5,19 +5,34 @@ use format::layout::Layout;
 use spans::Span;
 use spans::row_span;
 ghost use mathlib.Core.Path.{_≡_};
-ghost use Prim.Native.Nat.{ℕ};
+ghost use Prim.Native.Nat.{ℕ, _≤_};
 ghost use lib.ListN.{length, replicate};
 ghost use Rattle.model.specs.Format.{decode, patchNumbered};
 ghost use Rattle.geometry.specs.Machine.{vecOf};
 ghost use Rattle.geometry.specs.Raster.{rayAt};
-ghost use Rattle.spans.specs.Span.{covers, Shaped};
+ghost use Rattle.spans.specs.Span.{covers};
 ghost use Rattle.rows.specs.Span.{Row};
 ghost use Rattle.scanline.specs.Shown.{RowPainted};
-ghost use Rattle.scanline.specs.Laying.{PatchAsked, RowAsked, walkOf, ColumnsLaid, PatchLaid};
+ghost use Rattle.scanline.specs.Laying.{PatchAsked, RowAsked, walkOf, UnlitHull, ColumnsLaid, PatchLaid};
+
+// The columns from the first unlit one on; up to the end of the first segment where the row has no other.
+fn unlit_hull(row: &[u16; 256], width: usize) -> Span
+    requires { ⌜ Row width (now row) ⌝ }
+    ensures { λ r. ⌜ UnlitHull width (now (row .entry)) r ⌝ }
+{
+    let first = row[0] as usize;
+    if row[3] == 0 {
+        return Span {
+            first,
+            end: first + row[1] as usize,
+        };
+    }
+    Span { first, end: width }
+}
 
 // Lays a span on a row, unless it is empty, and says whether the row is full now.
 fn lay_span(span: Span, panel: u16, row: &mut [u16; 256], cells: &mut [u16]) -> bool
-    requires { ⌜ Shaped (length (now cells)) span × Row (length (now cells)) (now row) ⌝ }
+    requires { ⌜ (span .end ≤ length (now cells)) × Row (length (now cells)) (now row) ⌝ }
     ensures { λ r. ⌜ ColumnsLaid (covers span) panel (now (row .entry)) (now (cells .entry))
         (now (row .exit)) (now (cells .exit)) r ⌝ }
 {
@@ -30,8 +45,9 @@ fn lay_span(span: Span, panel: u16, row: &mut [u16; 256], cells: &mut [u16]) -> 
     laid.full
 }
 
-// Paints patch k in row j, over the columns that are unlit, and says whether the row is full now. All that the code must know of the rays is in the edge
-// functions: the sight is a parameter for the contract.
+// Paints patch k in row j, over the columns that are unlit, and says whether the row is full now. Its span is sought from the
+// first of them on: a column before that shows a patch already. All that the code must know of the rays is in the edge functions: the sight is a parameter for the
+// contract.
 fn lay_patch(
     bytes: &[u8],
     l: Layout,
@@ -48,7 +64,8 @@ fn lay_patch(
 {
     let p = patch_record(bytes, l, k);
     let run = p.corners;
-    let span = row_span(table, run.first, run.count, j, cells.len());
+    let hull = unlit_hull(row, cells.len());
+    let span = row_span(table, run.first, run.count, j, hull);
     lay_span(span, p.panel, row, cells)
 }
 

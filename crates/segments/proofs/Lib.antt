@@ -1,5 +1,6 @@
 -- `Sets` (the segments of a set of columns), `Rows` (its row), `Cut` (the segments that a span leaves), `Painting` (painted
--- cells), `Numbers` (a row's numbers, pair by pair), `Full` (the row of a set that is empty, and of all columns).
+-- cells), `Numbers` (a row's numbers, pair by pair), `Full` (the row of a set that is empty, and of all columns), `First` (what its first pairs
+-- say of the unlit columns).
 pub mod Tests
 pub mod Segments
 pub mod Sets
@@ -8,3 +9,4 @@ pub mod Cut
 pub mod Painting
 pub mod Numbers
 pub mod Full
+pub mod First

@@ -7,7 +7,7 @@ use Prim.Native.Nat.{ℕ, suc, _+_, _≤_, _<_}
 use native.Mathlib.Numerals.{add-one}
 use native.Mathlib.Omega.{arith}
 use borrow.Author.Tests.{lt-leb, le-ltb}
-use lib.Dec.{leb, ltb, leb·zero}
+use lib.Dec.{leb}
 use lib.IntN.{ℤ}
 use lib.ListN.{length, drop, length-map}
 use lib.Seq.{drop-cons, drop-length}
@@ -36,19 +36,19 @@ no-columns s h i =
     (lt-or-ge i (s .first))
 
 -- after k functions of a table: the columns wanted are those of the span where the others are above 0
-pub record Narrowed (table : List ℤ) (first count j width k : ℕ) (s : Span) : Type 0 where
+pub record Narrowed (table : List ℤ) (first count j : ℕ) (within : Span) (k : ℕ) (s : Span) : Type 0 where
   pub most : k ≤ count
-  pub shaped : Shaped width s
+  pub limited : s .end ≤ within .end
   pub left :
       (i : ℕ) →
-      (ltb i width && allAbove (functionsIn table first count) i j)
+      (covers within i && allAbove (functionsIn table first count) i j)
       ≡ (covers s i && allAbove (drop k (functionsIn table first count)) i j)
 
-module _ {table : List ℤ} {first count j width : ℕ} where
-  pub narrowed-none : Narrowed table first count j width 0 (record { first = 0; end = width })
-  narrowed-none = record { most = omega arith; shaped = shaped-all width; left = λ i. rw (leb·zero i) }
+module _ {table : List ℤ} {first count j : ℕ} {within : Span} where
+  pub narrowed-none : Narrowed table first count j within 0 within
+  narrowed-none = record { most = omega arith; limited = omega arith; left = λ i. refl }
 
-  module _ {k : ℕ} {s : Span} (n : Narrowed table first count j width k s) where
+  module _ {k : ℕ} {s : Span} (n : Narrowed table first count j within k s) where
     abbrev fs : List EdgeFunction
     fs = functionsIn table first count
 
@@ -64,26 +64,26 @@ module _ {table : List ℤ} {first count j width : ℕ} where
     pub narrowed-more :
         {f : EdgeFunction} {r : Span} → k < count → f ≡ functionAt table (first + k) →
         Clipped (f .slope) (numberAt (f .drop) (f .start) j) s r →
-        Narrowed table first count j width (k + 1) r
+        Narrowed table first count j within (k + 1) r
     unfolding allAbove
     narrowed-more {f} {r} h e c =
         record {
           most = omega arith;
-          shaped = record { written = c .shaped .written; limited = omega (arith, c .shaped .limited, n .shaped .limited) };
+          limited = omega (arith, c .shaped .limited, n .limited);
           left = λ i.
               n .left i
               ∙ ap (λ (gs : List EdgeFunction). covers s i && allAbove gs i j) (next h ∙ ap (_∷ drop (k + 1) fs) (sym e))
               ∙ rw (c .exact i) (sym (and-assoc (covers s i) _ _));
         }
 
-    pub narrowed-empty : s .end ≤ s .first → RowSpan fs j width s
-    narrowed-empty h = record { exact = λ i. sym (n .left i ∙ rw (no-columns s h i)); shaped = n .shaped }
+    pub narrowed-empty : s .end ≤ s .first → RowSpan fs j within s
+    narrowed-empty h = record { exact = λ i. sym (n .left i ∙ rw (no-columns s h i)); limited = n .limited }
 
-    pub narrowed-all : count ≤ k → RowSpan fs j width s
+    pub narrowed-all : count ≤ k → RowSpan fs j within s
     unfolding allAbove
     narrowed-all h =
         let e : drop k fs ≡ [] = ap (λ (m : ℕ). drop m fs) {x = k} {y = length fs} (omega (arith, many, n .most)) ∙ drop-length fs in
         record {
           exact = λ i. sym (n .left i ∙ ap (λ (gs : List EdgeFunction). covers s i && allAbove gs i j) e ∙ and-true (covers s i));
-          shaped = n .shaped;
+          limited = n .limited;
         }

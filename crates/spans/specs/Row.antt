@@ -2,14 +2,13 @@
 use mathlib.Core.Path.{_≡_}
 use mathlib.Core.Bool.{Bool, _&&_}
 use mathlib.Core.List.{List}
-use Prim.Native.Nat.{ℕ, _+_}
-use lib.Dec.{ltb}
+use Prim.Native.Nat.{ℕ, _+_, _≤_}
 use lib.IntN.{ℤ, pos}
 use lib.Signed.{ltZ}
 use Rattle.model.specs.Lists.{every}
 use Rattle.geometry.specs.declared.EdgeFunction.{EdgeFunction}
 use Rattle.spans.specs.declared.Span.{Span}
-use Rattle.spans.specs.Span.{covers, Shaped, numberAt}
+use Rattle.spans.specs.Span.{covers, numberAt}
 
 -- ---- a row
 -- the number at column i of row j: start + j · drop at column 0
@@ -20,7 +19,7 @@ numberIn f i j = numberAt (f .slope) (numberAt (f .drop) (f .start) j) i
 unfoldable pub allAbove : List EdgeFunction → ℕ → ℕ → Bool
 allAbove fs i j = every (λ (f : EdgeFunction). ltZ (pos 0) (numberIn f i j)) fs
 
--- Column i is in the span exactly when it is below the width and each function is above 0 there, in row j.
-pub record RowSpan (fs : List EdgeFunction) (j width : ℕ) (r : Span) : Type 0 where
-  pub exact : (i : ℕ) → covers r i ≡ (ltb i width && allAbove fs i j)
-  pub shaped : Shaped width r
+-- Column i is in the span exactly when it is in `within` and each function is above 0 there, in row j.
+pub record RowSpan (fs : List EdgeFunction) (j : ℕ) (within r : Span) : Type 0 where
+  pub exact : (i : ℕ) → covers r i ≡ (covers within i && allAbove fs i j)
+  pub limited : r .end ≤ within .end

@@ -72,16 +72,13 @@ fn clip_function(span: Span, f: EdgeFunction, j: usize) -> Span
     clip(span, f.slope, number_at(f.drop, f.start, j))
 }
 
-// The columns i below width where each of the functions `first` up to before `first + count` of a table is above 0 in row j. One product for each function gives its number
-// at column 0.
-pub fn row_span(table: &[i64], first: usize, count: usize, j: usize, width: usize) -> Span
-    requires { ⌜ FunctionRun (now table) first count × (j ≤ 1024) × (width ≤ 1024) ⌝ }
-    ensures { λ r. ⌜ RowSpan (functionsIn (now (table .entry)) first count) j width r ⌝ }
+// The columns of the span `within` where each of the functions `first` up to before `first + count` of a table is above 0 in row j. One product for each function gives
+// its number at column 0.
+pub fn row_span(table: &[i64], first: usize, count: usize, j: usize, within: Span) -> Span
+    requires { ⌜ FunctionRun (now table) first count × (j ≤ 1024) × (within .end ≤ 1024) ⌝ }
+    ensures { λ r. ⌜ RowSpan (functionsIn (now (table .entry)) first count) j within r ⌝ }
 {
-    let mut span = Span {
-        first: 0,
-        end: width,
-    };
+    let mut span = within;
     let mut k = 0;
     while k < count {
         if span.end <= span.first {

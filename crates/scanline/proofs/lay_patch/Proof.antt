@@ -1,4 +1,4 @@
--- `lay_patch` meets its contract: the columns of its span are those whose rays meet the patch.
+-- `lay_patch` meets its contract: the unlit columns of its span are those whose rays meet the patch.
 use borrow.Author.Needs.{needs}
 use native.Mathlib.Omega.{arith}
 use Rattle.scanline.proofs.PatchLaying.{edge-run, patch-laid}
@@ -7,17 +7,19 @@ use Rattle.scanline.proofs.lay_patch.Tie as tie
 
 row-span-requires : tie.Need-row-span-requires
 row-span-requires c κs =
-    let b = c .before .before .before .before .pre in
-    (edge-run (b .drawable) (c .before .patch-record .ensures), b .below, omega (arith, b .under-work .fits))
+    let p = c .before .before .before in
+    let b = p .before .before .before .pre in
+    (edge-run (b .drawable) (p .patch-record .ensures), b .below, omega (arith, c .unlit-hull .ensures .limited, b .under-work .fits))
 
 returns : tie.Need-returns
 returns c =
     let s = c .before .before .before .before .before in
-    let p = s .before .before in
+    let h = s .before in
+    let p = h .before .before .before in
     let b = p .before .before .before .pre in
-    patch-laid (b .drawable) (p .patch-record .ensures) _ (s .row-span .ensures) (c .before .before .lay-span .ensures)
+    patch-laid (b .drawable) (p .patch-record .ensures) _ (h .unlit-hull .ensures) (s .row-span .ensures) (c .before .before .lay-span .ensures)
 
 pub lay-patch-spec : {M : Type 1} → statement M
 lay-patch-spec =
     tie.close
-    (tie.spec (λ c κs. search needs) row-span-requires (λ c κs. search needs) (λ c. search needs) returns)
+    (tie.spec (λ c κs. search needs) (λ c κs. search needs) row-span-requires (λ c κs. search needs) (λ c. search needs) returns)

@@ -6,10 +6,10 @@ use Rattle.spans.proofs.row_span.Statement.{statement}
 use Rattle.spans.proofs.row_span.Tie as tie
 
 abbrev Inv-loop : tie.InvT-loop
-Inv-loop table first count j width span₀ k₀ span k = Narrowed table first count j width k span
+Inv-loop table first count j within k₀ span k = Narrowed table first count j within k span
 
 abbrev μ-loop : tie.MeasureT-loop
-μ-loop table first count j width span₀ k₀ span k = count - k
+μ-loop table first count j within k₀ span k = count - k
 
 loop-holds : tie.Need-loop-holds Inv-loop μ-loop
 loop-holds c = narrowed-none
@@ -30,7 +30,7 @@ clip-function-requires : tie.Need-clip-function-requires Inv-loop μ-loop
 clip-function-requires c κs =
     let l = c .before .before .before .before in
     let b = l .before .pre in (
-      record { some = c .before .if1 .left; limited = omega (arith, l .loop .inv .shaped .limited, b .2) },
+      record { some = c .before .if1 .left; limited = omega (arith, l .loop .inv .limited, b .2) },
       rw (c .function-at .ensures) (b .0 .each (l .loop .k) (c .before .before .before .loop-test .taken)),
       b .1,
     )
