@@ -79,7 +79,7 @@ fn least_number(b: Bounds, plane: Plane, front: bool) -> i64
         return side(plane.normal, plane.a, c);
     }
     let c = corner_by(plane.normal, b.high, b.low);
-    integer::difference(0, side(plane.normal, plane.a, c))
+    arithmetic::difference(0, side(plane.normal, plane.a, c))
 }
 
 // all patches enclosed have corners on just the side that is wanted, or on that and the plane

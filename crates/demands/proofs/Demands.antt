@@ -25,9 +25,9 @@ use Rattle.model.proofs.Counts.{counts-at}
 use Rattle.model.proofs.Pictures.{picture-length, picture-at, picture-total}
 use Rattle.model.proofs.Removal.{pictures-counts, cell-differs, cell-shows}
 use Rattle.segments.proofs.Rows.{row-length, row-congr}
-use Rattle.survey.proofs.Refusal.{left-old}
-use Rattle.rendering.proofs.PanelNumbers.{panel-bounded}
-use Rattle.survey.specs.Contract.{callOn, results, leftBy, Surveyed}
+use Rattle.contract.proofs.Refusal.{left-old}
+use Rattle.model.proofs.PanelNumbers.{panel-bounded}
+use Rattle.contract.specs.Contract.{callOn, results, leftBy, Surveyed}
 use Rattle.demands.specs.Demands.{patchesIn, cell, RefusesRightly, ClosestPanels, ChosenTakenAway, DemandThree, PairSurveyed}
 
 -- an accepted call leaves the results

@@ -17,7 +17,7 @@ use Rattle.model.specs.Picture.{countEntries}
 use Rattle.model.specs.Call.{Call}
 use Rattle.model.specs.Questions.{Question, questions, surveyAnswer}
 use Rattle.model.specs.Removal.{isChosen, kept, TakenAway}
-use Rattle.survey.specs.Contract.{results, Surveyed}
+use Rattle.contract.specs.Contract.{results, Surveyed}
 
 -- the patches of a scene
 abbrev pub patchesIn : List ℕ → List Patch

@@ -1,2 +1,1 @@
-// What the demands say of calls of the survey; demand 3 is also the promise of a function that makes both of its calls.
-pub mod pair;
+// What the demands say of calls of the survey, and that they follow from the survey's contract. There is no code here.

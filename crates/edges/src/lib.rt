@@ -31,7 +31,7 @@ fn eye_sign(bytes: &[u8], l: Layout, k: usize, eye: Vector) -> i64
     let b = corner(bytes, l, first + 1);
     let c = corner(bytes, l, first + 2);
     let normal = geometry::plane_normal(a, b, c);
-    integer::sign(geometry::eye_product(eye, a, normal))
+    arithmetic::sign(geometry::eye_product(eye, a, normal))
 }
 
 // sign · ((v − eye) × (w − eye)), for the sign of the eye product: one edge vector of a patch, turned to the patch's side
@@ -41,9 +41,9 @@ fn oriented_edge(eye: Vector, v: Vector, w: Vector, sign: i64) -> Vector
 {
     let edge = geometry::edge_vector(eye, v, w);
     Vector {
-        x: integer::product(sign, edge.x),
-        y: integer::product(sign, edge.y),
-        z: integer::product(sign, edge.z),
+        x: arithmetic::product(sign, edge.x),
+        y: arithmetic::product(sign, edge.y),
+        z: arithmetic::product(sign, edge.z),
     }
 }
 

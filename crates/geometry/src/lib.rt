@@ -32,9 +32,9 @@ pub fn from_to(a: Vector, b: Vector) -> Vector
     ensures { λ r. ⌜ VectorIs 20000 (minus (vecOf b) (vecOf a)) r ⌝ }
 {
     Vector {
-        x: integer::difference(b.x, a.x),
-        y: integer::difference(b.y, a.y),
-        z: integer::difference(b.z, a.z),
+        x: arithmetic::difference(b.x, a.x),
+        y: arithmetic::difference(b.y, a.y),
+        z: arithmetic::difference(b.z, a.z),
     }
 }
 
@@ -44,9 +44,9 @@ fn cross_product(u: Vector, v: Vector) -> Vector
     ensures { λ r. ⌜ VectorIs 800000000 (cross (vecOf u) (vecOf v)) r ⌝ }
 {
     Vector {
-        x: integer::cross_part(u.y, v.z, u.z, v.y),
-        y: integer::cross_part(u.z, v.x, u.x, v.z),
-        z: integer::cross_part(u.x, v.y, u.y, v.x),
+        x: arithmetic::cross_part(u.y, v.z, u.z, v.y),
+        y: arithmetic::cross_part(u.z, v.x, u.x, v.z),
+        z: arithmetic::cross_part(u.x, v.y, u.y, v.x),
     }
 }
 
@@ -55,7 +55,7 @@ fn dot_product(u: Vector, v: Vector) -> i64
     requires { ⌜ Bounded 800000000 u × Bounded 800000000 v ⌝ }
     ensures { λ r. ⌜ r ≡ dot (vecOf u) (vecOf v) ⌝ }
 {
-    integer::dot(u.x, u.y, u.z, v.x, v.y, v.z)
+    arithmetic::dot(u.x, u.y, u.z, v.x, v.y, v.z)
 }
 
 // (b − a) × (c − a)

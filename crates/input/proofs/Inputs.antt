@@ -15,7 +15,7 @@ use Rattle.model.specs.Format.{u16At, i16At}
 use Rattle.model.specs.Questions.{surveyAnswer}
 use Rattle.model.specs.Survey.{callCounts}
 use Rattle.model.specs.Lent.{Lent}
-use Rattle.survey.specs.Contract.{lentOf, cameraOf, viewFrom, lengthsBy, gateCall, results, leftBy, Surveyed}
+use Rattle.contract.specs.Contract.{lentOf, cameraOf, viewFrom, lengthsBy, gateCall, results, leftBy, Surveyed}
 use Rattle.input.specs.Input.{inputCall, countsBy, inputCounts}
 
 -- the counts of what is left

@@ -7,7 +7,7 @@ use Rattle.model.specs.Format.{u16At, i16At}
 use Rattle.model.specs.Call.{Call}
 use Rattle.model.specs.Questions.{surveyAnswer}
 use Rattle.model.specs.Survey.{callCounts}
-use Rattle.survey.specs.Contract.{cameraOf, viewFrom, lengthsBy, gateCall}
+use Rattle.contract.specs.Contract.{cameraOf, viewFrom, lengthsBy, gateCall}
 
 -- The picture and the unlit lists are as long as question 11 asks, up to the 32,768 numbers that a legal window needs. The station counter is 0.
 unfoldable pub inputCall : List ℕ → ℕ → Call

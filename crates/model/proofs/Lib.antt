@@ -12,6 +12,7 @@ pub mod Loops
 pub mod Answers
 pub mod FirstNo
 pub mod CallLimits
+pub mod PanelNumbers
 -- the geometry of met patches
 pub mod Vectors
 pub mod Rounds

@@ -62,11 +62,11 @@ fn turn_part(a: Point, b: Point, c: Point) -> i64
     requires { ⌜ ThreeWithin (projectedOf a) (projectedOf b) (projectedOf c) ⌝ }
     ensures { λ r. ⌜ NumberIs 800000000 (turnPart (projectedOf a) (projectedOf b) (projectedOf c)) r ⌝ }
 {
-    integer::cross_part(
-        integer::difference(b.u, a.u),
-        integer::difference(c.v, a.v),
-        integer::difference(b.v, a.v),
-        integer::difference(c.u, a.u),
+    arithmetic::cross_part(
+        arithmetic::difference(b.u, a.u),
+        arithmetic::difference(c.v, a.v),
+        arithmetic::difference(b.v, a.v),
+        arithmetic::difference(c.u, a.u),
     )
 }
 
@@ -75,7 +75,7 @@ pub fn turn_along(projection: Projection, a: Point, b: Point, c: Point) -> i64
     requires { ⌜ Within 800000000 (projection .part) × ThreeWithin (projectedOf a) (projectedOf b) (projectedOf c) ⌝ }
     ensures { λ r. ⌜ NumberIs 640000000000000000 (projection .part *ℤ turnPart (projectedOf a) (projectedOf b) (projectedOf c)) r ⌝ }
 {
-    integer::product(projection.part, turn_part(a, b, c))
+    arithmetic::product(projection.part, turn_part(a, b, c))
 }
 
 // a place of the corners, read round

@@ -31,9 +31,9 @@ fn cross_product(u: Vector, v: Vector) -> Vector
     ensures { λ r. ⌜ VectorIs 225200000 (cross (vecOf u) (vecOf v)) r ⌝ }
 {
     Vector {
-        x: integer::cross_part(u.y, v.z, u.z, v.y),
-        y: integer::cross_part(u.z, v.x, u.x, v.z),
-        z: integer::cross_part(u.x, v.y, u.y, v.x),
+        x: arithmetic::cross_part(u.y, v.z, u.z, v.y),
+        y: arithmetic::cross_part(u.z, v.x, u.x, v.z),
+        z: arithmetic::cross_part(u.x, v.y, u.y, v.x),
     }
 }
 

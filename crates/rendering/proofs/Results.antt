@@ -21,7 +21,7 @@ use Rattle.walk.proofs.Whole.{walk-numbers}
 use Rattle.walk.proofs.Seen.{accepted, first-met-closest}
 use Rattle.scanline.specs.Shown.{shownAfter}
 use Rattle.placing.specs.Framing.{RowsPainted}
-use Rattle.rendering.proofs.PanelNumbers.{panel-positive}
+use Rattle.model.proofs.PanelNumbers.{panel-positive}
 use Rattle.scanline.proofs.FirstShown.{unlit-shows-0}
 
 -- ---- the walk's patches

@@ -20,10 +20,10 @@ use Rattle.geometry.specs.declared.Vector.{Vector}
 use Rattle.geometry.specs.Machine.{vecOf}
 use Rattle.checked.proofs.Nodes.{point-bounded}
 use Rattle.counting.specs.Counting.{Countable}
-use Rattle.survey.specs.Contract.{lentOf, callOn, results, leftBy, Surveyed}
+use Rattle.contract.specs.Contract.{lentOf, callOn, results, leftBy, Surveyed}
 use Rattle.rendering.specs.Painted.{PaintingAsked, Painted}
-use Rattle.survey.proofs.Refusal.{left-old}
-use Rattle.rendering.proofs.PanelNumbers.{panel-bounded}
+use Rattle.contract.proofs.Refusal.{left-old}
+use Rattle.model.proofs.PanelNumbers.{panel-bounded}
 
 module _ (bytes : List ℕ) (v : View) (before : Lent) {n : ℕ} (answer : n ≡ surveyAnswer (callOn bytes v before)) where
   -- "The first no gives its number, and nothing lent is altered."

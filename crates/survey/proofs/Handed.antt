@@ -10,7 +10,7 @@ use Rattle.model.specs.Vector.{Vec, vec}
 use Rattle.model.specs.View.{Camera}
 use Rattle.model.specs.Lent.{Lengths}
 use Rattle.model.specs.Questions.{surveyAnswer}
-use Rattle.survey.specs.Contract.{viewFrom, gateCall}
+use Rattle.contract.specs.Contract.{viewFrom, gateCall}
 use Rattle.rendering.specs.Painted.{Painted}
 
 -- a vector of words

@@ -1,5 +1,4 @@
 -- The results of a painted walk, and the answer of the call.
-pub mod Refusal
 pub mod Results
 pub mod Handed
 mod Gates

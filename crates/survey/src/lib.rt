@@ -9,7 +9,7 @@ use rendering::paint;
 ghost use mathlib.Core.Path.{_≡_};
 ghost use Rattle.model.specs.Vector.{vec};
 ghost use Rattle.model.specs.Questions.{surveyAnswer};
-ghost use Rattle.survey.specs.Contract.{cameraOf, viewFrom, lentOf, lengthsBy, gateCall, Surveyed};
+ghost use Rattle.contract.specs.Contract.{cameraOf, viewFrom, lentOf, lengthsBy, gateCall, Surveyed};
 
 // The answer of the survey call on these numbers: 0, or the number of the first question that says no. Question 13 never does, so it is not asked.
 #[no_mangle]

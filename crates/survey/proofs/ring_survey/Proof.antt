@@ -2,7 +2,7 @@
 use mathlib.Core.Path.{refl}
 use denote.Ref.{now}
 use borrow.Author.Needs.{needs}
-use Rattle.survey.specs.Contract.{lentOf}
+use Rattle.contract.specs.Contract.{lentOf}
 use Rattle.survey.proofs.Handed.{eye-handed, gate-handed, painted-from}
 use Rattle.survey.proofs.Calls.{refused, paintable, counter-rises, countable, accepted}
 use Rattle.survey.proofs.ring_survey.Statement.{statement}

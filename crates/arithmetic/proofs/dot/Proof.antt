@@ -1,11 +1,11 @@
--- `integer::dot` meets its contract: the `requires` bounds every number that passes through a word. Assumes nothing.
+-- `arithmetic::dot` meets its contract: the `requires` bounds every number that passes through a word. Assumes nothing.
 use mathlib.Core.Path.{refl}
 use native.Mathlib.Omega.{arith}
 use lib.Dec.{lt→ltb}
 use mir.Syntax.{w64}
 use Rattle.integer.proofs.Machine.{words, no-overflow, exact}
-use Rattle.integer.proofs.dot.Statement.{statement}
-use Rattle.integer.proofs.dot.Tie as tie
+use Rattle.arithmetic.proofs.dot.Statement.{statement}
+use Rattle.arithmetic.proofs.dot.Tie as tie
 
 pub dot-spec : {M : Type 1} → statement M
 dot-spec =

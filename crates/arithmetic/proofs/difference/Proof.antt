@@ -1,11 +1,11 @@
--- `integer::difference` meets its contract: the `requires` bounds every number that passes through a word. Assumes nothing.
+-- `arithmetic::difference` meets its contract: the `requires` bounds every number that passes through a word. Assumes nothing.
 use mathlib.Core.Path.{refl}
 use native.Mathlib.Omega.{arith}
 use lib.Dec.{lt→ltb}
 use mir.Syntax.{w64}
 use Rattle.integer.proofs.Machine.{words, no-overflow, exact}
-use Rattle.integer.proofs.difference.Statement.{statement}
-use Rattle.integer.proofs.difference.Tie as tie
+use Rattle.arithmetic.proofs.difference.Statement.{statement}
+use Rattle.arithmetic.proofs.difference.Tie as tie
 
 pub difference-spec : {M : Type 1} → statement M
 difference-spec =

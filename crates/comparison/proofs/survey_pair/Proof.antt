@@ -1,9 +1,9 @@
--- `demands::pair::survey_pair` meets its contract: demand 3 follows from the contracts of its two calls.
+-- `survey_pair` meets its contract: demand 3 follows from the contracts of its two calls.
 use borrow.Author.Needs.{needs}
 use Rattle.survey.proofs.Handed.{same-view}
 use Rattle.demands.proofs.Demands.{surveyed-from, pair-surveyed}
-use Rattle.demands.proofs.pair.survey_pair.Statement.{statement}
-use Rattle.demands.proofs.pair.survey_pair.Tie as tie
+use Rattle.comparison.proofs.survey_pair.Statement.{statement}
+use Rattle.comparison.proofs.survey_pair.Tie as tie
 
 returns : tie.Need-returns
 returns c =

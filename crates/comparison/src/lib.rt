@@ -1,8 +1,8 @@
 // Two scenes seen in one view: what taking panels away changes (demand 3).
 use survey::ring_survey;
 ghost use Rattle.model.specs.Vector.{vec};
-ghost use Rattle.survey.specs.Contract.{cameraOf, viewFrom, lentOf};
+ghost use Rattle.contract.specs.Contract.{cameraOf, viewFrom, lentOf};
 ghost use Rattle.demands.specs.Demands.{PairSurveyed};
 
 // the results of the two calls
 pub struct Results {

@@ -1,0 +1,2 @@
+-- What the contract says of a refusal.
+pub mod Refusal

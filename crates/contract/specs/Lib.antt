@@ -1,0 +1,2 @@
+-- The contract of the exported calls.
+pub mod Contract

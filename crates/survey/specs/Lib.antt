@@ -1,2 +1,0 @@
--- The contracts of the exported calls.
-pub mod Contract
