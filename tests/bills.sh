@@ -1,19 +1,19 @@
 #!/bin/sh
-# The stored bills: samples/bills/*.view, each built from the text beside it, and the bill that `ringbill` must print for it.
+# The stored bills: samples/bills/*.view, each built from the text beside it, and the bill that `ringbill` must print for it. Then the longest input, and one byte more.
 #   SURVEY_LIB_DIR=... tests/bills.sh RINGBILL
 # The bills were not made by the program: tools/rays.py worked them out, and the ray-by-ray program in Rust says the same. Both are asked again in each run.
 # Ends with 1 if anything differs.
 [ $# -eq 1 ] || { echo "usage: bills.sh RINGBILL" >&2; exit 2; }
 root=$(cd "$(dirname "$0")/.." && pwd) || exit 1
-got=$(mktemp) || exit 1
-trap 'rm -f "$got"' EXIT
+work=$(mktemp -d) || exit 1
+trap 'rm -rf "$work"' EXIT
 passed=0 failed=0
 
 # gives FILE COMMAND...: what the command prints is this file
 gives() {
     file=$1
     shift
-    if "$@" >"$got" && cmp "$got" "$file"; then
+    if "$@" >"$work/got" && cmp "$work/got" "$file"; then
         passed=$((passed + 1))
     else
         failed=$((failed + 1))
@@ -23,18 +23,33 @@ gives() {
 
 model() { (cd "$root/tests/outside" && cargo run --quiet --release --offline --features library --bin selftest -- --bill); }
 
-# bill TEXT VIEW BILL
-bill() {
+# billed VIEW BILL: the two independent programs and `ringbill` print this bill
+billed() {
+    gives "$2" python3 "$root/tools/rays.py" "$1"
+    gives "$2" model <"$1"
+    gives "$2" "$ringbill" <"$1"
+}
+
+# stored TEXT VIEW BILL
+stored() {
     gives "$2" python3 "$root/tools/scene.py" build "$1" -
-    gives "$3" python3 "$root/tools/rays.py" "$2"
-    gives "$3" model <"$2"
-    gives "$3" "$ringbill" <"$2"
+    billed "$2" "$3"
 }
 
 ringbill=$1
-bill "$root/samples/s.txt" "$root/crates/ringbill/stdin" "$root/crates/ringbill/stdout"
+stored "$root/samples/s.txt" "$root/crates/ringbill/stdin" "$root/crates/ringbill/stdout"
 for text in "$root"/samples/bills/*.txt; do
-    bill "$text" "${text%.txt}.view" "${text%.txt}.bill"
+    stored "$text" "${text%.txt}.view" "${text%.txt}.bill"
+done
+
+# The longest input: a view of 12 bytes, and a scene whose header names 57,376 bytes, the longest, and no sections, so that question 2 says no.
+{ printf '\0\0\0\0\0\0\4\0\4\0\4\0\1\0\0\0\40\340\0\0' && head -c 57368 /dev/zero; } >"$work/longest"
+echo "refused 2" >"$work/longest.bill"
+# With one byte more the header is the same. A program that reads no further than the longest input would find that one, and say 2 again.
+{ cat "$work/longest" && printf '\0'; } >"$work/too_long"
+echo "refused 1" >"$work/too_long.bill"
+for input in longest too_long; do
+    billed "$work/$input" "$work/$input.bill"
 done
 
 echo "bills: $passed passed, $failed failed"

@@ -1,5 +1,5 @@
 #!/usr/bin/env bash
-# The tests from outside, over the library as it was just proved: the C header, the console example, the stored bills, and the ray-by-ray program in Rust against the C interface.
+# The tests from outside, over the library as it was just proved: the C header, the console example, the stored bills, the inputs and outputs that fail, and the ray-by-ray program in Rust against the C interface.
 #   outside.sh [CASES [SEED]]      more cases, or others
 set -euo pipefail
 cd "$(dirname "${BASH_SOURCE[0]}")/.."
@@ -26,6 +26,7 @@ cat "$log"
 [ "$status" -eq 0 ]
 
 tests/bills.sh "$ringbill"
+tests/failures.sh "$ringbill"
 tests/memory.sh 100 "$seed" >"$log" 2>&1 &
 (cd tests/outside && cargo run --quiet --release --offline --features library --bin differential -- --cases "$cases" --seed "$seed" --ringbill "$ringbill")
 wait $! && status=0 || status=$?

@@ -38,28 +38,28 @@ bill-of-front input = ⊎-elim within beyond (lt-or-ge (length input) 57389)
     beyond h =
         sym (bill-long (take 57389 input) (omega (arith, length-take-le 57389 input h))) ∙ bill-long input (omega arith)
 
-refused-by : (n : ℕ) (paid : List ℕ) → (n ≡ 0 → ⊥) → refusal n ≡ billBy n paid
+refused-by : (n : ℕ) (accepted : List ℕ) → (n ≡ 0 → ⊥) → refusal n ≡ billBy n accepted
 unfolding billBy
-refused-by zero paid h = absurd (h refl)
-refused-by (suc n) paid h = refl
+refused-by zero accepted h = absurd (h refl)
+refused-by (suc n) accepted h = refl
 
 -- An input of a fitting length, by the answer to the call that it asks for.
 module _ (input : List ℕ) (many : 12 ≤ length input) (few : length input ≤ 57388) where
   abbrev asked : Call
   asked = inputCall input countEntries
 
-  -- what is paid if the answer is 0
-  abbrev paid : List ℕ
-  paid = sheet (u16At input 6) (u16At input 8) (u16At input 10) (callCounts asked)
+  -- the bill if the answer is 0
+  abbrev accepted : List ℕ
+  accepted = sheet (u16At input 6) (u16At input 8) (u16At input 10) (callCounts asked)
 
-  bill-asked : billBy (surveyAnswer asked) paid ≡ bill input
+  bill-asked : billBy (surveyAnswer asked) accepted ≡ bill input
   unfolding bill callBill inputCall
   bill-asked = rw (le-leb 12 (length input) many, le-leb (length input) 57388 few)
 
   pub bill-refused : {n : ℕ} → n ≡ surveyAnswer asked → (n ≡ 0 → ⊥) → refusal n ≡ bill input
-  bill-refused {n} answered h = refused-by n paid h ∙ ap (λ (k : ℕ). billBy k paid) answered ∙ bill-asked
+  bill-refused {n} answered h = refused-by n accepted h ∙ ap (λ (k : ℕ). billBy k accepted) answered ∙ bill-asked
 
-  pub bill-paid :
+  pub bill-accepted :
       (before : List ℕ) {n w h l : ℕ} {counts : List ℕ} →
       length before ≡ countEntries →
       n ≡ surveyAnswer asked →
@@ -70,10 +70,10 @@ module _ (input : List ℕ) (many : 12 ≤ length input) (few : length input ≤
       counts ≡ inputCounts input before →
       sheet w h l counts ≡ bill input
   unfolding billBy inputCounts
-  bill-paid before {counts = counts} long answered done width height lens counted =
-      let accepted : surveyAnswer asked ≡ 0 = sym answered ∙ done in
+  bill-accepted before {counts = counts} long answered done width height lens counted =
+      let zeroed : surveyAnswer asked ≡ 0 = sym answered ∙ done in
       let all : counts ≡ callCounts asked =
       counted
       ∙ ap (λ (k : ℕ). countsBy (surveyAnswer (inputCall input k)) (callCounts (inputCall input k)) before) long
-      ∙ ap (λ (k : ℕ). countsBy k (callCounts asked) before) accepted in
-      (λ i. sheet (width i) (height i) (lens i) (all i)) ∙ ap (λ (k : ℕ). billBy k paid) (sym accepted) ∙ bill-asked
+      ∙ ap (λ (k : ℕ). countsBy k (callCounts asked) before) zeroed in
+      (λ i. sheet (width i) (height i) (lens i) (all i)) ∙ ap (λ (k : ℕ). billBy k accepted) (sym zeroed) ∙ bill-asked

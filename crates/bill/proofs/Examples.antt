@@ -21,7 +21,7 @@ pub bill-of-S : bill (inputOf origin 4 4 4 sceneS) ≡ ascii "view 4 4 4\n5 4\nn
 unfolding everything digitsWithin decimal spaced numbers line inputCall panelLine panelLines sheet refusal billBy callBill bill
 bill-of-S = refl
 
--- "Width 256 passes; 257: 10."
+-- "257: 10"
 pub refused-width : bill (inputOf origin 257 4 4 sceneS) ≡ ascii "refused 10\n"
 unfolding everything digitsWithin decimal spaced numbers line inputCall refusal billBy callBill bill
 refused-width = refl

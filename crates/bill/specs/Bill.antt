@@ -10,10 +10,10 @@ use Rattle.model.specs.Picture.{countEntries}
 use Rattle.model.specs.Survey.{callCounts}
 use Rattle.input.specs.Input.{inputCall}
 
--- what is paid if the answer is 0, which is "done", and a refusal otherwise
+-- the bill of an accepted call if the answer is 0, which is "done", and a refusal otherwise
 unfoldable pub billBy : ℕ → List ℕ → List ℕ
-billBy zero paid = paid
-billBy (suc n) paid = refusal (suc n)
+billBy zero accepted = accepted
+billBy (suc n) accepted = refusal (suc n)
 
 -- the bill of the survey call that the input asks for
 unfoldable pub callBill : Call → List ℕ

@@ -5,7 +5,7 @@ use Rattle.io.specs.Counts.{Counts}
 use Rattle.console.specs.declared.Got.{Got}
 use Rattle.console.specs.declared.Got.the-variants.{Bytes, Failed}
 
--- the bytes that were read stand at the start of the buffer
-abbrev pub Within : Got → List ℕ → Type 0
-Within (Bytes n) buffer = Counts n buffer
-Within Failed buffer = Unit {0}
+-- the bytes that were read stand at the start of the buffer; after a failed read nothing is said of it
+abbrev pub ReadInto : Got → List ℕ → Type 0
+ReadInto (Bytes n) buffer = Counts n buffer
+ReadInto Failed buffer = Unit {0}

@@ -1,6 +1,6 @@
 // Reading all of an input and writing all of an output. A failed read is told from the end of the input,
 // and a failed write is told on standard error.
-ghost use Rattle.console.specs.Reading.{Within};
+ghost use Rattle.console.specs.Reading.{ReadInto};
 
 // What reading an input came to.
 pub enum Got {
@@ -11,7 +11,7 @@ pub enum Got {
 
 // One read: so many bytes, 0 at the end of the input.
 fn read_some(file: i32, part: &mut [u8]) -> Got
-    ensures { λ r. ⌜ Within r (now (part .exit)) ⌝ }
+    ensures { λ r. ⌜ ReadInto r (now (part .exit)) ⌝ }
 {
     let got = libc::read(file, part);
     if got < 0 {
@@ -21,7 +21,7 @@ fn read_some(file: i32, part: &mut [u8]) -> Got
 }
 
 pub fn read_all(file: i32, buffer: &mut [u8]) -> Got
-    ensures { λ r. ⌜ Within r (now (buffer .exit)) ⌝ }
+    ensures { λ r. ⌜ ReadInto r (now (buffer .exit)) ⌝ }
 {
     let mut done = 0;
     while done < buffer.len() {

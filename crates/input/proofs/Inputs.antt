@@ -13,10 +13,11 @@ use Rattle.model.specs.Vector.{Vec, vec}
 use Rattle.model.specs.Call.{Call}
 use Rattle.model.specs.Format.{u16At, i16At}
 use Rattle.model.specs.Questions.{surveyAnswer}
-use Rattle.model.specs.Survey.{callCounts}
+use Rattle.model.specs.Survey.{callPicture, callCounts}
 use Rattle.model.specs.Lent.{Lent}
-use Rattle.contract.specs.Contract.{lentOf, cameraOf, viewFrom, lengthsBy, gateCall, results, leftBy, Surveyed}
+use Rattle.contract.specs.Contract.{lentOf, cameraOf, viewFrom, results, leftBy, Surveyed}
 use Rattle.input.specs.Input.{inputCall, countsBy, inputCounts}
+use Rattle.input.proofs.Caps.{lending, capped-answer}
 
 -- the counts of what is left
 counts-left : (n : ℕ) (new old : Lent) → leftBy n new old .counts ≡ countsBy n (new .counts) (old .counts)
@@ -43,18 +44,18 @@ pub surveyed-input :
     length picture ≡ min (w * h) 32768 →
     length unlit ≡ min (h * 256) 32768 →
     (r ≡ surveyAnswer (inputCall input (length counts))) × (after .counts ≡ inputCounts input counts)
-unfolding inputCall inputCounts
+unfolding inputCall inputCounts callCounts callPicture
 surveyed-input input {bytes} {picture} {counts} {unlit} {eye} {w} {h} {l} s scene eyes width height lens cells rows =
-    let call : Call = gateCall bytes (viewFrom eye (cameraOf w h l)) (lengthsBy (length picture) (length counts) (length unlit)) 0 in
-    let asked : call ≡ inputCall input (length counts) =
-    (λ i. gateCall (scene i) (viewFrom (eyes i) (cameraOf w h l)) (lengthsBy (cells i) (length counts) (rows i)) 0)
-    ∙ (λ i.
-    gateCall (drop 12 input)
-    (viewFrom (vec (i16At input 0) (i16At input 2) (i16At input 4)) (cameraOf (width i) (height i) (lens i)))
-    (lengthsBy (min (width i * height i) 32768) (length counts) (min (height i * 256) 32768))
-    0) in (
-      s .answered ∙ ap surveyAnswer asked,
+    let lent : ℕ → ℕ → Call = lending bytes eye w h l (length counts) in
+    let call : Call = lent (length picture) (length unlit) in
+    let asked : lent (w * h) (h * 256) ≡ inputCall input (length counts) =
+    λ i.
+    lending (scene i) (eyes i) (width i) (height i) (lens i) (length counts) (width i * height i) (height i * 256) in
+    let answered : surveyAnswer call ≡ surveyAnswer (lent (w * h) (h * 256)) =
+    (λ i. surveyAnswer (lent (cells i) (rows i))) ∙ capped-answer bytes eye w h l (length counts) in (
+      s .answered ∙ answered ∙ ap surveyAnswer asked,
       ap (λ (x : Lent). x .counts) (s .left)
           ∙ counts-left (surveyAnswer call) (results call) (lentOf picture counts unlit 0)
+          ∙ ap (λ (n : ℕ). countsBy n (callCounts call) counts) answered
           ∙ ap (λ (c : Call). countsBy (surveyAnswer c) (callCounts c) counts) asked,
     )

@@ -9,6 +9,7 @@ ghost use Rattle.model.specs.Format.{u16At};
 ghost use Rattle.model.specs.Questions.{surveyAnswer};
 ghost use Rattle.input.specs.Input.{inputCall, inputCounts};
 
+// a field of two bytes
 pub fn word(bytes: &[u8], at: usize) -> u16
     requires { ⌜ at + 2 ≤ length (now bytes) ⌝ }
     ensures { λ r. ⌜ r ≡ u16At (now (bytes .entry)) at ⌝ }
@@ -16,8 +17,8 @@ pub fn word(bytes: &[u8], at: usize) -> u16
     u16_at(bytes, at) as u16
 }
 
-// as much of a buffer as is wanted and there
-fn part(wanted: usize) -> usize
+// What is wanted of a buffer, as far as it goes: where that is less, question 10 has said no.
+fn capped(wanted: usize) -> usize
     ensures { λ r. ⌜ r ≡ min wanted 32768 ⌝ }
     ensures { λ r. ⌜ r ≤ 32768 ⌝ }
 {
@@ -43,8 +44,8 @@ pub fn survey_input(input: &[u8], counts: &mut [u32]) -> u32
     let mut picture = buffer();
     let mut unlit = buffer();
     let mut counter = 0u32;
-    let cells = part(area(width, height));
-    let rows = part(area(height, 256));
+    let cells = capped(area(width, height));
+    let rows = capped(area(height, 256));
     survey::ring_survey(
         &input[12..],
         i16_at(input, 0),

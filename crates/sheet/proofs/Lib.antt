@@ -2,3 +2,4 @@
 mod Panels
 mod Rooms
 mod Sheets
+pub mod Examples

@@ -30,6 +30,7 @@ nothingLine cells = line (ascii "nothing") (cells ∷ [])
 abbrev pub totalLine : ℕ → List ℕ
 totalLine cells = line (ascii "total") (cells ∷ [])
 
+-- A sheet is the bill of an accepted call:
 -- "in full (first line: width, height, lens; then each panel with a count, rising, and its count; cells with none; all cells)"
 unfoldable pub sheet : ℕ → ℕ → ℕ → List ℕ → List ℕ
 sheet width height lens counts =

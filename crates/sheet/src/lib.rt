@@ -10,7 +10,7 @@ ghost use lib.ListN.{length};
 ghost use Rattle.text.specs.Put.{Room, Put};
 ghost use Rattle.sheet.specs.Sheet.{viewLine, panelLine, panelList, nothingLine, sheet, refusal};
 
-// Room for every bill.
+// Room for every bill: 1,024 panels' lines of at most 22 bytes each, and three lines more.
 pub const ROOM: usize = 32768;
 
 // the first line: the window's three numbers

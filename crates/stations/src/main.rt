@@ -1,4 +1,6 @@
 // Surveys stored scenes at the limits of the questions and prints each one's name and answer. A file holds a view (12 bytes) and a scene.
+use console::Got;
+use console::read_all;
 use console::write_or_tell;
 use input::survey_input;
 use text::put_line;
@@ -6,8 +8,9 @@ ghost use Prim.Native.Nat.{_≤_};
 ghost use lib.ListN.{length};
 
 // The longest input, and one byte more, which tells a longer one.
-const ROOM: usize = 57389;
+const INPUT_ROOM: usize = 57389;
 
+// A line's 32 bytes are a name's 20, a space, the ten digits of a number and the line's end.
 fn print_answer(name: &[u8], answer: u32)
     requires { ⌜ length (now name) ≤ 20 ⌝ }
 {
@@ -33,8 +36,12 @@ fn run(name: &[u8])
         os::fail(name);
         return;
     }
-    let mut input = [0u8; ROOM];
-    let n = io::read_full(file, &mut input);
+    let mut input = [0u8; INPUT_ROOM];
+    let Got::Bytes(n) = read_all(file, &mut input) else {
+        os::fail(name);
+        libc::close(file);
+        return;
+    };
     libc::close(file);
     if n < 12 {
         print_answer(name, 1);

@@ -8,7 +8,7 @@ use native.Mathlib.Omega.{arith}
 use lib.Dec.{ltb}
 use lib.ListN.{length, length-append}
 use borrow.Author.Tests.{ltb-false}
-use Rattle.text.specs.Text.{ascii, digit, digitsWithin, decimal, spaced, numbers, line}
+use Rattle.text.specs.Text.{digit, digitsWithin, decimal, spaced, numbers, line}
 
 -- a number below a power of ten has at most that many digits
 digits-length : (k m n : ℕ) → n < 10 ^ suc m → length (digitsWithin k n) ≤ suc m
@@ -41,9 +41,13 @@ unfolding numbers
 newline-length = refl
 
 -- and, after a space, at most eleven bytes
+pub spaced-length : (n : ℕ) → n < 2 ^ 32 → length (spaced n) ≤ 11
+unfolding spaced
+spaced-length n h = omega (arith, decimal-length n h)
+
 pub numbers-length : (n : ℕ) (ns : List ℕ) → n < 2 ^ 32 → length (numbers (n ∷ ns)) ≤ 11 + length (numbers ns)
-unfolding numbers spaced
-numbers-length n ns h = omega (arith, length-append (ascii " " ++ decimal n) (numbers ns), decimal-length n h)
+unfolding numbers
+numbers-length n ns h = omega (arith, length-append (spaced n) (numbers ns), spaced-length n h)
 
 -- a line of a name and one such number
 pub line-length : (name : List ℕ) (n : ℕ) → n < 2 ^ 32 → length (line name (n ∷ [])) ≤ length name + 12

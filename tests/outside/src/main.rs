@@ -149,7 +149,7 @@ fn bills_agree(program: &str, made: &Case, k: u64) -> bool {
             18 => input.resize(LONGEST + (k / 50 % 3) as usize, 0),
             _ => (),
         }
-        printed(program, &input).trim_end() == bill(&input).trim_end()
+        printed(program, &input) == bill(&input)
     })
 }
 

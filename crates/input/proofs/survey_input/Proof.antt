@@ -27,8 +27,8 @@ returns c =
     (window .before .before .word .ensures)
     (window .before .word2 .ensures)
     (window .word3 .ensures)
-    (length-take-le _ _ (omega arith) ∙ cells .part .ensures .0 ∙ ap (λ (n : ℕ). min n 32768) (cells .before .area .ensures))
-    (length-take-le _ _ (omega arith) ∙ rows .part2 .ensures .0 ∙ ap (λ (n : ℕ). min n 32768) (rows .before .area2 .ensures))
+    (length-take-le _ _ (omega arith) ∙ cells .capped .ensures .0 ∙ ap (λ (n : ℕ). min n 32768) (cells .before .area .ensures))
+    (length-take-le _ _ (omega arith) ∙ rows .capped2 .ensures .0 ∙ ap (λ (n : ℕ). min n 32768) (rows .before .area2 .ensures))
 
 pub survey-input-spec : {M : Type 1} → statement M
 survey-input-spec =

@@ -1,0 +1,2 @@
+-- How many numbers a row's used pairs are.
+mod Used
