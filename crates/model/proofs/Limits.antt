@@ -1,5 +1,5 @@
 -- Every limit that stands in the definitions as a number, tried by computing: the numbers at the limit pass, the next ones do not.
-use mathlib.Core.Bool.{Bool, true, false, not, _&&_}
+use mathlib.Core.Bool.{Bool, true, not, _&&_}
 use mathlib.Core.List.{List, [], _∷_, _++_}
 use Prim.Native.Nat.{ℕ, _+_, _%_}
 use lib.Dec.{T, eqb}
@@ -179,38 +179,29 @@ abbrev chosenLimits : List Limit
 chosenLimits = limit (isChosen (λ n. true)) (1 ∷ 1024 ∷ []) (0 ∷ 1025 ∷ []) ∷ []
 
 -- ---- each list by itself: all of them at once take several times as long to compute
-header-limits : T (every holdsAt headerLimits)
+abbrev Hold : List Limit → Type 0
+Hold limits = T (every holdsAt limits)
+
+header-limits : Hold headerLimits
 unfolding everything
 header-limits = tt
 
-scene-limits : T (every holdsAt sceneLimits)
+scene-limits : Hold sceneLimits
 unfolding everything
 scene-limits = tt
 
-call-limits : T (every holdsAt callLimits)
+call-limits : Hold callLimits
 unfolding everything
 call-limits = tt
 
-form-limits : T (every holdsAt formLimits)
+form-limits : Hold formLimits
 unfolding everything
 form-limits = tt
 
-chosen-limits : T (every holdsAt chosenLimits)
+chosen-limits : Hold chosenLimits
 unfolding everything
 chosen-limits = tt
 
-every-append : {A : Type 0} (t : A → Bool) (xs ys : List A) → T (every t xs) → T (every t ys) → T (every t (xs ++ ys))
-every-append t [] ys h k = k
-every-append t (x ∷ xs) ys h k = go (t x) h (every-append t xs ys)
-  where
-    go : (b : Bool) → T (b && every t xs) → (T (every t xs) → T (every t ys) → T (every t (xs ++ ys))) → T (b && every t (xs ++ ys))
-    go true h f = f h k
-    go false h f = h
-
 -- At each limit the definitions say what document 01 says.
-pub limits-hold : T (every holdsAt (headerLimits ++ sceneLimits ++ callLimits ++ formLimits ++ chosenLimits))
-limits-hold =
-    every-append holdsAt headerLimits (sceneLimits ++ callLimits ++ formLimits ++ chosenLimits) header-limits
-    (every-append holdsAt sceneLimits (callLimits ++ formLimits ++ chosenLimits) scene-limits
-    (every-append holdsAt callLimits (formLimits ++ chosenLimits) call-limits
-    (every-append holdsAt formLimits chosenLimits form-limits chosen-limits)))
+pub limits-hold : Hold headerLimits × Hold sceneLimits × Hold callLimits × Hold formLimits × Hold chosenLimits
+limits-hold = (header-limits, scene-limits, call-limits, form-limits, chosen-limits)
