@@ -166,9 +166,6 @@ pub +-mono-≤ : {a b c d : ℤ} → a ≤ℤ b → c ≤ℤ d → (a +ℤ c) �
 +-mono-≤ {a} {b} {c} {d} h k = ≤-by (+-nonneg (≤-diff h) (≤-diff k)) (ring (a ∷ b ∷ c ∷ d ∷ []) (search reify depth 40 fits 200000, tt))
 
 -- ---- what a test says, and what passes a test
-T-true : {t : Bool} → t ≡ true → T t
-T-true e = subst T (sym e) tt
-
 true-T : (t : Bool) → T t → t ≡ true
 true-T true h = refl
 true-T false h = absurd h

@@ -1,8 +1,8 @@
 -- How long numbers and lines are.
 use mathlib.Core.Path.{_≡_, refl}
 use mathlib.Core.Bool.{Bool, true, false, cond}
-use mathlib.Core.List.{List, [], _∷_, _++_}
-use Prim.Native.Nat.{ℕ, zero, suc, _+_, _/_, _%_, _^_, _≤_, _<_}
+use mathlib.Core.List.{List, [], _∷_}
+use Prim.Native.Nat.{ℕ, zero, suc, _+_, _/_, _^_, _≤_, _<_}
 use native.Mathlib.Nat.{pow-suc, div-lt-iff-lt-mul}
 use native.Mathlib.Omega.{arith}
 use lib.Dec.{ltb}
@@ -14,22 +14,21 @@ use Rattle.text.specs.Text.{digit, digitsWithin, decimal, spaced, number
 digits-length : (k m n : ℕ) → n < 10 ^ suc m → length (digitsWithin k n) ≤ suc m
 unfolding digitsWithin
 digits-length zero m n h = omega arith
-digits-length (suc k) m n h = go m (ltb n 10) refl h (λ (j : ℕ) (l : n / 10 < 10 ^ suc j). digits-length k j (n / 10) l)
+digits-length (suc k) m n h = go m _ (simp length-append (omega arith)) (ltb n 10) refl h (λ (j : ℕ) (l : n / 10 < 10 ^ suc j). digits-length k j (n / 10) l)
   where
+    -- the digits of a tenth, and one more, wherever it stands
     go :
-        (m : ℕ) (b : Bool) →
+        (m : ℕ) (digits : List ℕ) →
+        length digits ≤ 1 + length (digitsWithin k (n / 10)) →
+        (b : Bool) →
         ltb n 10 ≡ b →
         n < 10 ^ suc m →
         ((j : ℕ) → n / 10 < 10 ^ suc j → length (digitsWithin k (n / 10)) ≤ suc j) →
-        length (cond b (digit n ∷ []) (digitsWithin k (n / 10) ++ (digit (n % 10) ∷ []))) ≤ suc m
-    go m true e h fewer = omega arith
-    go zero false e h fewer = absurd (omega (arith, ltb-false n 10 e))
-    go (suc m) false e h fewer =
-        omega (
-          arith,
-          length-append (digitsWithin k (n / 10)) (digit (n % 10) ∷ []),
-          fewer m (div-lt-iff-lt-mul (omega arith) .1 (rw (pow-suc 10 (suc m)) at h)),
-        )
+        length (cond b (digit n ∷ []) digits) ≤ suc m
+    go m digits one true e h fewer = omega arith
+    go zero digits one false e h fewer = absurd (omega (arith, ltb-false n 10 e))
+    go (suc m) digits one false e h fewer =
+        omega (arith, one, fewer m (div-lt-iff-lt-mul (omega arith) .1 (rw (pow-suc 10 (suc m)) at h)))
 
 -- a number of 32 bits has at most ten digits
 pub decimal-length : (n : ℕ) → n < 2 ^ 32 → length (decimal n) ≤ 10
