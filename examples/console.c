@@ -1,13 +1,16 @@
 /*
  * console: surveys a scene from several stations and prints a bill for each.
  *
- *   console [-u] [-o PICTURE] SCENE WIDTH HEIGHT LENS X Y Z [X Y Z ...]
+ *   console [-u] [-o PICTURE] [-a RX RY RZ FX FY FZ UX UY UZ]
+ *           SCENE WIDTH HEIGHT LENS X Y Z [X Y Z ...]
  *
  * A bill is the view line, each panel that shows with its number of cells, the cells that show
  * none, and all cells; a refusal is one line, `refused N`. Bills follow in the stations' order.
  *   -u          after each bill, a line for each row with unlit cells: the row's number, then
  *               first column and length of each stretch
  *   -o PICTURE  write the last picture as raw little-endian u16, for tools/draw.py --raw
+ *   -a RX .. UZ the camera's axes at all stations: its vectors right, forward and up, three parts
+ *               each; the level view, 1 0 0 0 1 0 0 0 1, where they are not given
  *
  * Build:  cc -std=c11 -Wall -Wextra -Iinclude examples/console.c -L LIBDIR -lsurvey -o console
  */
@@ -28,13 +31,20 @@ static uint32_t counts[RING_PANEL_MAX + 1];
 static uint16_t unlit[RING_HEIGHT_MAX * RING_UNLIT_ROW];
 static uint32_t counter;
 
-struct window {
+/* How all stations are surveyed: the window, and the axes right, forward and up. */
+struct camera {
     uint16_t width, height, lens;
+    int16_t axes[9];
 };
 
-struct station {
-    int16_t x, y, z;
+struct options {
+    const char *picture_name;
+    int with_unlit;
 };
+
+/* Vectors as a call takes them, part after part. */
+#define THREE(v) (v)[0], (v)[1], (v)[2]
+#define NINE(v) THREE(v), THREE((v) + 3), THREE((v) + 6)
 
 static int fail(const char *what, const char *name)
 {
@@ -44,7 +54,13 @@ static int fail(const char *what, const char *name)
 
 static int usage(void)
 {
-    fputs("usage: console [-u] [-o PICTURE] SCENE WIDTH HEIGHT LENS X Y Z [X Y Z ...]\n", stderr);
+    fputs("usage: console [-u] [-o PICTURE] [-a RX RY RZ FX FY FZ UX UY UZ]\n"
+          "               SCENE WIDTH HEIGHT LENS X Y Z [X Y Z ...]\n"
+          "  -u  print the unlit stretches after each bill\n"
+          "  -o  write the last picture as raw little-endian u16\n"
+          "  -a  turn the camera: its axes right, forward and up, each part from -100 to 100;\n"
+          "      1 0 0 0 1 0 0 0 1, the level view, where not given\n",
+          stderr);
     return 2;
 }
 
@@ -78,9 +94,11 @@ static uint16_t window_number(const char *word, int *ok)
     return (uint16_t)number(word, 0, UINT16_MAX, ok);
 }
 
-static int16_t eye_number(const char *word, int *ok)
+/* The parts of a station or of axes: any that a call can take, so that the library judges them. */
+static void read_parts(char **words, int16_t *parts, int count, int *ok)
 {
-    return (int16_t)number(word, INT16_MIN, INT16_MAX, ok);
+    for (int k = 0; k < count; k++)
+        parts[k] = (int16_t)number(words[k], INT16_MIN, INT16_MAX, ok);
 }
 
 /* The part of a buffer to lend. A window that is too large for it is refused before its length
@@ -91,13 +109,15 @@ static size_t at_most(size_t wanted, size_t room)
 }
 
 /* Asks the gate first, which needs no buffer; then surveys. */
-static uint32_t survey(struct window w, struct station s)
+static uint32_t survey(const struct camera *c, const int16_t *eye)
 {
-    size_t cells = at_most(RING_PICTURE_LEN(w.width, w.height), sizeof picture / sizeof *picture);
-    size_t pairs = at_most(RING_UNLIT_LEN(w.height), sizeof unlit / sizeof *unlit);
-    uint32_t gate = ring_gate(scene, scene_len, s.x, s.y, s.z, w.width, w.height, w.lens,
+    size_t cells = at_most(RING_PICTURE_LEN(c->width, c->height), sizeof picture / sizeof *picture);
+    size_t pairs = at_most(RING_UNLIT_LEN(c->height), sizeof unlit / sizeof *unlit);
+    uint32_t gate = ring_gate(scene, scene_len, THREE(eye), NINE(c->axes),
+                              c->width, c->height, c->lens,
                               cells, RING_COUNTS_LEN, pairs, counter);
-    uint32_t result = ring_survey(scene, scene_len, s.x, s.y, s.z, w.width, w.height, w.lens,
+    uint32_t result = ring_survey(scene, scene_len, THREE(eye), NINE(c->axes),
+                                  c->width, c->height, c->lens,
                                   picture, cells, counts, RING_COUNTS_LEN, unlit, pairs, &counter);
     if (gate != result) {
         fprintf(stderr, "console: the gate said %u, the survey %u\n",
@@ -107,14 +127,14 @@ static uint32_t survey(struct window w, struct station s)
     return result;
 }
 
-static void print_bill(struct window w)
+static void print_bill(const struct camera *c)
 {
-    printf("view %u %u %u\n", (unsigned)w.width, (unsigned)w.height, (unsigned)w.lens);
+    printf("view %u %u %u\n", (unsigned)c->width, (unsigned)c->height, (unsigned)c->lens);
     for (unsigned panel = 1; panel <= RING_PANEL_MAX; panel++)
         if (counts[panel])
             printf("%u %lu\n", panel, (unsigned long)counts[panel]);
     printf("nothing %lu\n", (unsigned long)counts[0]);
-    printf("total %lu\n", (unsigned long)w.width * w.height);
+    printf("total %lu\n", (unsigned long)c->width * c->height);
 }
 
 /* The used pairs of a row end before the first pair of length 0, or with the row. */
@@ -126,9 +146,9 @@ static size_t used_pairs(const uint16_t *row)
     return used;
 }
 
-static void print_unlit(struct window w)
+static void print_unlit(const struct camera *c)
 {
-    for (unsigned j = 0; j < w.height; j++) {
+    for (unsigned j = 0; j < c->height; j++) {
         const uint16_t *row = unlit + RING_UNLIT_ROW * j;
         size_t used = used_pairs(row);
         if (!used)
@@ -140,14 +160,14 @@ static void print_unlit(struct window w)
     }
 }
 
-static int write_picture(const char *name, struct window w)
+static int write_picture(const char *name, const struct camera *c)
 {
     if (!counter)
         return fail("no survey was accepted, no picture for", name);
     FILE *file = fopen(name, "wb");
     if (!file)
         return fail("cannot open", name);
-    for (size_t cell = 0; cell < RING_PICTURE_LEN(w.width, w.height); cell++) {
+    for (size_t cell = 0; cell < RING_PICTURE_LEN(c->width, c->height); cell++) {
         putc(picture[cell] & 255, file);
         putc(picture[cell] >> 8, file);
     }
@@ -156,62 +176,66 @@ static int write_picture(const char *name, struct window w)
     return bad ? fail("cannot write", name) : 0;
 }
 
-/* Reads the options; the place of the first word after them, or 0. */
-static int read_options(int argc, char **argv, const char **picture_name, int *with_unlit)
+/* Reads the options and the axes, if they are among them; the place of the first word after them,
+ * or 0. */
+static int read_options(int argc, char **argv, struct options *options, int16_t *axes, int *ok)
 {
     int at = 1;
     for (; at < argc && argv[at][0] == '-'; at++) {
-        if (!strcmp(argv[at], "-u"))
-            *with_unlit = 1;
-        else if (!strcmp(argv[at], "-o") && at + 1 < argc)
-            *picture_name = argv[++at];
-        else
+        if (!strcmp(argv[at], "-u")) {
+            options->with_unlit = 1;
+        } else if (!strcmp(argv[at], "-o") && at + 1 < argc) {
+            options->picture_name = argv[++at];
+        } else if (!strcmp(argv[at], "-a") && at + 9 < argc) {
+            read_parts(argv + at + 1, axes, 9, ok);
+            at += 9;
+        } else {
             return 0;
+        }
     }
     return at;
 }
 
-static struct window read_window(char **words, int *ok)
+static void read_window(char **words, struct camera *c, int *ok)
 {
-    return (struct window){window_number(words[0], ok), window_number(words[1], ok),
-                           window_number(words[2], ok)};
+    c->width = window_number(words[0], ok);
+    c->height = window_number(words[1], ok);
+    c->lens = window_number(words[2], ok);
 }
 
-static struct station read_station(char **words, int *ok)
+static void print_survey(const struct camera *c, const int16_t *eye, int with_unlit)
 {
-    return (struct station){eye_number(words[0], ok), eye_number(words[1], ok),
-                            eye_number(words[2], ok)};
-}
-
-static void print_survey(struct window w, struct station s, int with_unlit)
-{
-    uint32_t result = survey(w, s);
+    uint32_t result = survey(c, eye);
     if (result != RING_DONE) {
         printf("refused %u\n", (unsigned)result);
         return;
     }
-    print_bill(w);
+    print_bill(c);
     if (with_unlit)
-        print_unlit(w);
+        print_unlit(c);
 }
 
 int main(int argc, char **argv)
 {
-    const char *picture_name = NULL;
-    int with_unlit = 0, ok = 1;
-    int at = read_options(argc, argv, &picture_name, &with_unlit);
+    struct options options = {NULL, 0};
+    struct camera c = {0, 0, 0, {RING_LEVEL_VIEW}};
+    int16_t eye[3];
+    int ok = 1;
+    int at = read_options(argc, argv, &options, c.axes, &ok);
     if (!at || argc - at < 7 || (argc - at - 4) % 3)
         return usage();
-    struct window w = read_window(argv + at + 1, &ok);
+    read_window(argv + at + 1, &c, &ok);
     for (int k = at + 4; k < argc; k += 3)
-        read_station(argv + k, &ok);
+        read_parts(argv + k, eye, 3, &ok);
     if (!ok)
         return usage();
     if (read_scene(argv[at]))
         return 1;
-    for (int k = at + 4; k < argc; k += 3)
-        print_survey(w, read_station(argv + k, &ok), with_unlit);
+    for (int k = at + 4; k < argc; k += 3) {
+        read_parts(argv + k, eye, 3, &ok);
+        print_survey(&c, eye, options.with_unlit);
+    }
     if (fflush(stdout) || ferror(stdout))
         return fail("cannot write", "standard output");
-    return picture_name ? write_picture(picture_name, w) : 0;
+    return options.picture_name ? write_picture(options.picture_name, &c) : 0;
 }

@@ -3,8 +3,8 @@
  *
  * A survey reads a scene (flat patches of numbered panels, kept in a tree of planes), checks it,
  * and says for each cell of a window which panel is the closest along that cell's sight line from
- * the eye. Everything is exact in whole numbers. One length unit is 5 mm; the axes are right,
- * forward along the bore, and up.
+ * the eye. Everything is exact in whole numbers. One length unit is 5 mm; x is to the right, y
+ * forward along the bore, z up. The camera may look any way: three vectors say how it is turned.
  *
  * Link with libsurvey.a:   cc -Iinclude console.c -Llib -lsurvey
  *
@@ -32,6 +32,16 @@ extern "C" {
 #define RING_HEIGHT_MAX  128
 #define RING_LENS_MAX    4096
 
+/* Each part of right, forward and up is from -RING_AXIS_MAX to RING_AXIS_MAX. */
+#define RING_AXIS_MAX    100
+
+/*
+ * The level view: right (1,0,0), forward (0,1,0), up (0,0,1), for a camera that does not turn. One
+ * word for these nine numbers of a call:
+ *     ring_gate(scene, scene_len, 0, 20, 0, RING_LEVEL_VIEW, 256, 128, 160, ...)
+ */
+#define RING_LEVEL_VIEW  1, 0, 0, 0, 1, 0, 0, 0, 1
+
 /* The longest scene in bytes, and the highest panel number. */
 #define RING_SCENE_MAX   57376
 #define RING_PANEL_MAX   1024
@@ -44,8 +54,9 @@ extern "C" {
 
 /*
  * What both calls return: 0, or the number of the first question answered with no. The questions
- * are put in this order, each to the whole scene before the next, so a scene with several faults
- * is refused for the first of them.
+ * are put in the order in which they stand here, each to the whole scene before the next, so a
+ * scene with several faults is refused for the first of them. The numbers are names and do not say
+ * the order: 14 comes right after 10.
  */
 enum ring_result {
     RING_DONE = 0,
@@ -72,6 +83,9 @@ enum ring_result {
     /* The call. */
     RING_BAD_VIEW = 10,    /* the eye is outside -10,000 to 10,000, or width, height or lens is
                               not 1 to 256, 1 to 128, 1 to 4,096 */
+    RING_BAD_AXES = 14,    /* a part of right, forward or up is outside -100 to 100, or
+                              right . (forward x up) is not above 0: it is 0 where the three lie
+                              in one plane, and below 0 where the picture would be mirrored */
     RING_BAD_BUFFERS = 11, /* picture_len is not width x height, counts_len is not 1,025, or
                               unlit_len is not height x 256 */
     RING_BAD_COUNTER = 12, /* the station counter stands at 4,294,967,295 and cannot rise */
@@ -85,9 +99,13 @@ enum ring_result {
  *
  *   scene, scene_len          the scene's bytes; they are only read
  *   eye_x, eye_y, eye_z       the station, in units
+ *   right_x .. up_z           how the camera is turned: the parts along x, y and z of its vectors
+ *                             right, forward and up; RING_LEVEL_VIEW where it is level. Nothing
+ *                             asks that they be square to each other or of one length
  *   width, height, lens       the window: the sight line of column i (0 at the left) and row j
  *                             (0 at the top) has the direction
- *                             (2i + 1 - width, lens, height - 1 - 2j)
+ *                             (2i + 1 - width) right + lens forward + (height - 1 - 2j) up,
+ *                             which is (2i + 1 - width, lens, height - 1 - 2j) in the level view
  *   picture, picture_len      width x height cells. Row after row from the top: cell (i, j) is
  *                             picture[j * width + i]; a panel number, or 0 where none is met
  *   counts, counts_len        1,025 numbers. counts[p] is the number of cells that show panel p,
@@ -105,6 +123,9 @@ enum ring_result {
  */
 uint32_t ring_survey(const uint8_t *scene, size_t scene_len,
                      int16_t eye_x, int16_t eye_y, int16_t eye_z,
+                     int16_t right_x, int16_t right_y, int16_t right_z,
+                     int16_t forward_x, int16_t forward_y, int16_t forward_z,
+                     int16_t up_x, int16_t up_y, int16_t up_z,
                      uint16_t width, uint16_t height, uint16_t lens,
                      uint16_t *picture, size_t picture_len,
                      uint32_t *counts, size_t counts_len,
@@ -117,6 +138,9 @@ uint32_t ring_survey(const uint8_t *scene, size_t scene_len,
  */
 uint32_t ring_gate(const uint8_t *scene, size_t scene_len,
                    int16_t eye_x, int16_t eye_y, int16_t eye_z,
+                   int16_t right_x, int16_t right_y, int16_t right_z,
+                   int16_t forward_x, int16_t forward_y, int16_t forward_z,
+                   int16_t up_x, int16_t up_y, int16_t up_z,
                    uint16_t width, uint16_t height, uint16_t lens,
                    size_t picture_len, size_t counts_len, size_t unlit_len,
                    uint32_t counter);

@@ -1,6 +1,6 @@
 #!/usr/bin/env bash
-# The tests that need no proved library: the tools, and that the comparison from outside can fail, against the model with one fault at a time and against a library of
-# wrong answers.
+# The tests that need no proved library: the tools, the stored cases on the model, and that the comparison from outside can fail, against the model with one fault at a
+# time and against a library of wrong answers.
 set -euo pipefail
 cd "$(dirname "${BASH_SOURCE[0]}")/.."
 

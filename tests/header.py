@@ -1,13 +1,16 @@
-"""Holds include/ring.h to document 01 and to the library.
+"""Holds include/ring.h to documents 01 and 02 and to the library.
 
     header.py LIBDIR      the folder that holds libsurvey.a
 
-tests/header.c compiles with the header, links with the archive and runs; it speaks of every name of the header; the archive
-exports the calls that the header declares and nothing else. That all this can fail: of the header's numbers and types each is
-changed alone, and none of these headers compiles. Each case is counted; a case that fails is named.
+tests/header.c compiles with the header, links with the archive and runs; it speaks of every name of the header, lists the
+results in the header's order and declares the calls word for word; the archive exports these calls and nothing else. That
+all this can fail: of the header's numbers and types each is changed alone, and none of these headers compiles; any two
+numbers of a call are exchanged, and the call paints another picture or is refused. Each case is counted; a case that fails
+is named.
 """
 
 import collections
+import itertools
 import os
 import re
 import subprocess
@@ -23,6 +26,9 @@ CHANGES = (("number", r"\b\d+\b", lambda found: str(int(found) + 1)),
            ("type", r"\b(?:u?int\d+_t|size_t)\b", lambda found: "char"),
            ("const", r"\bconst\b", lambda found: ""),
            ("pointer", r"\*(?=\w)", lambda found: ""))
+
+# Numbers of a call, eye, right, forward, up and window; the first of them are the eye's, of which the gate asks the same.
+NUMBERS, EYE = 15, 3
 
 tally = collections.Counter()
 
@@ -58,22 +64,30 @@ def exported(archive):
 
 
 def calls(text):
-    """The calls that a text declares, at the beginning of a line."""
-    return set(re.findall(r"^[a-z]\w* (\w+)\(", text, flags=re.MULTILINE))
+    """The calls that a text declares, at the beginning of a line: each name with its parameters, by name and in order."""
+    found = re.findall(r"^[a-z]\w* (\w+)\(([^)]*)\);", text, flags=re.MULTILINE)
+    return {name: [" ".join(one.split()) for one in parameters.split(",")] for name, parameters in found}
 
 
 def agrees(library, folder):
     program = os.path.join(folder, "header")
     build = CC + ["-I", os.path.join(ROOT, "include"), CHECK, "-L", library, "-lsurvey", "-o", program]
-    check("header.c builds and runs", succeeds(build) and succeeds([program]))
+    built = succeeds(build)
+    check("header.c builds and runs", built and succeeds([program]))
+    for call, (one, other) in itertools.product(("survey", "gate"), itertools.combinations(range(NUMBERS), 2)):
+        if call == "survey" or other >= EYE:
+            shows = built and not succeeds([program, call, str(one), str(other)])
+            check("it shows when numbers %d and %d of ring_%s are exchanged" % (one, other, call), shows)
 
 
 def names(header, body, archive):
-    stated = set(re.findall(r"^IS\((\w+)", body, flags=re.MULTILINE))
+    stated = re.findall(r"^IS(?:_NINE)?\((\w+)", body, flags=re.MULTILINE)
     for name in set(re.findall(r"\bRING_\w+", header)) - {"RING_H"}:
         check("header.c says what %s is" % name, name in stated)
-    check("header.c declares the calls of the header", calls(body) - {"main"} == calls(header))
-    check("the archive exports the calls of the header", exported(archive) == calls(header))
+    results = re.findall(r"\b(RING_\w+) = ", header)
+    check("header.c lists the results in the header's order", [name for name in stated if name in results] == results)
+    check("header.c declares the calls of the header", calls(body) == calls(header))
+    check("the archive exports the calls of the header", exported(archive) == set(calls(header)))
 
 
 def can_fail(header, folder):

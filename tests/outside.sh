@@ -1,5 +1,6 @@
 #!/usr/bin/env bash
-# The tests from outside, over the library as it was just proved: the C header, the console example, the stored bills, the inputs and outputs that fail, and the ray-by-ray program in Rust against the C interface.
+# The tests from outside, over the library as it was just proved: the C header, the console example, the stored bills, the inputs and outputs that fail, and through the C interface the stored cases and the
+# ray-by-ray program in Rust.
 #   outside.sh [CASES [SEED]]      more cases, or others
 set -euo pipefail
 cd "$(dirname "${BASH_SOURCE[0]}")/.."

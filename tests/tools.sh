@@ -16,4 +16,5 @@ timeout 120 python3 "$root/tests/tools_test.py" || status=1
 compiles cc c c11 include/ring.h
 compiles c++ c++ c++11 include/ring.h
 compiles cc c c11 examples/console.c
+compiles cc c c11 tests/header.c
 exit $status

@@ -1,9 +1,11 @@
-"""Tests of tools/: worked scenes, round trips, the gate, sample rings, pictures, the commands.
+"""Tests of tools/: worked scenes, turned cameras, round trips, the gate, sample rings, pictures,
+the commands.
 
 Run by tools.sh. Each case is counted; a case that fails is named.
 """
 
 import collections
+import itertools
 import os
 import random
 import struct
@@ -91,6 +93,134 @@ def test_stored_scenes():
     check("s.txt: 88 bytes", len(s) - 12, 88)
     check("s.txt: picture", rays.survey(*gate.check_input(s)), middle(5))
     check("t.txt: picture", rays.survey(*gate.check_input(t)), middle(7))
+
+
+# --- turned cameras ------------------------------------------------------------------------------
+
+def axes_of(numbers):
+    """Right, forward and up from a text of nine numbers."""
+    return scene.take_axes(["--axes"] + numbers.split())
+
+
+def built(name, view=None):
+    """An input of `ringbill` from samples/, perhaps with another view."""
+    data = scene.build(stored("samples/%s.txt" % name).decode())
+    return data if view is None else scene.pack_view(view) + data[12:]
+
+
+def rows_of(digits):
+    """Rows of panels 0 to 9, a word each."""
+    return [[int(digit) for digit in word] for word in digits.split()]
+
+
+LEVEL = "1 0 0  0 1 0  0 0 1"
+SKEWED = "9 2 -7  3 12 -4  11 -1 8"
+EMPTY = "0000 0000 0000 0000"
+BARS_LEVEL = "000000000 000000000 004400000 000000000 000003300 000000000 000000000"
+BARS_LEFT = "000440000 000044000 000000000 000000000 000000000 000330000 000033000"
+BARS_RIGHT = "000000000 000000000 004000030 044000330 040000300 000000000 000000000"
+
+# A scene of samples/, the camera's axes, and what it shows.
+TURNED = (("quarters", LEVEL, "1122 3344"),
+          ("quarters", "0 0 -1  0 1 0  1 0 0", "2244 1133"),
+          ("quarters", "-1 0 0  0 1 0  0 0 -1", "4433 2211"),
+          ("quarters", "1 0 0  1 1 0  0 0 1", "2200 4400"),
+          ("quarters", "100 0 0  0 100 0  0 0 100", "1122 3344"),
+          ("wall", "0 -1 0  1 0 0  0 0 1", "0000 0990 0990 0000"),
+          ("wall", LEVEL, EMPTY),
+          ("wall", "100 -100 0  100 100 0  0 0 100", "0009 0009 0009 0009"),
+          ("roof", "1 0 0  0 0 1  0 -1 0", "0000 0880 0660 0000"),
+          ("roof", LEVEL, EMPTY),
+          ("bars", LEVEL, BARS_LEVEL),
+          ("bars", "1 0 1  0 2 0  -1 0 1", BARS_LEFT),
+          ("bars", "1 0 -1  0 2 0  1 0 1", BARS_RIGHT))
+
+# A view of samples/quarters.txt whose numbers all differ, in a call's order: eye, axes, window.
+OBLIQUE = (-19, -49, 26, *map(int, SKEWED.split()), 6, 4, 5)
+OBLIQUE_ROWS = "022000 112400 013440 003300"
+
+
+def seen_along(data, axes):
+    """The picture of an input along these axes, or the number that it is refused with."""
+    try:
+        return rays.survey_input(data, axes)[1]
+    except gate.No as no:
+        return no.question
+
+
+def test_turned_stations():
+    for name, axes, digits in TURNED:
+        check("%s along %s" % (name, axes), seen_along(built(name), axes_of(axes)), rows_of(digits))
+    behind = built("t", (0, 200, 0, 4, 4, 4))
+    check("t, looking back", seen_along(behind, axes_of("-1 0 0  0 -1 0  0 0 1")), middle(5))
+    check("t, from there forward", seen_along(behind, axes_of(LEVEL)), middle(0))
+
+
+def test_level_view():
+    """The level view is the one of the calls that name no axes."""
+    data = scene.pack_view(SMALL_WINDOW) + scene.pack(made(""))
+    view, whole = gate.check_input(data)
+    check("no axes are the level ones", scene.take_axes([]), axes_of(LEVEL))
+    check("level ring", seen_along(data, axes_of(LEVEL)), rays.survey(view, whole))
+    check("first ray of 4 by 2, lens 7", rays.ray_of((4, 2, 7), scene.LEVEL, 0, 0), (-3, 7, 1))
+    check("last ray of 4 by 2, lens 7", rays.ray_of((4, 2, 7), scene.LEVEL, 3, 1), (3, 7, -1))
+
+
+def oblique(numbers):
+    """What samples/quarters.txt shows for the numbers of a call, in its order."""
+    axes = numbers[3:6], numbers[6:9], numbers[9:12]
+    return seen_along(built("quarters", numbers[:3] + numbers[12:]), axes)
+
+
+def exchanged(numbers, one, other):
+    changed = list(numbers)
+    changed[one], changed[other] = numbers[other], numbers[one]
+    return tuple(changed)
+
+
+def test_oblique_view():
+    """Each number of a view has its place and its sign: any change shows."""
+    rows = rows_of(OBLIQUE_ROWS)
+    check("oblique view", oblique(OBLIQUE), rows)
+    signed = range(12)
+    for one, other in itertools.combinations(signed, 2):
+        check("numbers %d and %d exchanged" % (one, other),
+              oblique(exchanged(OBLIQUE, one, other)) != rows)
+    for place in signed:
+        turned = OBLIQUE[:place] + (-OBLIQUE[place],) + OBLIQUE[place + 1:]
+        check("number %d with the other sign" % place, oblique(turned) != rows)
+
+
+def moved(data, axes):
+    """The scene with its points and its eye moved to where these axes are right, forward and up."""
+    view, whole = gate.check_input(data)
+
+    def move(point):
+        x, y, z = point
+        return tuple(x * right + y * forward + z * up for right, forward, up in zip(*axes))
+    for node in whole.nodes:
+        node.points = [move(point) for point in node.points]
+    whole.corners = [move(corner) for corner in whole.corners]
+    return scene.pack_view(move(view[:3]) + view[3:]) + scene.pack(whole)
+
+
+def random_axes(draws):
+    """Axes with small parts that question 14 lets pass."""
+    while True:
+        axes = tuple(tuple(draws.randint(-3, 3) for _ in range(3)) for _ in range(3))
+        if gate.dot(axes[0], gate.cross(*axes[1:])) > 0:
+            return axes
+
+
+def test_moved_scenes():
+    """A scene that moves with the camera's axes keeps its level picture, skewed or not."""
+    draws = random.Random(3)
+    views = (built("bars", (5, -20, 7, 9, 7, 8)), built("quarters", (-9, 30, 4, 6, 4, 5)))
+    for data in views:
+        level = seen_along(data, scene.LEVEL)
+        check("a picture to keep", len({panel for row in level for panel in row}) > 2)
+        for axes in (random_axes(draws) for _ in range(20)):
+            check("moved along %s" % (axes,), seen_along(moved(data, axes), axes), level)
 
 
 # --- round trips ---------------------------------------------------------------------------------
@@ -231,6 +361,47 @@ def test_gate_view():
         asks("view " + view, number, "view " + view, NODE, FIVE)
 
 
+def axes_answer(numbers, data=None):
+    """The answer to an input, S unless said, along axes of these nine numbers."""
+    found = seen_along(data or built("s"), axes_of(numbers))
+    return found if isinstance(found, int) else 0
+
+
+def test_gate_axes_range():
+    """Each part, where right · (forward × up) is above 0 whatever that part is."""
+    for numbers, places in (("50 1 2 3 50 4 5 6 50", (1, 2, 3, 5, 6, 7)),
+                            ("-50 50 50 50 -50 50 50 50 -50", (0, 4, 8))):
+        for place, part in itertools.product(places, (100, -100, 101, -101)):
+            words = numbers.split()
+            words[place] = str(part)
+            check("gate: axes " + " ".join(words), axes_answer(" ".join(words)),
+                  14 if abs(part) > 100 else 0)
+
+
+def test_gate_axes():
+    for name, numbers, number in (("level", LEVEL, 0),
+                                  ("far out of square", SKEWED, 0),
+                                  ("all limits", "-100 100 100 100 -100 100 100 100 -100", 0),
+                                  ("mirrored", "-1 0 0 0 1 0 0 0 1", 14),
+                                  ("right and up exchanged", "0 0 1 0 1 0 1 0 0", 14),
+                                  ("up is forward", "1 0 0 0 1 0 0 1 0", 14),
+                                  ("in one plane", "1 2 3 4 5 6 7 8 9", 14),
+                                  ("all 0", "0 0 0 0 0 0 0 0 0", 14),
+                                  ("out of range", "1 0 101 0 1 0 0 0 1", 14)):
+        check("gate: axes " + name, axes_answer(numbers), number)
+
+
+def test_gate_axes_order():
+    """14 is asked right after 10, and 10 after the questions on scenes."""
+    bad = "1 0 101 0 1 0 0 0 1"
+    check("gate: lens 0 and a part 101", axes_answer(bad, built("s", (0, 0, 0, 4, 4, 0))), 10)
+    check("gate: an eye too far and no axes",
+          axes_answer("0 0 0 0 0 0 0 0 0", built("s", (10001, 0, 0, 4, 4, 4))), 10)
+    check("gate: a short scene and a part 101", axes_answer(bad, built("s")[:-1]), 1)
+    wrong = scene.build(text_of(VIEW, NODE, "patch 5 " + square(50, 101)))
+    check("gate: a patch off its plane and a part 101", axes_answer(bad, wrong), 9)
+
+
 # --- sample rings --------------------------------------------------------------------------------
 
 SMALL_WINDOW = (0, 20, 0, 48, 24, 30)
@@ -320,9 +491,10 @@ def test_row_bound():
     """Leaving patches out of a row by its plane changes nothing."""
     view, whole = SMALL_WINDOW[:3] + (16, 8, 10), made("--facets 1")
     all_seen = [rays.Seen(view[:3], p.panel, whole.corners_of(p)) for p in whole.patches]
-    plain = [[rays.closest_panel(rays.ray_of(view[3:], i, j), all_seen) for i in range(16)]
-             for j in range(8)]
-    check("rows without the bound", rays.survey(view, whole), plain)
+    for axes in (scene.LEVEL, axes_of(SKEWED)):
+        plain = [[rays.closest_panel(rays.ray_of(view[3:], axes, i, j), all_seen)
+                  for i in range(16)] for j in range(8)]
+        check("rows without the bound along %s" % (axes,), rays.survey(view, whole, axes), plain)
 
 
 # --- pictures ------------------------------------------------------------------------------------
@@ -405,6 +577,37 @@ def test_survey_commands():
     check("gate.py", command("gate.py", "-", data=s), (0, b"accepted\n"))
     check("gate.py --scene", command("gate.py", "--scene", "-", data=s[12:]), (0, b"accepted\n"))
     check("gate.py, refused", command("gate.py", "-", data=s[:-1])[0], 1)
+
+
+def test_axes_commands():
+    wall, aside = built("wall"), "0 -1 0 1 0 0 0 0 1".split()
+    bill, empty = b"view 4 4 4\n9 4\nnothing 12\ntotal 16\n", b"view 4 4 4\nnothing 16\ntotal 16\n"
+    check("rays.py, level", command("rays.py", "-", data=wall), (0, empty))
+    check("rays.py --axes", command("rays.py", "--axes", *aside, "-", data=wall), (0, bill))
+    check("rays.py, axes last", command("rays.py", "-", "--axes", *aside, data=wall), (0, bill))
+    bad = ["--axes"] + ["0"] * 9
+    found = "refused 14: right · (forward × up) is 0, not above 0\n".encode()
+    check("rays.py, 14", command("rays.py", *bad, "-", data=wall), (0, b"refused 14\n"))
+    check("gate.py, 14", command("gate.py", *bad, "-", data=wall), (1, found))
+    check("gate.py, a part", command("gate.py", "--axes", "1", "-101", *aside[2:], "-", data=wall),
+          (1, b"refused 14: right is 1,-101,0\n"))
+    check("gate.py --axes", command("gate.py", "--axes", *aside, "-", data=wall),
+          (0, b"accepted\n"))
+    for words in (["rays.py", "--axes", *aside[1:], "-"], ["rays.py", *bad, *bad, "-"],
+                  ["rays.py", "--axes", "x", *aside[1:], "-"],
+                  ["rays.py", "--axes", "40000", *aside[1:], "-"],
+                  ["gate.py", "--scene", "-", *bad], ["gate.py", *bad, "--scene", "-"]):
+        check("misused: " + " ".join(words), command(*words, data=wall), (1, b""))
+    check("misused: axes of a raw picture",
+          command("draw.py", "--raw", "4", "4", "-", "-", *bad, data=bytes(32)), (1, b""))
+
+
+def test_draw_axes():
+    """draw.py turns the camera as rays.py does."""
+    data = built("quarters", OBLIQUE[:3] + OBLIQUE[12:])
+    status, drawn = command("draw.py", "--axes", *SKEWED.split(), "-", "-", "1", data=data)
+    check("draw.py --axes", status, 0)
+    check("drawn along the axes", png_lines(drawn), wanted_lines(rows_of(OBLIQUE_ROWS), 1))
 
 
 def test_file_commands():

@@ -1,13 +1,17 @@
 #!/usr/bin/env python3
 """Draws a survey's picture as PNG: a colour for each panel, cells with no panel plain dark.
 
-    draw.py IN.view OUT.png [SCALE]                     computed here, ray by ray
+    draw.py [--axes RX RY RZ FX FY FZ UX UY UZ] IN.view OUT.png [SCALE]
+                                                             computed here, ray by ray
     draw.py --raw WIDTH HEIGHT PICTURE.u16 OUT.png [SCALE]   a picture made elsewhere
 
-A raw picture is little-endian u16, row after row from the top, as `examples/console.c -o` and
-`rays.py` write it. SCALE is the side of a cell in pixels, 4 unless said. Example:
+--axes turns the camera: its vectors right, forward and up; without it the view is level, (1,0,0),
+(0,1,0), (0,0,1). A raw picture is little-endian u16, row after row from the top, as
+`examples/console.c -o` and `rays.py` write it. SCALE is the side of a cell in pixels, 4 unless
+said. Examples:
 
     $ draw.py samples/ring.view docs/sample-ring.png
+    $ draw.py --axes 4 -3 0 3 4 0 0 0 5 samples/ring.view aside.png
 """
 
 import colorsys
@@ -71,23 +75,24 @@ def read_raw(words):
     return unpack_picture(scenes.read_file(name), width, height), words[3:]
 
 
-def read_view(words):
-    return rays.survey(*gate.check_input(scenes.read_file(words[0]))), words[1:]
+def read_view(words, axes):
+    return rays.survey_input(scenes.read_file(words[0]), axes)[1], words[1:]
 
 
 def run(words):
-    rows, rest = read_raw(words[1:]) if words[0] == "--raw" else read_view(words)
+    raw = words[:1] == ["--raw"]
+    axes = None if raw else scenes.take_axes(words)
+    if len(words) not in ((5, 6) if raw else (2, 3)):
+        sys.exit("usage: draw.py %s IN.view OUT.png [SCALE]\n"
+                 "       draw.py --raw WIDTH HEIGHT PICTURE.u16 OUT.png [SCALE]" % scenes.AXES)
+    rows, rest = read_raw(words[1:]) if raw else read_view(words, axes)
     scale = int(rest[1]) if len(rest) == 2 else 4
     scenes.write_file(rest[0], draw(rows, max(scale, 1)))
 
 
 def main():
-    words = sys.argv[1:]
-    if len(words) not in ((5, 6) if words[:1] == ["--raw"] else (2, 3)):
-        sys.exit("usage: draw.py IN.view OUT.png [SCALE]\n"
-                 "       draw.py --raw WIDTH HEIGHT PICTURE.u16 OUT.png [SCALE]")
     try:
-        run(words)
+        run(sys.argv[1:])
     except (scenes.Fault, gate.No, OSError, ValueError) as fault:
         sys.exit("draw.py: %s" % fault)
 

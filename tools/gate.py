@@ -1,14 +1,20 @@
 #!/usr/bin/env python3
-"""The gate's questions on a scene (1 to 9) and on a view (10), asked slowly and one by one.
+"""The gate's questions on a scene (1 to 9) and on a view (10, 14), asked slowly and one by one.
 
-    gate.py IN.view           a view and a scene, as `ringbill` reads them
+    gate.py [--axes RX RY RZ FX FY FZ UX UY UZ] IN.view
+                              a view and a scene, as `ringbill` reads them
     gate.py --scene IN.scene  a scene alone: questions 1 to 9
 
+--axes turns the camera: its vectors right, forward and up, which question 14 is about. Without
+it the view is level, (1,0,0), (0,1,0), (0,0,1), as it is for `ringbill`.
+
 Prints `accepted`, or `refused N` and in words what was found. Questions 11 to 13 are about the
-caller's buffers, counter and rows and are not asked here. Example:
+caller's buffers, counter and rows and are not asked here. Examples:
 
     $ gate.py samples/ring.view
     accepted
+    $ gate.py --axes 1 0 0 0 1 0 0 2 0 samples/ring.view
+    refused 14: right · (forward × up) is 0, not above 0
 """
 
 import sys
@@ -19,6 +25,7 @@ import scene as scenes  # noqa: E402
 SHORTEST, LONGEST = 32, 57376
 MOST = (1024, 1024, 4096)
 REACH = 10000
+PART = 100
 PANELS = 1024
 
 
@@ -210,7 +217,7 @@ def check_scene(data):
     return scene
 
 
-# --- question 10 ---------------------------------------------------------------------------------
+# --- questions 10 and 14 -------------------------------------------------------------------------
 
 def check_view(view):
     if max(map(abs, view[:3])) > REACH:
@@ -220,28 +227,46 @@ def check_view(view):
             raise No(10, "%s %d, not 1 to %d" % (name, number, most))
 
 
-def check_input(data):
-    """(view, scene) of an input of `ringbill`, if questions 1 to 10 all say yes; else No."""
+def check_axes(axes):
+    for name, vector in zip(("right", "forward", "up"), axes):
+        if max(map(abs, vector)) > PART:
+            raise No(14, "%s is %s" % (name, scenes.point_text(vector)))
+    right, forward, up = axes
+    turn = dot(right, cross(forward, up))
+    if turn <= 0:
+        raise No(14, "right · (forward × up) is %d, not above 0" % turn)
+
+
+def check_input(data, axes=scenes.LEVEL):
+    """(view, scene) of an input of `ringbill`, if questions 1 to 10 and 14 all say yes; else No."""
     if not scenes.VIEW.size <= len(data) <= scenes.VIEW.size + LONGEST:
         raise No(1, "%d bytes of view and scene" % len(data))
     view, data = scenes.split_view(data)
     scene = check_scene(data)
     check_view(view)
+    check_axes(axes)
     return view, scene
 
 
+def run(words):
+    alone = words[:1] == ["--scene"]
+    axes = None if alone else scenes.take_axes(words)
+    if len(words) != (2 if alone else 1):
+        sys.exit("usage: gate.py %s IN.view\n       gate.py --scene IN.scene" % scenes.AXES)
+    data = scenes.read_file(words[-1])
+    if alone:
+        check_scene(data)
+    else:
+        check_input(data, axes)
+
+
 def main():
-    words = sys.argv[1:]
-    check = check_scene if words[:1] == ["--scene"] else check_input
-    words = [word for word in words if word != "--scene"]
-    if len(words) != 1:
-        sys.exit("usage: gate.py [--scene] FILE")
     try:
-        check(scenes.read_file(words[0]))
+        run(sys.argv[1:])
     except No as no:
         print(no)
         sys.exit(1)
-    except OSError as fault:
+    except (scenes.Fault, OSError) as fault:
         sys.exit("gate.py: %s" % fault)
     print("accepted")
 

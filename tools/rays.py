@@ -1,15 +1,22 @@
 #!/usr/bin/env python3
 """A survey computed ray by ray in exact whole numbers: slow, without a tree, without the library.
 
-    rays.py IN.view [PICTURE.u16]
+    rays.py [--axes RX RY RZ FX FY FZ UX UY UZ] IN.view [PICTURE.u16]
 
 Reads a view and a scene as `ringbill` does, prints the bill as `ringbill` does (or `refused N`),
-and writes the picture, if asked, as raw little-endian u16, row after row from the top. Example:
+and writes the picture, if asked, as raw little-endian u16, row after row from the top. --axes
+turns the camera: its vectors right, forward and up; without it the view is level, (1,0,0),
+(0,1,0), (0,0,1). Examples:
 
     $ scene.py build samples/s.txt - | rays.py -
     view 4 4 4
     5 4
     nothing 12
+    total 16
+    $ scene.py build samples/s.txt - | rays.py --axes 1 0 0 1 1 0 0 0 1 -
+    view 4 4 4
+    5 2
+    nothing 14
     total 16
 """
 
@@ -60,26 +67,37 @@ def closest_panel(ray, patches):
     return 0 if best is None else best[1]
 
 
-def ray_of(window, column, row):
+def ray_of(window, axes, column, row):
+    """A cell's direction: "(2i + 1 − width) times right plus lens times forward plus
+    (height − 1 − 2j) times up".
+    """
     width, height, lens = window
-    return (2 * column + 1 - width, lens, height - 1 - 2 * row)
+    times = (2 * column + 1 - width, lens, height - 1 - 2 * row)
+    return tuple(dot(times, parts) for parts in zip(*axes))
 
 
-def row_plane(window, row):
-    """A normal of the plane that holds all rays of a row."""
-    return cross((1, 0, 0), ray_of(window, 0, row))
+def row_plane(window, axes, row):
+    """A normal of the plane that holds all rays of a row: they differ by multiples of right."""
+    return cross(axes[0], ray_of(window, axes, 0, row))
 
 
-def survey(view, scene):
+def survey(view, scene, axes=scenes.LEVEL):
     """The rows of the picture of an accepted view and scene, lists of panel numbers."""
     eye, window = view[:3], view[3:]
     patches = [Seen(eye, patch.panel, scene.corners_of(patch)) for patch in scene.patches]
     rows = []
     for row in range(window[1]):
-        near = [patch for patch in patches if patch.may_meet(row_plane(window, row))]
-        rows.append([closest_panel(ray_of(window, column, row), near)
+        plane = row_plane(window, axes, row)
+        near = [patch for patch in patches if patch.may_meet(plane)]
+        rows.append([closest_panel(ray_of(window, axes, column, row), near)
                      for column in range(window[0])])
     return rows
+
+
+def survey_input(data, axes):
+    """(view, rows) of an input of `ringbill`, if all questions asked here say yes; else No."""
+    view, scene = gate.check_input(data, axes)
+    return view, survey(view, scene, axes)
 
 
 def bill(view, rows):
@@ -95,20 +113,23 @@ def pack_picture(rows):
     return struct.pack("<%dH" % len(cells), *cells)
 
 
+def run(words):
+    axes = scenes.take_axes(words)
+    if len(words) not in (1, 2):
+        sys.exit("usage: rays.py %s IN.view [PICTURE.u16]" % scenes.AXES)
+    view, rows = survey_input(scenes.read_file(words[0]), axes)
+    if len(words) == 2:
+        scenes.write_file(words[1], pack_picture(rows))
+    print("\n".join(bill(view, rows)))
+
+
 def main():
-    if len(sys.argv) not in (2, 3):
-        sys.exit("usage: rays.py IN.view [PICTURE.u16]")
     try:
-        view, scene = gate.check_input(scenes.read_file(sys.argv[1]))
-        rows = survey(view, scene)
-        if len(sys.argv) == 3:
-            scenes.write_file(sys.argv[2], pack_picture(rows))
+        run(sys.argv[1:])
     except gate.No as no:
         print("refused %d" % no.question)
-        return
-    except OSError as fault:
+    except (scenes.Fault, OSError) as fault:
         sys.exit("rays.py: %s" % fault)
-    print("\n".join(bill(view, rows)))
 
 
 if __name__ == "__main__":

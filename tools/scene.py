@@ -58,6 +58,8 @@ PATCH = struct.Struct("<3H")
 CORNER = struct.Struct("<3h")
 VIEW = struct.Struct("<3h3H")
 NONE = 65535
+LEVEL = ((1, 0, 0), (0, 1, 0), (0, 0, 1))
+AXES = "[--axes RX RY RZ FX FY FZ UX UY UZ]"
 SECTIONS = ("nodes", "patches", "corners")
 RECORDS = (NODE.size, PATCH.size, CORNER.size)
 
@@ -195,6 +197,10 @@ def number(word, low, high):
     return value
 
 
+def i16(word):
+    return number(word, -32768, 32767)
+
+
 def u16(word):
     return number(word, 0, 65535)
 
@@ -207,7 +213,7 @@ def point(word):
     parts = word.split(",")
     if len(parts) != 3:
         raise Fault("%r is not a point of three numbers" % word)
-    return tuple(number(p, -32768, 32767) for p in parts)
+    return tuple(i16(p) for p in parts)
 
 
 def take(words, count, what):
@@ -436,6 +442,17 @@ def write_file(name, data):
         return
     with open(name, "wb") as file:
         file.write(data)
+
+
+def take_axes(words):
+    """Take the option AXES out of a command's words: right, forward, up; level where not given."""
+    if "--axes" not in words:
+        return LEVEL
+    at = words.index("--axes")
+    rest = words[at + 1:]
+    parts = [i16(word) for word in take(rest, 9, "numbers after --axes")]
+    words[at:] = rest
+    return tuple(parts[0:3]), tuple(parts[3:6]), tuple(parts[6:9])
 
 
 def arguments(words):

@@ -19,15 +19,19 @@ pub fn same(library: &dyn Library, call: &Call, name: &str) {
     }
 }
 
-/// Each peer against the model on random scenes, whole and damaged.
+/// Each peer against the model on random scenes, whole and damaged, from level
+/// and turned views.
 pub fn random(cases: u64) {
-    let mut noise = Random::new(1, 1);
+    let (mut noise, mut tally) = (Random::new(1, 1), Tally::default());
     for number in 0..cases {
         let case = case(1, number, SMALL);
         for peer in &PEERS {
-            let differences = put(peer, &case, &mut noise, &mut Tally::default());
+            let differences = put(peer, &case, &mut noise, &mut tally);
             let what = format!("{} in case {number}", peer.name);
             assert!(differences.is_empty(), "{what}: {differences:?}");
         }
     }
+    // A peer that only knows the level view would pass without them.
+    let seen = tally.turned.lit > 0 && tally.answers.contains_key(&14);
+    assert!(cases < 100 || seen, "turned views are among the cases");
 }

@@ -1,8 +1,10 @@
-//! The calls that are timed: scenes, and curves over patches, cells and nodes.
+//! The calls that are timed: scenes, curves over patches, cells and nodes, and
+//! scenes again under a turned camera.
 
 use crate::plant::{Level, Maker};
 use crate::scenes;
 use outside::call::Call;
+use outside::scene::Scene;
 
 /// A call to time; with `gate` its gate alone.
 pub struct Job {
@@ -53,5 +55,21 @@ pub fn jobs() -> Vec<Job> {
         call: scenes::call(&Maker::chain(&scenes::quads(count)), wide),
         gate: true,
     }));
+    jobs.extend(turned(&tunnel));
     jobs
+}
+
+/// Rolled, so that the edges that lay along the rows no longer do.
+fn turned(tunnel: &Scene) -> [Job; 2] {
+    let quads = Maker::balanced(&scenes::quads(1_024));
+    [
+        job(
+            "tunnel of 960 panels, camera rolled and pitched",
+            scenes::call(tunnel, scenes::turned(scenes::ROLLED_AND_PITCHED)),
+        ),
+        job(
+            "1,024 large quads, camera rolled",
+            scenes::call(&quads, scenes::turned(scenes::ROLLED)),
+        ),
+    ]
 }

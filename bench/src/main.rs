@@ -6,6 +6,7 @@ mod clock;
 mod jobs;
 #[path = "../../tests/outside/src/library.rs"]
 mod library;
+mod memory;
 mod options;
 mod peers;
 mod plant;
@@ -30,6 +31,7 @@ fn growth(before: Option<&Line>, line: &Line) -> Option<f64> {
 
 fn main() {
     let options = options::options();
+    memory::keep();
     check::random(options.cases);
     let mut text = table::introduction(&options.commit, options.rounds);
     print!("{text}");

@@ -1,6 +1,7 @@
 //! The scenes that are timed.
 
 use crate::plant::{Level, Maker};
+use outside::axes::{Axes, LEVEL};
 use outside::call::{Call, View};
 use outside::random::Random;
 use outside::scene::{Patch, Scene};
@@ -8,10 +9,31 @@ use outside::vector::Point;
 
 pub const WIDE: View = View {
     eye: [0, 0, 0],
+    axes: LEVEL,
     width: 256,
     height: 128,
     lens: 256,
 };
+
+/// A roll by 37°. As in the next, the vectors are of one length and square to
+/// each other, so that the look is as wide as the level one.
+pub const ROLLED: Axes = Axes {
+    right: [4, 0, -3],
+    forward: [0, 5, 0],
+    up: [3, 0, 4],
+};
+
+/// A roll and a pitch upward by 18° each.
+pub const ROLLED_AND_PITCHED: Axes = Axes {
+    right: [18, 1, -6],
+    forward: [1, 18, 6],
+    up: [6, -6, 17],
+};
+
+/// The same window of a turned camera.
+pub fn turned(axes: Axes) -> View {
+    View { axes, ..WIDE }
+}
 
 /// The same look through fewer cells.
 pub fn window(width: u16) -> View {

@@ -1,8 +1,8 @@
-//! Questions 1 to 12, each to the whole scene before the next.
+//! Questions 1 to 12 and 14, each to the whole scene before the next.
 
 use super::boxes::planes_divide;
-use super::plane::{dot, Plane};
-use super::tables::{is_node, point_fits, wide, Node, Patch, Tables};
+use super::plane::{cross, dot, Plane};
+use super::tables::{is_node, point_fits, wide, within, Node, Patch, Tables};
 use outside::call::{Call, COUNTS, ROW};
 use outside::gate::{sections_follow, size_and_version};
 
@@ -21,6 +21,7 @@ pub fn judge(call: &Call) -> Result<Tables, u32> {
     yes(patches.all(|p| convex(tables.corners_of(p))), 8)?;
     yes(planes_divide(&tables), 9)?;
     yes(view_fits(call), 10)?;
+    yes(axes_proper(call), 14)?;
     yes(lengths_fit(call), 11)?;
     yes(call.counter < u32::MAX, 12)?;
     Ok(tables)
@@ -117,6 +118,12 @@ fn view_fits(call: &Call) -> bool {
         && (1..=256).contains(&view.width)
         && (1..=128).contains(&view.height)
         && (1..=4_096).contains(&view.lens)
+}
+
+fn axes_proper(call: &Call) -> bool {
+    let axes = call.view.axes.vectors();
+    let [right, forward, up] = axes.map(wide);
+    axes.iter().all(|axis| within(axis, 100)) && dot(right, cross(forward, up)) > 0
 }
 
 fn lengths_fit(call: &Call) -> bool {

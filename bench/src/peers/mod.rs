@@ -1,6 +1,7 @@
 //! The peers: the whole call four times over, with one gate.
 
 mod boxes;
+mod camera;
 mod finish;
 mod gate;
 mod order;

@@ -44,8 +44,8 @@ impl Row {
                 continue;
             }
             let edges = shapes.edges(shape).iter().map(|edge| RowEdge {
-                slope: edge.slope,
-                start: edge.start + j as f64 * edge.step,
+                slope: edge.ramp.slope,
+                start: edge.ramp.at_row(j),
             });
             self.edges.extend(edges);
             self.patches.push((shape.panel, self.edges.len() as u32));

@@ -1,20 +1,25 @@
 //! The rows that a patch can reach, from its corners' projections: never too few.
 
-use super::plane::Vector;
+use super::camera::{Camera, Floats};
+use super::plane::dot;
 
-/// The least and the greatest of z / y over the points of a convex polygon with
-/// y above 0; None where it has none. Corners are given from the eye.
-fn slopes(corners: &[Vector]) -> Option<(f64, f64)> {
+/// A point's parts ahead of the camera and above its middle.
+type Seen = [f64; 2];
+
+/// The least and the greatest of above / ahead over the points of a convex
+/// polygon that are ahead; None where it has none. Corners are given from the eye.
+fn slopes(corners: &[Floats], camera: &Camera) -> Option<(f64, f64)> {
+    let seen = |&corner: &Floats| [dot(corner, camera.ahead), dot(corner, camera.above)];
     let (mut least, mut most) = (f64::INFINITY, f64::NEG_INFINITY);
-    let mut before = corners[corners.len() - 1];
-    for &corner in corners {
-        let [_, y, z] = corner;
-        if y > 0 {
-            let slope = z as f64 / y as f64;
-            least = least.min(slope);
-            most = most.max(slope);
+    let mut before = seen(&corners[corners.len() - 1]);
+    for corner in corners.iter().map(seen) {
+        let [ahead, above] = corner;
+        if ahead > 0.0 {
+            let slope = above / ahead;
+            least = if slope < least { slope } else { least };
+            most = if slope > most { slope } else { most };
         }
-        if (y > 0) != (before[1] > 0) {
+        if (ahead > 0.0) != (before[0] > 0.0) {
             match crossing(before, corner) {
                 1.. => most = f64::INFINITY,
                 0 => {}
@@ -26,19 +31,22 @@ fn slopes(corners: &[Vector]) -> Option<(f64, f64)> {
     (least <= most).then_some((least, most))
 }
 
-/// The sign of z where an edge comes to y = 0. At z = 0 the slope is the same
-/// along the whole edge.
-fn crossing(p: Vector, q: Vector) -> i64 {
-    let (front, back) = if p[1] > 0 { (p, q) } else { (q, p) };
-    back[2] * front[1] - front[2] * back[1]
+/// The sign of above where an edge comes to ahead = 0. At above = 0 the slope is
+/// the same along the whole edge. The parts stay below 2^31, so that their products
+/// need all of i64.
+fn crossing(p: Seen, q: Seen) -> i64 {
+    let [p, q] = [p, q].map(|seen| seen.map(|n| n as i64));
+    let (front, back) = if p[0] > 0 { (p, q) } else { (q, p) };
+    back[1] * front[0] - front[1] * back[0]
 }
 
 /// The rows from the first number up to below the second.
-pub fn rows(corners: &[Vector], height: u16, lens: u16) -> Option<(i64, i64)> {
-    let (least, most) = slopes(corners)?;
-    let (top, lens) = (f64::from(height) - 1.0, f64::from(lens));
-    let within = |row: f64| row.clamp(0.0, f64::from(height)) as i64;
-    // Row j looks along z / y = (top - 2j) / lens; 1/64 covers the rounding.
+pub fn rows(corners: &[Floats], camera: &Camera) -> Option<(i64, i64)> {
+    let (least, most) = slopes(corners, camera)?;
+    let [height, lens] = [camera.view.height, camera.view.lens].map(f64::from);
+    let top = height - 1.0;
+    let within = |row: f64| row.clamp(0.0, height) as i64;
+    // Row j looks along above / ahead = (top - 2j) / lens; 1/64 covers the rounding.
     let low = within((top - lens * most) / 2.0 - 1.0 / 64.0);
     let high = within((top - lens * least) / 2.0 + 1.0 + 1.0 / 64.0);
     (low < high).then_some((low, high))

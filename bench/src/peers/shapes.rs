@@ -1,19 +1,26 @@
 //! Patches ready for scan conversion: oriented edges, rows, and a row's span.
 
-use super::plane::{cross, dot, minus, Plane, Vector};
+use super::camera::{Camera, Floats, Ramp};
+use super::plane::{cross, dot};
 use super::reach;
-use super::tables::{wide, Tables};
+use super::tables::Tables;
 use outside::call::View;
 
-/// A direction is inside an edge where slope × column + start + step × row is
-/// above 0. All are whole numbers below 2^43, so f64 holds them.
+/// A direction is inside an edge where the cell's number is above 0.
 #[derive(Clone, Copy, Default)]
 pub struct Edge {
-    pub slope: f64,
-    pub start: f64,
-    pub step: f64,
-    /// 1 / |slope|, or 0.
+    pub ramp: Ramp,
+    /// 1 / |slope|.
     inverse: f64,
+}
+
+impl Edge {
+    fn of(ramp: Ramp) -> Edge {
+        Edge {
+            ramp,
+            inverse: 1.0 / ramp.slope.abs(),
+        }
+    }
 }
 
 pub struct Shape {
@@ -33,12 +40,12 @@ pub struct Shapes {
     /// The patch of each shape.
     pub patches: Vec<u16>,
     edges: Vec<Edge>,
-    view: View,
+    pub camera: Camera,
 }
 
-/// Below the least distance, 2^-31, of a quotient from a whole number that it
-/// is not, and above the rounding of a quotient up to 256.
-const TINY: f64 = 1.0 / (1u64 << 33) as f64;
+/// Below the least distance, 2^-39, of a quotient from a whole number that it
+/// is not, and above the rounding of a quotient up to 256, 2^-43.
+const TINY: f64 = 1.0 / (1u64 << 41) as f64;
 
 impl Shapes {
     pub fn of(tables: &Tables, view: &View, order: impl Iterator<Item = u16>) -> Shapes {
@@ -46,7 +53,7 @@ impl Shapes {
             shapes: Vec::with_capacity(tables.patches.len()),
             patches: Vec::with_capacity(tables.patches.len()),
             edges: Vec::with_capacity(tables.corners.len()),
-            view: *view,
+            camera: Camera::of(view),
         };
         for k in order {
             all.add(tables, k);
@@ -56,21 +63,21 @@ impl Shapes {
 
     fn add(&mut self, tables: &Tables, k: u16) {
         let patch = &tables.patches[usize::from(k)];
-        let eye = wide(self.view.eye);
-        let mut corners = [[0; 3]; 8];
+        let mut corners = [[0.0; 3]; 8];
         let corners = &mut corners[..usize::from(patch.count)];
         for (place, &corner) in corners.iter_mut().zip(tables.corners_of(patch)) {
-            *place = minus(wide(corner), eye);
+            *place = self.camera.from_eye(corner);
         }
-        let Some(rows) = reach::rows(corners, self.view.height, self.view.lens) else {
+        let Some(rows) = reach::rows(corners, &self.camera) else {
             return;
         };
-        // The eye is the origin here.
-        let sign = Plane::through(corners[0], corners[1], corners[2])
-            .level
-            .signum();
+        // The side number of the eye, which is the origin here.
+        let side = dot(corners[0], cross(corners[1], corners[2]));
+        if side == 0.0 {
+            return;
+        }
         let first = self.edges.len();
-        let Some((rows, lefts)) = self.add_edges(corners, sign, rows) else {
+        let Some((rows, lefts)) = self.add_edges(corners, side < 0.0, rows) else {
             self.edges.truncate(first);
             return;
         };
@@ -85,32 +92,38 @@ impl Shapes {
         });
     }
 
-    /// Adds the edges; gives the rows that those without a slope leave, and the
-    /// number of left edges. None where nothing is left.
+    /// Adds the edges, or their opposites; gives the rows that those without a
+    /// slope leave, and the number of left edges. None where nothing is left.
     fn add_edges(
         &mut self,
-        corners: &[Vector],
-        sign: i64,
+        corners: &[Floats],
+        opposite: bool,
         mut rows: (i64, i64),
     ) -> Option<((i64, i64), usize)> {
-        let mut rights = [Edge::default(); 8];
-        let (mut left, mut right) = (0, 0);
-        for k in 0..corners.len() {
+        let mut edges = [Edge::default(); 8];
+        let edges = &mut edges[..corners.len()];
+        for (k, edge) in edges.iter_mut().enumerate() {
             let next = if k + 1 < corners.len() { k + 1 } else { 0 };
-            let normal = cross(corners[k], corners[next]).map(|n| sign * n);
-            let edge = edge(normal, &self.view);
-            if normal[0] > 0 {
-                self.edges.push(edge);
-                left += 1;
-            } else if normal[0] < 0 {
-                rights[right] = edge;
-                right += 1;
-            } else {
-                rows = level_rows(&edge, rows);
+            let normal = cross(corners[k], corners[next]);
+            *edge = Edge::of(self.camera.ramp(normal, opposite));
+        }
+        // All are worked out before the first is looked at, so that a wrong guess
+        // of its side is soon found out.
+        let first = self.edges.len();
+        for edge in edges.iter() {
+            if edge.ramp.slope > 0.0 {
+                self.edges.push(*edge);
             }
         }
-        self.edges.extend_from_slice(&rights[..right]);
-        (sign != 0 && rows.0 < rows.1).then_some((rows, left))
+        let left = self.edges.len() - first;
+        for edge in edges.iter() {
+            if edge.ramp.slope < 0.0 {
+                self.edges.push(*edge);
+            } else if edge.ramp.slope == 0.0 {
+                rows = level_rows(edge, rows);
+            }
+        }
+        (rows.0 < rows.1).then_some((rows, left))
     }
 
     pub fn edges(&self, shape: &Shape) -> &[Edge] {
@@ -121,16 +134,15 @@ impl Shapes {
     /// above first where there are none.
     #[inline]
     pub fn span(&self, shape: &Shape, row: usize) -> (usize, usize) {
-        let row = row as f64;
-        let width = f64::from(self.view.width);
+        let width = f64::from(self.camera.view.width);
         let (lefts, rights) = self.edges(shape).split_at(usize::from(shape.lefts));
         let (mut low, mut high) = (-1.0, width);
         for edge in lefts {
-            let bound = -(edge.start + row * edge.step) * edge.inverse;
+            let bound = -edge.ramp.at_row(row) * edge.inverse;
             low = if bound > low { bound } else { low };
         }
         for edge in rights {
-            let bound = (edge.start + row * edge.step) * edge.inverse;
+            let bound = edge.ramp.at_row(row) * edge.inverse;
             high = if bound < high { bound } else { high };
         }
         low = if low < width { low } else { width };
@@ -141,20 +153,9 @@ impl Shapes {
     }
 }
 
-fn edge(normal: Vector, view: &View) -> Edge {
-    let [width, height, lens] = [view.width, view.height, view.lens].map(i64::from);
-    let slope = (2 * normal[0]) as f64;
-    Edge {
-        slope,
-        start: dot(normal, [1 - width, lens, height - 1]) as f64,
-        step: (-2 * normal[2]) as f64,
-        inverse: if slope == 0.0 { 0.0 } else { 1.0 / slope.abs() },
-    }
-}
-
 /// The rows where start + step × row is above 0.
 fn level_rows(edge: &Edge, (low, high): (i64, i64)) -> (i64, i64) {
-    let (start, step) = (edge.start as i64, edge.step as i64);
+    let (start, step) = (edge.ramp.start as i64, edge.ramp.step as i64);
     match step {
         1.. => (low.max((-start).div_euclid(step) + 1), high),
         0 if start > 0 => (low, high),

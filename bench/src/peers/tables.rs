@@ -31,8 +31,12 @@ pub fn wide(p: [i16; 3]) -> Vector {
 }
 
 pub fn point_fits(p: &[i16; 3]) -> bool {
+    within(p, 10_000)
+}
+
+pub fn within(p: &[i16; 3], most: u16) -> bool {
     p.iter()
-        .fold(true, |all, n| all & (n.unsigned_abs() <= 10_000))
+        .fold(true, |all, n| all & (n.unsigned_abs() <= most))
 }
 
 impl Tables {

@@ -1,11 +1,12 @@
 //! Scan conversion in stored order with a depth for each cell. Depths are
 //! compared in f64, and exactly where f64 cannot tell.
 
+use super::camera::{Camera, Ramp};
 use super::finish::count_and_list;
-use super::plane::{dot, minus, Plane, Vector};
+use super::plane::{minus, Plane};
 use super::shapes::{Shape, Shapes};
 use super::tables::{wide, Tables};
-use outside::call::{Call, Lent, View};
+use outside::call::{Call, Lent};
 use std::ops::Range;
 
 /// Twice the rounding of a nearness, and more.
@@ -13,16 +14,17 @@ const DOUBT: f64 = 1.0 / (1u64 << 49) as f64;
 
 /// The nearness of a cell, 1 / distance, is direction · normal / over.
 struct Depth {
-    normal: Vector,
-    over: i64,
+    /// Direction · normal.
+    ramp: Ramp,
+    over: f64,
     /// 1 / over.
     inverse: f64,
     panel: u16,
 }
 
 /// Each cell's greatest nearness, 0 for none, and the depth that it is from.
-struct Buffer<'a> {
-    view: &'a View,
+struct Buffer {
+    width: usize,
     depths: Vec<Depth>,
     near: Vec<f64>,
     from: Vec<u16>,
@@ -32,9 +34,12 @@ pub fn paint(tables: &Tables, call: &Call, lent: &mut Lent) {
     let view = &call.view;
     let stored = 0..tables.patches.len() as u16;
     let shapes = Shapes::of(tables, view, stored);
-    let depths = shapes.patches.iter().map(|&k| depth(tables, view, k));
+    let depths = shapes
+        .patches
+        .iter()
+        .map(|&k| depth(tables, &shapes.camera, k));
     let mut buffer = Buffer {
-        view,
+        width: usize::from(view.width),
         depths: depths.collect(),
         near: vec![0.0; view.cells()],
         from: vec![0; view.cells()],
@@ -55,20 +60,22 @@ pub fn paint(tables: &Tables, call: &Call, lent: &mut Lent) {
     count_and_list(view, lent);
 }
 
-fn depth(tables: &Tables, view: &View, k: u16) -> Depth {
+fn depth(tables: &Tables, camera: &Camera, k: u16) -> Depth {
     let patch = &tables.patches[usize::from(k)];
     let corners = tables.corners_of(patch);
-    let [a, b, c] = [0, 1, 2].map(|n| minus(wide(corners[n]), wide(view.eye)));
+    let eye = wide(camera.view.eye);
+    let [a, b, c] = [0, 1, 2].map(|n| minus(wide(corners[n]), eye));
     let plane = Plane::through(a, b, c);
+    let over = plane.level.abs() as f64;
     Depth {
-        normal: plane.normal.map(|n| plane.level.signum() * n),
-        over: plane.level.abs(),
-        inverse: 1.0 / plane.level.abs() as f64,
+        ramp: camera.ramp(plane.normal.map(|n| n as f64), plane.level < 0),
+        over,
+        inverse: 1.0 / over,
         panel: patch.panel,
     }
 }
 
-impl Buffer<'_> {
+impl Buffer {
     fn convert(&mut self, shapes: &Shapes, k: usize, shape: &Shape) {
         for row in usize::from(shape.low)..usize::from(shape.high) {
             let (first, end) = shapes.span(shape, row);
@@ -80,11 +87,10 @@ impl Buffer<'_> {
 
     fn convert_row(&mut self, k: usize, row: usize, span: Range<usize>) {
         let depth = &self.depths[k];
-        let start = dot(depth.normal, direction(self.view, 0, row)) as f64;
-        let slope = (2 * depth.normal[0]) as f64;
-        let width = usize::from(self.view.width);
-        let best = &mut self.near[row * width..][span.clone()];
-        let from = &mut self.from[row * width..][span.clone()];
+        let start = depth.ramp.at_row(row);
+        let slope = depth.ramp.slope;
+        let best = &mut self.near[row * self.width..][span.clone()];
+        let from = &mut self.from[row * self.width..][span.clone()];
         for (i, (best, from)) in span.zip(best.iter_mut().zip(from)) {
             let near = (start + slope * i as f64) * depth.inverse;
             if near <= *best * (1.0 - DOUBT) {
@@ -92,7 +98,7 @@ impl Buffer<'_> {
             }
             let old = &self.depths[usize::from(*from)];
             let level = near <= *best * (1.0 + DOUBT);
-            if !level || wins(depth, old, direction(self.view, i, row)) {
+            if !level || wins(depth, old, i, row) {
                 *best = near;
                 *from = k as u16;
             }
@@ -100,15 +106,10 @@ impl Buffer<'_> {
     }
 }
 
-/// The exact comparison of two depths along one direction.
+/// The exact comparison of two depths in one cell.
 #[cold]
-fn wins(new: &Depth, old: &Depth, along: Vector) -> bool {
-    let scaled = |n: &Depth, over: i64| i128::from(dot(n.normal, along)) * i128::from(over);
+fn wins(new: &Depth, old: &Depth, column: usize, row: usize) -> bool {
+    let scaled = |n: &Depth, over: f64| n.ramp.at(column, row) as i128 * over as i128;
     let (a, b) = (scaled(new, old.over), scaled(old, new.over));
     a > b || (a == b && new.panel < old.panel)
-}
-
-fn direction(view: &View, i: usize, j: usize) -> Vector {
-    let [width, height, lens] = [view.width, view.height, view.lens].map(i64::from);
-    [2 * i as i64 + 1 - width, lens, height - 1 - 2 * j as i64]
 }

@@ -1,2 +1,3 @@
 -- Questions on the call, answered test by test.
 mod CallTests
+mod Axes

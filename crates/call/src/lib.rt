@@ -1,14 +1,19 @@
-// The questions on the call: 10, 11 and 12.
+// The questions on the call: 10, 14, 11 and 12.
+use camera::Axes;
+use camera::Camera;
 use coordinates::point_in_range;
 use geometry::Vector;
+use geometry::cross_product;
+use geometry::dot_product;
+use geometry::parts_up_to;
 ghost use mathlib.Core.Path.{_≡_};
 ghost use mathlib.Core.Bool.{_&&_};
 ghost use Prim.Native.Nat.{_*_};
 ghost use lib.Dec.{eqb, ltb};
 ghost use Rattle.model.specs.Row.{rowLength};
 ghost use Rattle.model.specs.Picture.{countEntries};
-ghost use Rattle.model.specs.Questions.{within, pointInRange};
-ghost use Rattle.geometry.specs.Machine.{vecOf};
+ghost use Rattle.model.specs.Questions.{within, viewInRange, axesProper};
+ghost use Rattle.camera.specs.Machine.{axesOf, viewOf};
 
 fn between(low: u16, n: u16, high: u16) -> bool
     ensures { λ r. ⌜ r ≡ within low high n ⌝ }
@@ -20,19 +25,35 @@ fn between(low: u16, n: u16, high: u16) -> bool
 }
 
 // question 10
-pub fn view_in_range(eye: Vector, width: u16, height: u16, lens: u16) -> bool
-    ensures { λ r. ⌜ r ≡ (pointInRange (vecOf eye) && within 1 256 width && within 1 128 height && within 1 4096 lens) ⌝ }
+pub fn view_in_range(eye: Vector, camera: Camera) -> bool
+    ensures { λ r. ⌜ r ≡ viewInRange (viewOf eye camera) ⌝ }
 {
     if !point_in_range(eye) {
         return false;
     }
-    if !between(1, width, 256) {
+    if !between(1, camera.width, 256) {
         return false;
     }
-    if !between(1, height, 128) {
+    if !between(1, camera.height, 128) {
         return false;
     }
-    between(1, lens, 4096)
+    between(1, camera.lens, 4096)
+}
+
+// Question 14. The range is asked first, so that the product is of small numbers.
+pub fn axes_proper(axes: Axes) -> bool
+    ensures { λ r. ⌜ r ≡ axesProper (axesOf axes) ⌝ }
+{
+    if !parts_up_to(100, axes.right) {
+        return false;
+    }
+    if !parts_up_to(100, axes.forward) {
+        return false;
+    }
+    if !parts_up_to(100, axes.up) {
+        return false;
+    }
+    0 < dot_product(axes.right, cross_product(axes.forward, axes.up))
 }
 
 pub fn area(width: u16, height: u16) -> usize

@@ -1,29 +1,21 @@
 -- The nodes of a checked scene.
-use mathlib.Core.Path.{_≡_, refl, sym, ap, ap₂, subst, _∙_}
+use mathlib.Core.Path.{_≡_, sym, ap, ap₂, subst, _∙_}
 use mathlib.Core.List.{List}
 use Prim.Native.Nat.{ℕ, _+_, _≤_, _<_}
 use native.Mathlib.Omega.{arith}
-use lib.Dec.{T}
 use lib.ListN.{length}
 use Rattle.model.specs.Tree.{leaf, node}
 use Rattle.model.specs.Format.{NodeRecord, Scene, decode, noChild}
-use Rattle.model.specs.Questions.{pointInRange}
-use Rattle.geometry.specs.Machine.{vecOf, Bounded}
-use Rattle.geometry.specs.declared.Vector.{Vector}
 use Rattle.format.specs.Machine.{nodeOf}
 use Rattle.format.specs.Layout.{nodeNumber}
 use Rattle.format.specs.Bounds.{PlaneWithin}
 use Rattle.format.proofs.Decoded.{node-count, node-at}
-use Rattle.format.proofs.InRange.{point-within, node-within, bounded}
+use Rattle.format.proofs.InRange.{node-within, bounded}
 use Rattle.format.specs.declared.records.Node.{Node}
 use Rattle.format.specs.declared.layout.Layout.{Layout}
 use Rattle.checked.specs.Checked.{Checked, treeBelow, NodeIs}
 use Rattle.checked.proofs.Rooted.{nodeNumbered, Rooted, rooted}
 use Rattle.checked.proofs.Subtrees.{run, joined, treeAt-is, tree-leaf, subtree-node}
-
--- a point in range is bounded
-pub point-bounded : (v : Vector) → T (pointInRange (vecOf v)) → Bounded 10000 v
-point-bounded v t = bounded refl (point-within (vecOf v) t)
 
 -- what the questions say of node k, whose record is n
 record Known (bytes : List ℕ) (l : Layout) (k : ℕ) (n : NodeRecord) : Type 0 where

@@ -1,7 +1,7 @@
 // Two scenes seen in one view: what taking panels away changes (demand 3).
 use survey::ring_survey;
 ghost use Rattle.model.specs.Vector.{vec};
-ghost use Rattle.contract.specs.Contract.{cameraOf, viewFrom, lentOf};
+ghost use Rattle.contract.specs.Contract.{axesBy, cameraBy, viewFrom, lentOf};
 ghost use Rattle.demands.specs.Demands.{PairSurveyed};
 
 // the results of the two calls
@@ -16,6 +16,15 @@ pub fn survey_pair(
     eye_x: i16,
     eye_y: i16,
     eye_z: i16,
+    right_x: i16,
+    right_y: i16,
+    right_z: i16,
+    forward_x: i16,
+    forward_y: i16,
+    forward_z: i16,
+    up_x: i16,
+    up_y: i16,
+    up_z: i16,
     width: u16,
     height: u16,
     lens: u16,
@@ -28,7 +37,8 @@ pub fn survey_pair(
     unlit2: &mut [u16],
     counter2: &mut u32,
 ) -> Results
-    ensures { λ r. ⌜ PairSurveyed (now (first .entry)) (now (second .entry)) (viewFrom (vec «eye_x» «eye_y» «eye_z») (cameraOf width height lens))
+    ensures { λ r. ⌜ PairSurveyed (now (first .entry)) (now (second .entry)) (viewFrom (vec «eye_x» «eye_y» «eye_z»)
+        (cameraBy (axesBy (vec «right_x» «right_y» «right_z») (vec «forward_x» «forward_y» «forward_z») (vec «up_x» «up_y» «up_z»)) width height lens))
         (lentOf (now (picture1 .entry)) (now (counts1 .entry)) (now (unlit1 .entry)) (now (counter1 .entry)))
         (lentOf (now (picture1 .exit)) (now (counts1 .exit)) (now (unlit1 .exit)) (now (counter1 .exit)))
         (lentOf (now (picture2 .entry)) (now (counts2 .entry)) (now (unlit2 .entry)) (now (counter2 .entry)))
@@ -40,6 +50,15 @@ pub fn survey_pair(
         eye_x,
         eye_y,
         eye_z,
+        right_x,
+        right_y,
+        right_z,
+        forward_x,
+        forward_y,
+        forward_z,
+        up_x,
+        up_y,
+        up_z,
         width,
         height,
         lens,
@@ -53,6 +72,15 @@ pub fn survey_pair(
         eye_x,
         eye_y,
         eye_z,
+        right_x,
+        right_y,
+        right_z,
+        forward_x,
+        forward_y,
+        forward_z,
+        up_x,
+        up_y,
+        up_z,
         width,
         height,
         lens,

@@ -1,2 +1,3 @@
--- What the contract says of a refusal.
+-- What the contract says of a refusal, and of the same view.
 pub mod Refusal
+pub mod SameView

@@ -3,15 +3,19 @@ use mathlib.Core.Path.{_≡_}
 use mathlib.Core.List.{List}
 use Prim.Native.Nat.{ℕ, zero, suc}
 use Rattle.model.specs.Vector.{Vec}
-use Rattle.model.specs.View.{Camera, View}
+use Rattle.model.specs.View.{Axes, Camera, View}
 use Rattle.model.specs.Lent.{Lent, Lengths, lengthsOf}
 use Rattle.model.specs.Call.{Call}
 use Rattle.model.specs.Questions.{surveyAnswer}
 use Rattle.model.specs.Survey.{callPicture, callCounts, callUnlit, callCounter}
 
--- a camera by its window's three numbers
-abbrev pub cameraOf : ℕ → ℕ → ℕ → Camera
-cameraOf w h l = record { window = record { width = w; height = h; lens = l } }
+-- axes by their three vectors
+abbrev pub axesBy : Vec → Vec → Vec → Axes
+axesBy r f u = record { right = r; forward = f; up = u }
+
+-- a camera by its axes and its window's three numbers
+abbrev pub cameraBy : Axes → ℕ → ℕ → ℕ → Camera
+cameraBy a w h l = record { axes = a; window = record { width = w; height = h; lens = l } }
 
 -- the view of a camera from an eye
 abbrev pub viewFrom : Vec → Camera → View

@@ -4,33 +4,19 @@ use format::layout::corner;
 use format::layout::node;
 use format::records::Node;
 use geometry::Vector;
+use geometry::parts_up_to;
 ghost use mathlib.Core.Path.{_≡_};
 ghost use Rattle.geometry.specs.Machine.{vecOf};
 ghost use Rattle.format.specs.Machine.{nodeOf};
 ghost use Rattle.format.specs.Layout.{LaidOut};
 ghost use Rattle.model.specs.Format.{decode};
-ghost use Rattle.model.specs.Questions.{inRange, pointInRange, planeInRange, coordinatesInRange};
+ghost use Rattle.model.specs.Questions.{pointInRange, planeInRange, coordinatesInRange};
 ghost use Rattle.coordinates.specs.Tests.{nodesInRange, cornersInRange};
-
-fn in_range(z: i64) -> bool
-    ensures { λ r. ⌜ r ≡ inRange z ⌝ }
-{
-    if z < -10000 {
-        return false;
-    }
-    z <= 10000
-}
 
 pub fn point_in_range(v: Vector) -> bool
     ensures { λ r. ⌜ r ≡ pointInRange (vecOf v) ⌝ }
 {
-    if !in_range(v.x) {
-        return false;
-    }
-    if !in_range(v.y) {
-        return false;
-    }
-    in_range(v.z)
+    parts_up_to(10000, v)
 }
 
 fn plane_in_range(n: Node) -> bool

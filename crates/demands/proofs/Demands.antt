@@ -157,15 +157,6 @@ chosen-panels-taken-away {firstBytes} {secondBytes} {v} {before₁} {after₁} {
     (subst (λ (l : Lent). ChosenTakenAway firstBytes chosen v (results (callOn firstBytes v before₁)) l) (sym (accepted-leaves k f))
     (taken-away firstBytes secondBytes v before₁ before₂ chosen taken))
 
--- a call with the same view
-pub surveyed-from :
-    {bytes : List ℕ} {u v : View} {before after : Lent} {result : ℕ} →
-    u ≡ v →
-    Surveyed bytes u before after result →
-    Surveyed bytes v before after result
-surveyed-from {bytes} {before = before} {after = after} {result = result} e h =
-    subst (λ (x : View). Surveyed bytes x before after result) e h
-
 -- both calls, and demand 3
 pub pair-surveyed :
     {firstBytes secondBytes : List ℕ} {v : View} {before₁ after₁ before₂ after₂ : Lent} {result₁ result₂ : ℕ} →

@@ -3,30 +3,26 @@ use mathlib.Core.Path.{_≡_, sym, subst}
 use mathlib.Core.Bool.{Bool, _&&_}
 use mathlib.Core.List.{List}
 use Prim.Native.Nat.{ℕ, _<_}
-use lib.Dec.{T, leb→le}
-use lib.IntN.{ℤ, natAbs}
+use lib.Dec.{T}
 use Rattle.integer.specs.Magnitude.{Within}
 use Rattle.model.specs.Lists.{every}
 use Rattle.model.specs.Vector.{Vec, Plane, origin}
 use Rattle.model.specs.Format.{NodeRecord, decode}
-use Rattle.model.specs.Questions.{inRange, pointInRange, planeInRange, coordinatesInRange}
+use Rattle.model.specs.Questions.{pointInRange, planeInRange, coordinatesInRange}
 use Rattle.model.proofs.Tests.{both, every-true}
 use Rattle.model.proofs.Ranges.{getD-member}
 use Rattle.geometry.specs.declared.Vector.{Vector}
 use Rattle.geometry.specs.Machine.{vecOf, Bounded}
+use Rattle.geometry.proofs.Sizes.{part-sizes}
 use Rattle.format.specs.declared.layout.Layout.{Layout}
 use Rattle.format.specs.Layout.{LaidOut, nodeNumber, cornerNumber}
 use Rattle.format.specs.Bounds.{VecWithin, PlaneWithin}
 use Rattle.format.proofs.Decoded.{node-count, corner-count, node-at, corner-at}
 
-coordinate-within : (z : ℤ) → T (inRange z) → Within 10000 z
-coordinate-within z t = record { within = leb→le (natAbs z) 10000 t }
-
-pub point-within : (v : Vec) → T (pointInRange v) → VecWithin 10000 v
+point-within : (v : Vec) → T (pointInRange v) → VecWithin 10000 v
 point-within v t =
-    let xyz = both (inRange (v .x) && inRange (v .y)) (inRange (v .z)) .0 t in
-    let xy = both (inRange (v .x)) (inRange (v .y)) .0 (xyz .0) in
-    record { x-within = coordinate-within (v .x) (xy .0); y-within = coordinate-within (v .y) (xy .1); z-within = coordinate-within (v .z) (xyz .1) }
+    let s = part-sizes 10000 v t in
+    record { x-within = s .0; y-within = s .1; z-within = s .2 }
 
 plane-within : (s : Plane) → T (planeInRange s) → PlaneWithin 10000 s
 plane-within s t =

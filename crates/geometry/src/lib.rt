@@ -1,6 +1,7 @@
 // Exact geometry on coordinates within ±10,000: every number fits an i64, to the ends of the range.
 ghost use mathlib.Core.Path.{_≡_};
 ghost use Rattle.model.specs.Vector.{minus, dot, cross, planeNormal};
+ghost use Rattle.model.specs.Questions.{upTo, partsUpTo};
 ghost use Rattle.geometry.specs.Machine.{vecOf, planeOf, Bounded, VectorIs, NumberIs};
 ghost use Rattle.geometry.specs.Raster.{RasterBounded, FunctionIs, seenBy};
 
@@ -26,6 +27,30 @@ pub struct EdgeFunction {
     pub drop: i64,
 }
 
+// a number from −n to n
+fn up_to(n: u16, z: i64) -> bool
+    ensures { λ r. ⌜ r ≡ upTo n z ⌝ }
+{
+    let most = n as i64;
+    if z < 0 - most {
+        return false;
+    }
+    z <= most
+}
+
+// a vector with each part from −n to n
+pub fn parts_up_to(n: u16, v: Vector) -> bool
+    ensures { λ r. ⌜ r ≡ partsUpTo n (vecOf v) ⌝ }
+{
+    if !up_to(n, v.x) {
+        return false;
+    }
+    if !up_to(n, v.y) {
+        return false;
+    }
+    up_to(n, v.z)
+}
+
 // b − a
 pub fn from_to(a: Vector, b: Vector) -> Vector
     requires { ⌜ Bounded 10000 a × Bounded 10000 b ⌝ }
@@ -39,7 +64,7 @@ pub fn from_to(a: Vector, b: Vector) -> Vector
 }
 
 // u × v
-fn cross_product(u: Vector, v: Vector) -> Vector
+pub fn cross_product(u: Vector, v: Vector) -> Vector
     requires { ⌜ Bounded 20000 u × Bounded 20000 v ⌝ }
     ensures { λ r. ⌜ VectorIs 800000000 (cross (vecOf u) (vecOf v)) r ⌝ }
 {
@@ -51,7 +76,7 @@ fn cross_product(u: Vector, v: Vector) -> Vector
 }
 
 // u · v
-fn dot_product(u: Vector, v: Vector) -> i64
+pub fn dot_product(u: Vector, v: Vector) -> i64
     requires { ⌜ Bounded 800000000 u × Bounded 800000000 v ⌝ }
     ensures { λ r. ⌜ r ≡ dot (vecOf u) (vecOf v) ⌝ }
 {

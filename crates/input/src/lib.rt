@@ -32,7 +32,7 @@ fn buffer() -> [u16; 32768]
     [0; 32768]
 }
 
-// The survey of an input of a view and a scene, with the station counter at 0: the answer, and the counts.
+// The survey of an input of a view and a scene, seen by a level camera, with the station counter at 0: the answer, and the counts.
 pub fn survey_input(input: &[u8], counts: &mut [u32]) -> u32
     requires { ⌜ 12 ≤ length (now input) ⌝ }
     ensures { λ r. ⌜ r ≡ surveyAnswer (inputCall (now (input .entry)) (length (now (counts .entry)))) ⌝ }
@@ -51,6 +51,15 @@ pub fn survey_input(input: &[u8], counts: &mut [u32]) -> u32
         i16_at(input, 0),
         i16_at(input, 2),
         i16_at(input, 4),
+        1,
+        0,
+        0,
+        0,
+        1,
+        0,
+        0,
+        0,
+        1,
         width,
         height,
         lens,

@@ -6,9 +6,9 @@ use mathlib.Core.List.{List, [], _∷_, _++_, map}
 use Prim.Native.Nat.{ℕ, zero, suc}
 use native.Mathlib.Omega.{arith}
 use lib.Dec.{T}
-use Rattle.model.specs.Call.{Call}
+use Rattle.model.specs.Call.{Call, callView}
 use Rattle.model.specs.Accepted.{AcceptedScene}
-use Rattle.model.specs.Questions.{Question, answer, sceneQuestions, sceneAnswer, viewInRange, lengthsFit, counterBelowEnd, rowsFit, callQuestions, onScene, questions, surveyAnswer}
+use Rattle.model.specs.Questions.{Question, answer, sceneQuestions, sceneAnswer, viewInRange, axesProper, lengthsFit, counterBelowEnd, rowsFit, callQuestions, onScene, questions, surveyAnswer}
 
 abbrev passOn : Bool → ℕ → ℕ → ℕ
 passOn b next number = elim b as (λ (x : Bool). ℕ) [ true ↦ next | false ↦ number ]
@@ -147,10 +147,11 @@ pub call-next : (c : Call) → sceneAnswer (c .scene) ≡ 0 → surveyAnswer c �
 unfolding surveyAnswer questions sceneAnswer
 call-next c e = answer-on-scene sceneQuestions callQuestions c scene-numbers e
 
--- what questions 10 to 13 say of a call
+-- what the questions on the call say of one that is accepted
 pub record AcceptedCall (c : Call) : Type 0 where
   pub scene : AcceptedScene (c .scene)
-  pub view : T (viewInRange c)
+  pub view : T (viewInRange (callView c))
+  pub axes : T (axesProper (c .camera .axes))
   pub lengths : T (lengthsFit c)
   pub counter : T (counterBelowEnd c)
   pub rows : T (rowsFit c)
@@ -173,13 +174,21 @@ accepted-call c = (said, asked)
         let b = all-yes _ _ c numbered (a .1) in
         let d = all-yes _ _ c numbered (b .1) in
         let f = all-yes _ _ c numbered (d .1) in
-        record
-        { scene = accepted-scene (c .scene) .0 s; view = a .0; lengths = b .0; counter = d .0; rows = f .0 }
+        let g = all-yes _ _ c numbered (f .1) in
+        record {
+          scene = accepted-scene (c .scene) .0 s;
+          view = a .0;
+          axes = b .0;
+          lengths = d .0;
+          counter = f .0;
+          rows = g .0;
+        }
 
     asked : AcceptedCall c → surveyAnswer c ≡ 0
     asked h =
         call-next c (accepted-scene (c .scene) .1 (h .scene))
         ∙ answer-yes _ _ c (h .view)
+        ∙ answer-yes _ _ c (h .axes)
         ∙ answer-yes _ _ c (h .lengths)
         ∙ answer-yes _ _ c (h .counter)
         ∙ answer-yes _ _ c (h .rows)

@@ -1,33 +1,71 @@
--- What questions 10 and 11 say of a call.
+-- What questions 10, 14 and 11 say of a call.
 use mathlib.Core.Path.{_≡_}
 use mathlib.Core.Bool.{Bool, _&&_}
 use Prim.Native.Nat.{ℕ, _*_, _≤_}
 use lib.Dec.{T, eqb, leb, leb→le, eqb→eq}
-use Rattle.model.specs.View.{viewWidth, viewHeight}
+use lib.IntN.{pos}
+use lib.Signed.{ltZ, _<ℤ_}
+use Rattle.model.specs.Vector.{dot, cross}
+use Rattle.model.specs.View.{Axes, View, viewWidth, viewHeight}
 use Rattle.model.specs.Row.{rowLength}
 use Rattle.model.specs.Picture.{countEntries}
 use Rattle.model.specs.Call.{Call, callView}
-use Rattle.model.specs.Questions.{within, pointInRange, viewInRange, lengthsFit}
+use Rattle.model.specs.Questions.{within, partsUpTo, pointInRange, viewInRange, axesProper, lengthsFit}
 use Rattle.model.proofs.Tests.{both}
 
-at-most : (low high n : ℕ) → T (within low high n) → n ≤ high
-at-most low high n t = leb→le n high (both (leb low n) (leb n high) .0 t .1)
+module _ (low high n : ℕ) (t : T (within low high n)) where
+  at-least : low ≤ n
+  at-least = leb→le low n (both (leb low n) (leb n high) .0 t .0)
 
--- the eye is in range, and the picture no wider and no higher than a row and the lists have room for
-pub record ViewBounded (c : Call) : Type 0 where
-  pub point : T (pointInRange (c .eye))
-  pub narrow : viewWidth (callView c) ≤ 256
-  pub low : viewHeight (callView c) ≤ 128
+  at-most : n ≤ high
+  at-most = leb→le n high (both (leb low n) (leb n high) .0 t .1)
 
-pub view-bounded : (c : Call) → T (viewInRange c) → ViewBounded c
+-- the eye is in range, the picture no wider and no higher than a row and the lists have room for, and the lens some
+pub record ViewBounded (v : View) : Type 0 where
+  pub point : T (pointInRange (v .eye))
+  pub narrow : viewWidth v ≤ 256
+  pub low : viewHeight v ≤ 128
+  pub lens-some : 1 ≤ v .camera .window .lens
+  pub lens-most : v .camera .window .lens ≤ 4096
+
+pub view-bounded : (v : View) → T (viewInRange v) → ViewBounded v
 unfolding viewInRange
-view-bounded c t =
-    let p : Bool = pointInRange (c .eye) in
-    let w = c .camera .window in
+view-bounded v t =
+    let p : Bool = pointInRange (v .eye) in
+    let w = v .camera .window in
     let a = both (p && within 1 256 (w .width) && within 1 128 (w .height)) (within 1 4096 (w .lens)) .0 t in
     let b = both (p && within 1 256 (w .width)) (within 1 128 (w .height)) .0 (a .0) in
     let d = both p (within 1 256 (w .width)) .0 (b .0) in
-    record { point = d .0; narrow = at-most 1 256 (w .width) (d .1); low = at-most 1 128 (w .height) (b .1) }
+    record {
+      point = d .0;
+      narrow = at-most 1 256 (w .width) (d .1);
+      low = at-most 1 128 (w .height) (b .1);
+      lens-some = at-least 1 4096 (w .lens) (a .1);
+      lens-most = at-most 1 4096 (w .lens) (a .1);
+    }
+
+-- the vectors are short, and turn as right, forward and up of a level camera do
+pub record AxesBounded (a : Axes) : Type 0 where
+  pub right-short : T (partsUpTo 100 (a .right))
+  pub forward-short : T (partsUpTo 100 (a .forward))
+  pub up-short : T (partsUpTo 100 (a .up))
+  pub turning : pos 0 <ℤ dot (a .right) (cross (a .forward) (a .up))
+
+pub axes-bounded : (a : Axes) → T (axesProper a) → AxesBounded a
+unfolding axesProper
+axes-bounded a t =
+    let r : Bool = partsUpTo 100 (a .right) in
+    let f : Bool = partsUpTo 100 (a .forward) in
+    let u : Bool = partsUpTo 100 (a .up) in
+    let rfu = both (r && f && u) (ltZ (pos 0) (dot (a .right) (cross (a .forward) (a .up)))) .0 t in
+    let rf = both (r && f) u .0 (rfu .0) in
+    let r-and-f = both r f .0 (rf .0) in
+    record {
+      right-short = r-and-f .0;
+      forward-short = r-and-f .1;
+      up-short = rf .1;
+      turning = record { lt = rfu .1 };
+    }
 
 -- each buffer has the length that it is to have: one more buffer is one more line in each of these
 pub record LengthsRight (c : Call) : Type 0 where

@@ -15,6 +15,7 @@ pub mod CallLimits
 pub mod PanelNumbers
 -- the geometry of met patches
 pub mod Vectors
+pub mod Views
 pub mod Rounds
 pub mod Patches
 pub mod Fan

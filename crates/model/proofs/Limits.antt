@@ -1,19 +1,20 @@
 -- Every limit that stands in the definitions as a number, tried by computing: the numbers at the limit pass, the next ones do not.
-use mathlib.Core.Bool.{Bool, true, not, _&&_}
+use mathlib.Core.Bool.{Bool, true, not, cond, _&&_}
 use mathlib.Core.List.{List, [], _∷_, _++_}
-use Prim.Native.Nat.{ℕ, _+_, _%_}
+use Prim.Native.Nat.{ℕ, suc, _+_, _%_}
 use lib.Dec.{T, eqb}
-use lib.IntN.{pos, negℤ, _-ℤ_}
+use lib.IntN.{ℤ, pos, negℤ, _-ℤ_}
 use lib.Signed.{leZ}
-use lib.ListN.{length, getD, take, replicate}
-use Rattle.model.specs.Lists.{every}
+use lib.ListN.{length, getD, take, drop, replicate}
+use Rattle.model.specs.Lists.{every, range}
 use Rattle.model.specs.Vector.{Vec, Plane, vec, origin, isZero}
 use Rattle.model.specs.Patch.{Patch, cornersCounted}
 use Rattle.model.specs.Format.{Scene, u16At, u32At, signed16}
 use Rattle.model.specs.Row.{rowOf, usedPart}
 use Rattle.model.specs.Picture.{counts}
-use Rattle.model.specs.Call.{Call}
-use Rattle.model.specs.Questions.{hasHeader, hasSections, coordinatesInRange, properChild, panelsInRange, viewInRange, lengthsFit, counterBelowEnd, rowFits}
+use Rattle.model.specs.View.{Axes, levelAxes}
+use Rattle.model.specs.Call.{Call, callView}
+use Rattle.model.specs.Questions.{hasHeader, hasSections, coordinatesInRange, properChild, panelsInRange, viewInRange, axesProper, lengthsFit, counterBelowEnd, rowFits}
 use Rattle.model.specs.Removal.{isChosen}
 use Rattle.model.proofs.Encode.{headerBytes}
 use Rattle.model.proofs.Computing.{everything}
@@ -107,7 +108,7 @@ placed =
     ∷ (λ v. coordinatesInRange (oneNode (record { a = v; b = origin; c = origin })))
     ∷ (λ v. coordinatesInRange (oneNode (record { a = origin; b = v; c = origin })))
     ∷ (λ v. coordinatesInRange (oneNode (record { a = origin; b = origin; c = v })))
-    ∷ (λ v. viewInRange (fittingCall [] v 4 4 4))
+    ∷ (λ v. viewInRange (callView (fittingCall [] v 4 4 4)))
     ∷ []
 
 abbrev sceneLimits : List Limit
@@ -120,6 +121,44 @@ sceneLimits =
     ∷ limit (λ n. panelsInRange (onePanel n)) (1 ∷ 1024 ∷ []) (0 ∷ 1025 ∷ [])
     ∷ []
 
+-- ---- question 14, of a camera's axes
+
+-- axes by their nine parts: those of right, of forward, of up
+abbrev axesBy : List ℤ → Axes
+axesBy ps =
+    let part : ℕ → ℤ = λ k. getD ps k (pos 0) in
+    record {
+      right = vec (part 0) (part 1) (part 2);
+      forward = vec (part 3) (part 4) (part 5);
+      up = vec (part 6) (part 7) (part 8);
+    }
+
+-- a level camera, and one that looks straight up
+abbrev level : List ℤ
+level = pos 1 ∷ pos 0 ∷ pos 0 ∷ pos 0 ∷ pos 1 ∷ pos 0 ∷ pos 0 ∷ pos 0 ∷ pos 1 ∷ []
+
+abbrev upward : List ℤ
+upward = pos 0 ∷ pos 1 ∷ pos 0 ∷ pos 0 ∷ pos 0 ∷ pos 1 ∷ pos 1 ∷ pos 0 ∷ pos 0 ∷ []
+
+-- z in place of part k, in that one of the two whose part k is 0: right · (forward × up) is then 1 for every z
+abbrev withPart : ℕ → ℤ → Axes
+withPart k z =
+    let ps : List ℤ = cond (eqb (k % 4) 0) upward level in
+    axesBy (take k ps ++ (z ∷ drop (suc k) ps))
+
+abbrev axesLimits : List Limit
+axesLimits =
+    limit (λ n. every (λ (k : ℕ). axesProper (withPart k (pos n)) && axesProper (withPart k (negℤ (pos n)))) (range 0 9))
+    (0 ∷ 100 ∷ [])
+    []
+    ∷ limit
+    (λ n. every (λ (k : ℕ). not (axesProper (withPart k (pos n))) && not (axesProper (withPart k (negℤ (pos n))))) (range 0 9))
+    (101 ∷ [])
+    []
+    -- right · (forward × up) is n − 1
+    ∷ limit (λ n. axesProper (axesBy ((pos n -ℤ pos 1) ∷ drop 1 level))) (2 ∷ []) (0 ∷ 1 ∷ [])
+    ∷ []
+
 -- ---- questions 10 to 13, of a call
 
 abbrev lent : ℕ → ℕ → ℕ → ℕ → Call
@@ -127,7 +166,7 @@ lent p n u k =
     record {
       scene = [];
       eye = origin;
-      camera = record { window = record { width = 4; height = 3; lens = 4 } };
+      camera = record { axes = levelAxes; window = record { width = 4; height = 3; lens = 4 } };
       lengths = record { picture = p; counts = n; unlit = u };
       counter = k;
     }
@@ -138,9 +177,9 @@ everyOther i = vec (pos 0) (pos (i % 2)) (pos 0)
 
 abbrev callLimits : List Limit
 callLimits =
-    limit (λ n. viewInRange (fittingCall [] origin n 4 4)) (1 ∷ 256 ∷ []) (0 ∷ 257 ∷ [])
-    ∷ limit (λ n. viewInRange (fittingCall [] origin 4 n 4)) (1 ∷ 128 ∷ []) (0 ∷ 129 ∷ [])
-    ∷ limit (λ n. viewInRange (fittingCall [] origin 4 4 n)) (1 ∷ 4096 ∷ []) (0 ∷ 4097 ∷ [])
+    limit (λ n. viewInRange (callView (fittingCall [] origin n 4 4))) (1 ∷ 256 ∷ []) (0 ∷ 257 ∷ [])
+    ∷ limit (λ n. viewInRange (callView (fittingCall [] origin 4 n 4))) (1 ∷ 128 ∷ []) (0 ∷ 129 ∷ [])
+    ∷ limit (λ n. viewInRange (callView (fittingCall [] origin 4 4 n))) (1 ∷ 4096 ∷ []) (0 ∷ 4097 ∷ [])
     -- a window of 4 by 3 cells
     ∷ limit (λ n. lengthsFit (lent n 1025 768 0)) (12 ∷ []) (11 ∷ 13 ∷ [])
     ∷ limit (λ n. lengthsFit (lent 12 n 768 0)) (1025 ∷ []) (1024 ∷ 1026 ∷ [])
@@ -190,6 +229,10 @@ scene-limits : Hold sceneLimits
 unfolding everything
 scene-limits = tt
 
+axes-limits : Hold axesLimits
+unfolding everything
+axes-limits = tt
+
 call-limits : Hold callLimits
 unfolding everything
 call-limits = tt
@@ -202,6 +245,6 @@ chosen-limits : Hold chosenLimits
 unfolding everything
 chosen-limits = tt
 
--- At each limit the definitions say what document 01 says.
-pub limits-hold : Hold headerLimits × Hold sceneLimits × Hold callLimits × Hold formLimits × Hold chosenLimits
-limits-hold = (header-limits, scene-limits, call-limits, form-limits, chosen-limits)
+-- At each limit the definitions say what the rules say.
+pub limits-hold : Hold headerLimits × Hold sceneLimits × Hold axesLimits × Hold callLimits × Hold formLimits × Hold chosenLimits
+limits-hold = (header-limits, scene-limits, axes-limits, call-limits, form-limits, chosen-limits)

@@ -3,6 +3,7 @@ use mathlib.Core.List.{List, [], _∷_, _++_}
 use Prim.Native.Nat.{ℕ, _*_}
 use lib.IntN.{ℤ, pos, negℤ}
 use Rattle.model.specs.Vector.{Vec, Plane, vec, origin}
+use Rattle.model.specs.View.{Axes, levelAxes}
 use Rattle.model.specs.Call.{Call}
 use Rattle.model.proofs.Encode.{NodeLine, PatchLine, sceneBytes}
 
@@ -81,16 +82,34 @@ sceneQuarters =
 abbrev pub noNodes : List ℕ
 noNodes = sceneBytes [] [] []
 
--- a call with buffers of the right lengths and the counter at 0
-abbrev pub fittingCall : List ℕ → Vec → ℕ → ℕ → ℕ → Call
-fittingCall bytes e w h l =
+-- a panel to the right of the eye, upright and along the bore: seen only by a camera that turns
+abbrev wall : Plane
+wall =
+    record {
+      a = vec (pos 100) (negℤ (pos 50)) (negℤ (pos 50));
+      b = vec (pos 100) (pos 50) (negℤ (pos 50));
+      c = vec (pos 100) (pos 50) (pos 50);
+    }
+
+abbrev pub sceneWall : List ℕ
+sceneWall =
+    sceneBytes (nodeLine wall none none 0 1 ∷ []) (patchLine 9 0 4 ∷ [])
+    (wall .a ∷ wall .b ∷ wall .c ∷ vec (pos 100) (negℤ (pos 50)) (pos 50) ∷ [])
+
+-- a call with buffers of the right lengths and the counter at 0, seen by a camera with these axes
+abbrev pub turnedCall : Axes → List ℕ → Vec → ℕ → ℕ → ℕ → Call
+turnedCall a bytes e w h l =
     record {
       scene = bytes;
       eye = e;
-      camera = record { window = record { width = w; height = h; lens = l } };
+      camera = record { axes = a; window = record { width = w; height = h; lens = l } };
       lengths = record { picture = w * h; counts = 1025; unlit = h * 256 };
       counter = 0;
     }
+
+-- the same seen by a level camera
+abbrev pub fittingCall : List ℕ → Vec → ℕ → ℕ → ℕ → Call
+fittingCall = turnedCall levelAxes
 
 -- "4 by 4, lens 4, eye (0,0,0)"
 abbrev pub usual : List ℕ → Call

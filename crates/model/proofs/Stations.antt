@@ -1,16 +1,17 @@
--- Document 01's starred stations, over scene bytes: one list under one statement.
+-- Document 01's starred stations, over scene bytes: one list under one statement; and stations of turned cameras under another.
 use mathlib.Core.Path.{_≡_, refl}
 use mathlib.Core.List.{List, [], _∷_, map}
 use Prim.Native.Nat.{ℕ}
-use lib.IntN.{pos}
+use lib.IntN.{pos, negsuc}
 use lib.ListN.{getD, replicate}
 use Rattle.model.specs.Vector.{vec, origin}
+use Rattle.model.specs.View.{Axes}
 use Rattle.model.specs.Row.{usedPart}
 use Rattle.model.specs.Call.{Call}
 use Rattle.model.specs.Questions.{surveyAnswer}
 use Rattle.model.specs.Survey.{callPicture, callCounts, callUnlit}
 use Rattle.model.proofs.Computing.{everything}
-use Rattle.model.proofs.Scenes.{sceneS, sceneT, sceneTless5, sceneTless7, scene3and5, sceneQuarters, noNodes, sOfHalfWidth, fittingCall, usual}
+use Rattle.model.proofs.Scenes.{sceneS, sceneT, sceneTless5, sceneTless7, scene3and5, sceneQuarters, sceneWall, noNodes, sOfHalfWidth, turnedCall, fittingCall, usual}
 
 -- what is seen of a call: its answer (0 is "done"), its picture, the used pairs of some rows, and the counts of some panels (of "nothing" at 0)
 pub record Outcome : Type 0 where
@@ -71,6 +72,56 @@ quarters =
     shows (fittingCall sceneQuarters origin 4 2 4) (1 ∷ 1 ∷ 2 ∷ 2 ∷ 3 ∷ 3 ∷ 4 ∷ 4 ∷ []) (0 ∷ []) ([] ∷ []) (1 ∷ 0 ∷ [])
     (2 ∷ 0 ∷ [])
 
+-- ---- cameras that look any way
+
+-- rolled by a quarter turn: its right points down, its up to the right
+abbrev rolled : Axes
+rolled =
+    record {
+      right = vec (pos 0) (pos 0) (negsuc 0);
+      forward = vec (pos 0) (pos 1) (pos 0);
+      up = vec (pos 1) (pos 0) (pos 0);
+    }
+
+-- upside down
+abbrev halfTurn : Axes
+halfTurn =
+    record {
+      right = vec (negsuc 0) (pos 0) (pos 0);
+      forward = vec (pos 0) (pos 1) (pos 0);
+      up = vec (pos 0) (pos 0) (negsuc 0);
+    }
+
+-- forward askew to right, which nothing forbids
+abbrev askew : Axes
+askew =
+    record {
+      right = vec (pos 1) (pos 0) (pos 0);
+      forward = vec (pos 1) (pos 1) (pos 0);
+      up = vec (pos 0) (pos 0) (pos 1);
+    }
+
+-- looking to the right of the bore
+abbrev sideways : Axes
+sideways =
+    record {
+      right = vec (pos 0) (negsuc 0) (pos 0);
+      forward = vec (pos 1) (pos 0) (pos 0);
+      up = vec (pos 0) (pos 0) (pos 1);
+    }
+
+abbrev turnedQuarters : Axes → List ℕ → Station
+turnedQuarters a p = shows (turnedCall a sceneQuarters origin 4 2 4) p [] [] [] []
+
+abbrev pub turned : List Station
+turned =
+    turnedQuarters rolled (2 ∷ 2 ∷ 4 ∷ 4 ∷ 1 ∷ 1 ∷ 3 ∷ 3 ∷ [])
+    ∷ turnedQuarters halfTurn (4 ∷ 4 ∷ 3 ∷ 3 ∷ 2 ∷ 2 ∷ 1 ∷ 1 ∷ [])
+    ∷ turnedQuarters askew (2 ∷ 2 ∷ 0 ∷ 0 ∷ 4 ∷ 4 ∷ 0 ∷ 0 ∷ [])
+    ∷ shows (turnedCall sideways sceneWall origin 4 4 4) (middle 9) [] [] (9 ∷ []) (4 ∷ [])
+    ∷ shows (usual sceneWall) blank [] [] [] []
+    ∷ []
+
 -- What the definitions say of each starred station is what document 01 says of it.
 pub starred-stations : map seen stations ≡ map (λ (s : Station). s .said) stations
 unfolding everything seen
@@ -79,3 +130,8 @@ starred-stations = refl
 pub rows-from-the-top : seen quarters ≡ quarters .said
 unfolding everything seen
 rows-from-the-top = refl
+
+-- The same quarters as turned cameras see them, and a wall that only a turned camera sees.
+pub turned-stations : map seen turned ≡ map (λ (s : Station). s .said) turned
+unfolding everything seen
+turned-stations = refl

@@ -5,7 +5,6 @@ pub mod Patch
 pub mod Ray
 pub mod Tree
 pub mod Format
-pub mod Window
 pub mod View
 pub mod Lent
 pub mod Call

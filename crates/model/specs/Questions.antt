@@ -3,15 +3,17 @@ use mathlib.Core.Bool.{Bool, true, false, not, _&&_, _||_}
 use mathlib.Core.List.{List, [], _∷_, _++_, map}
 use Prim.Native.Nat.{ℕ, suc, _+_, _*_, _-_, _/_, _%_}
 use lib.Dec.{eqb, leb, ltb}
-use lib.IntN.{ℤ, natAbs}
+use lib.IntN.{ℤ, pos, natAbs}
 use lib.ListN.{length, take}
+use lib.Signed.{ltZ}
 use Rattle.model.specs.Lists.{every, any, range, occurrences}
-use Rattle.model.specs.Vector.{Vec, Plane, planeNormal, isZero}
+use Rattle.model.specs.Vector.{Vec, Plane, dot, cross, planeNormal, isZero}
 use Rattle.model.specs.Patch.{Patch, cornersCounted, flat, strictlyConvex}
 use Rattle.model.specs.Ray.{met}
 use Rattle.model.specs.Tree.{order, divides}
 use Rattle.model.specs.Format.{Header, Section, Run, NodeRecord, PatchRecord, Scene, headerOf, decode, sceneVersion, headerSize, nodeSize, patchSize, cornerSize, mostNodes, mostPatches, mostCorners, highestPanel, noChild, inRun, patchTable, patchTree}
-use Rattle.model.specs.Call.{Call, callDirection}
+use Rattle.model.specs.View.{Axes, View}
+use Rattle.model.specs.Call.{Call, callView, callDirection}
 use Rattle.model.specs.Row.{segments, rowPairs, rowLength}
 use Rattle.model.specs.Picture.{countEntries}
 
@@ -57,12 +59,17 @@ hasSections bytes =
     && isSection (sectionEnd (h .patchSection)) cornerSize mostCorners (h .cornerSection)
     && eqb (sectionEnd (h .cornerSection)) (h .whole)
 
--- a coordinate from −10,000 to 10,000
-abbrev pub inRange : ℤ → Bool
-inRange z = leb (natAbs z) 10000
+-- a number from −n to n
+abbrev pub upTo : ℕ → ℤ → Bool
+upTo n z = leb (natAbs z) n
 
+-- each part of a vector is from −n to n
+abbrev pub partsUpTo : ℕ → Vec → Bool
+partsUpTo n v = upTo n (v .x) && upTo n (v .y) && upTo n (v .z)
+
+-- each coordinate of a point is from −10,000 to 10,000
 abbrev pub pointInRange : Vec → Bool
-pointInRange v = inRange (v .x) && inRange (v .y) && inRange (v .z)
+pointInRange v = partsUpTo 10000 v
 
 abbrev pub planeInRange : Plane → Bool
 planeInRange s = pointInRange (s .a) && pointInRange (s .b) && pointInRange (s .c)
@@ -173,12 +180,20 @@ unfoldable pub sceneAnswer : List ℕ → ℕ
 sceneAnswer bytes = answer sceneQuestions bytes
 
 -- 10. "Is the eye within ±10,000, width 1 to 256, height 1 to 128, lens 1 to 4,096?"
-unfoldable pub viewInRange : Call → Bool
-viewInRange c =
-    pointInRange (c .eye)
-    && within 1 256 (c .camera .window .width)
-    && within 1 128 (c .camera .window .height)
-    && within 1 4096 (c .camera .window .lens)
+unfoldable pub viewInRange : View → Bool
+viewInRange v =
+    pointInRange (v .eye)
+    && within 1 256 (v .camera .window .width)
+    && within 1 128 (v .camera .window .height)
+    && within 1 4096 (v .camera .window .lens)
+
+-- 14. No "when a part is out of range or right · (forward × up) is not above 0"; "each part from −100 to 100"
+unfoldable pub axesProper : Axes → Bool
+axesProper a =
+    partsUpTo 100 (a .right)
+    && partsUpTo 100 (a .forward)
+    && partsUpTo 100 (a .up)
+    && ltZ (pos 0) (dot (a .right) (cross (a .forward) (a .up)))
 
 -- 11. "Has the picture (u16) width × height cells, the counts (u32) 1,025, the unlit lists (u16) height × 256?"
 unfoldable pub lengthsFit : Call → Bool
@@ -209,10 +224,11 @@ rowsFit c =
     rowFits (c .camera .window .width) (c .eye) (λ (i : ℕ). callDirection c i j)
     (order (c .eye) (patchTree (decode (c .scene))))) (range 0 (c .camera .window .height))
 
--- the questions on the call
+-- the questions on the call, in the order of asking: 14 is "put right after question 10"
 unfoldable pub callQuestions : List (Question Call)
 callQuestions =
-    record { number = 10; test = viewInRange }
+    record { number = 10; test = λ c. viewInRange (callView c) }
+    ∷ record { number = 14; test = λ c. axesProper (c .camera .axes) }
     ∷ record { number = 11; test = lengthsFit }
     ∷ record { number = 12; test = counterBelowEnd }
     ∷ record { number = 13; test = rowsFit }

@@ -1,11 +1,42 @@
--- How it is looked, and from where: a camera, and a camera at an eye.
-use Prim.Native.Nat.{ℕ}
-use Rattle.model.specs.Vector.{Vec}
-use Rattle.model.specs.Window.{Window, direction}
+-- How it is looked, and from where: a camera, a camera at an eye, and the directions of a picture's cells.
+use Prim.Native.Nat.{ℕ, _+_, _*_}
+use lib.IntN.{pos, _-ℤ_}
+use Rattle.model.specs.Vector.{Vec, vec, plus, times}
+
+-- "A window is width, height and lens."
+pub record Window : Type 0 where
+  pub width : ℕ
+  pub height : ℕ
+  pub lens : ℕ
+
+-- "A view takes three vectors, right, forward and up": where the camera's own axes point
+pub record Axes : Type 0 where
+  pub right : Vec
+  pub forward : Vec
+  pub up : Vec
+
+-- "The old view is (1,0,0), (0,1,0), (0,0,1)": the camera stands level and looks along the bore
+abbrev pub levelAxes : Axes
+levelAxes =
+    record {
+      right = vec (pos 1) (pos 0) (pos 0);
+      forward = vec (pos 0) (pos 1) (pos 0);
+      up = vec (pos 0) (pos 0) (pos 1);
+    }
 
 -- all that decides a cell's direction
 pub record Camera : Type 0 where
+  pub axes : Axes
   pub window : Window
+
+-- "Column i runs from 0 at the left, row j from 0 at the top."
+-- "A cell's direction is (2i + 1 − width) times right plus lens times forward plus (height − 1 − 2j) times up."
+abbrev pub direction : Camera → ℕ → ℕ → Vec
+direction c i j =
+    plus
+    (plus (times (pos (2 * i + 1) -ℤ pos (c .window .width)) (c .axes .right))
+    (times (pos (c .window .lens)) (c .axes .forward)))
+    (times (pos (c .window .height) -ℤ pos (1 + 2 * j)) (c .axes .up))
 
 -- a camera at a station (document 01: "The station is the eye"): what every statement about a picture speaks of
 pub record View : Type 0 where
@@ -21,4 +52,4 @@ viewHeight v = v .camera .window .height
 
 -- the direction of cell (i, j) of a view
 abbrev pub viewDirection : View → ℕ → ℕ → Vec
-viewDirection v i j = direction (v .camera .window) i j
+viewDirection v i j = direction (v .camera) i j

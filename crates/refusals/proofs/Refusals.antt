@@ -1,5 +1,5 @@
 -- Scenes and calls at the limits of the questions, over bytes: one list under one statement. Each question is seen to say yes and no, except 13, which never
--- says no; and where two questions say no, the lower number is the answer.
+-- says no; and where two questions say no, the one that is asked first gives the answer.
 use mathlib.Core.Path.{_≡_, refl}
 use mathlib.Core.Bool.{Bool, true, false, cond}
 use mathlib.Core.List.{List, [], _∷_, _++_, map}
@@ -7,11 +7,12 @@ use Prim.Native.Nat.{ℕ, _+_}
 use lib.IntN.{ℤ, pos, negsuc, negℤ}
 use lib.ListN.{getD, take}
 use Rattle.model.specs.Vector.{Vec, Plane, vec, origin}
+use Rattle.model.specs.View.{Axes, levelAxes}
 use Rattle.model.specs.Call.{Call}
 use Rattle.model.specs.Questions.{Question, answer, questions}
 use Rattle.model.proofs.Encode.{headerBytes, bodyBytes, sceneBytes}
 use Rattle.model.proofs.Computing.{everything}
-use Rattle.model.proofs.Scenes.{square, upright, none, nodeLine, patchLine, sceneS, sOfHalfWidth, fittingCall, usual}
+use Rattle.model.proofs.Scenes.{square, upright, none, nodeLine, patchLine, sceneS, sOfHalfWidth, turnedCall, fittingCall, usual}
 
 -- the numbers of all questions that say no
 unfoldable pub noes : {A : Type 0} → List (Question A) → A → List ℕ
@@ -112,16 +113,26 @@ below s p n cs =
 
 -- ---- the call's own numbers
 
--- S with buffers of the given lengths and the given counter
-abbrev lent : ℕ → ℕ → ℕ → ℕ → ℕ → Call
-lent w p n u k =
+-- S seen by a camera with these axes, with buffers of the given lengths and the given counter
+abbrev lentTurned : Axes → ℕ → ℕ → ℕ → ℕ → ℕ → Call
+lentTurned a w p n u k =
     record {
       scene = sceneS;
       eye = origin;
-      camera = record { window = record { width = w; height = 4; lens = 4 } };
+      camera = record { axes = a; window = record { width = w; height = 4; lens = 4 } };
       lengths = record { picture = p; counts = n; unlit = u };
       counter = k;
     }
+
+abbrev lent : ℕ → ℕ → ℕ → ℕ → ℕ → Call
+lent = lentTurned levelAxes
+
+-- a level camera's axes with another right, and with another up
+abbrev withRight : Vec → Axes
+withRight v = record { right = v; forward = levelAxes .forward; up = levelAxes .up }
+
+abbrev withUp : Vec → Axes
+withUp v = record { right = levelAxes .right; forward = levelAxes .forward; up = v }
 
 abbrev at : ℤ → Vec
 at x = vec x (pos 0) (pos 0)
@@ -219,6 +230,16 @@ cases =
     ∷ onCall (fittingCall sceneS (at (negℤ (pos 10000))) 4 4 4) []
     ∷ onCall (fittingCall sceneS (at (negℤ (pos 10001))) 4 4 4) (10 ∷ [])
     ∷ onCall (lent 0 1 1025 1024 0) (10 ∷ 11 ∷ [])
+    -- the axes: a part at the limit and beyond, right turned round, up along forward, all of it zero; 9 and 10 before 14, 14 before 11 and 12
+    ∷ onCall (turnedCall (withRight (at (pos 100))) sceneS origin 4 4 4) []
+    ∷ onCall (turnedCall (withRight (at (pos 101))) sceneS origin 4 4 4) (14 ∷ [])
+    ∷ onCall (turnedCall (withUp (vec (negℤ (pos 101)) (pos 0) (pos 1))) sceneS origin 4 4 4) (14 ∷ [])
+    ∷ onCall (turnedCall (withRight (at (negsuc 0))) sceneS origin 4 4 4) (14 ∷ [])
+    ∷ onCall (turnedCall (withUp (levelAxes .forward)) sceneS origin 4 4 4) (14 ∷ [])
+    ∷ onCall (turnedCall (record { right = origin; forward = origin; up = origin }) sceneS origin 4 4 4) (14 ∷ [])
+    ∷ onCall (turnedCall (withRight origin) (likeS planeS none 1 5 4 offPlane) origin 4 4 4) (9 ∷ 14 ∷ [])
+    ∷ onCall (turnedCall (withRight (at (pos 101))) sceneS origin 4 4 0) (10 ∷ 14 ∷ [])
+    ∷ onCall (lentTurned (withRight (at (pos 101))) 4 15 1025 1024 4294967295) (14 ∷ 11 ∷ 12 ∷ [])
     -- the buffers' lengths; 11 before 12
     ∷ onCall (lent 4 16 1025 1024 0) []
     ∷ onCall (lent 4 15 1025 1024 0) (11 ∷ [])

@@ -1,4 +1,3 @@
--- The painted rows as the closest panels, the walk of an accepted scene, and a camera's directions as a raster's rays.
+-- The painted rows as the closest panels, and the walk of an accepted scene.
 mod Results
 mod Walks
-mod Rays

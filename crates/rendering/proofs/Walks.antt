@@ -9,8 +9,7 @@ use lib.Seq.{take-at}
 use Rattle.model.specs.Vector.{Vec}
 use Rattle.model.specs.Patch.{Patch}
 use Rattle.model.specs.Tree.{order}
-use Rattle.model.specs.Window.{direction}
-use Rattle.model.specs.View.{Camera}
+use Rattle.model.specs.View.{Camera, direction}
 use Rattle.model.specs.Format.{decode, numberTree}
 use Rattle.model.specs.Questions.{patchRunsFollow, cornerRunsFollow, runsProper}
 use Rattle.model.proofs.Tests.{both, true-of}
@@ -31,7 +30,8 @@ use Rattle.edges.specs.Edges.{SightBounded}
 use Rattle.scanline.specs.Laying.{walkOf}
 use Rattle.readiness.specs.Ready.{Paintable}
 use Rattle.placing.specs.Framing.{Framed, RowsPainted}
-use Rattle.rendering.specs.Painted.{RaysOf, Painted}
+use Rattle.camera.specs.Rays.{RaysOf}
+use Rattle.rendering.specs.Painted.{Painted}
 use Rattle.rendering.proofs.Results.{walked, painted-picture, painted-unlit}
 
 pub walkable : {bytes : List ℕ} {l : Layout} → AcceptedScene bytes → LaidOut bytes l → Checked bytes l
@@ -41,7 +41,7 @@ walkable h laid = checked laid (true-of (h .coordinates)) (true-of (h .children)
 as-seen :
     {eye : Vec} {walk : List Patch} {a : Camera} {r : Raster} {cells unlit : List ℕ} → RaysOf a r →
     RowsPainted eye (rayAt r) walk (r .width) (r .height) cells unlit →
-    RowsPainted eye (direction (a .window)) walk (a .window .width) (a .window .height) cells unlit
+    RowsPainted eye (direction a) walk (a .window .width) (a .window .height) cells unlit
 as-seen {eye} {walk} {a} {r} {cells} {unlit} rays seen =
     subst (λ (d : ℕ → ℕ → Vec). RowsPainted eye d walk (a .window .width) (a .window .height) cells unlit) (λ t i j. rays .rays i j t)
     (subst₂ (λ (w h : ℕ). RowsPainted eye (rayAt r) walk w h cells unlit) (rays .columns) (rays .rows) seen)
@@ -98,10 +98,10 @@ module _ {bytes : List ℕ} {l : Layout} {eye : Vec} {before after : List ℕ} {
         RowsPainted eye (rayAt r) (walkOf bytes (take n after)) (r .width) (r .height) cells unlit →
         Painted bytes (record { eye = eye; camera = a }) cells unlit
     painted-all {a} {r} {cells} {unlit} rays seen =
-        let p : RowsPainted eye (direction (a .window)) (walked bytes eye) (a .window .width) (a .window .height) cells unlit =
-        subst (λ (o : List ℕ). RowsPainted eye (direction (a .window)) (walkOf bytes o) (a .window .width) (a .window .height) cells unlit)
+        let p : RowsPainted eye (direction a) (walked bytes eye) (a .window .width) (a .window .height) cells unlit =
+        subst (λ (o : List ℕ). RowsPainted eye (direction a) (walkOf bytes o) (a .window .width) (a .window .height) cells unlit)
         walk-front (as-seen rays seen) in
         record {
-          cells-are = painted-picture h eye (direction (a .window)) p;
-          unlit-are = painted-unlit h eye (direction (a .window)) p;
+          cells-are = painted-picture h eye (direction a) p;
+          unlit-are = painted-unlit h eye (direction a) p;
         }

@@ -1,35 +1,25 @@
 // The picture and the unlit lists of an accepted scene, as a camera at an eye sees it.
-mod camera;
-
+use camera::Camera;
 use camera::camera_raster;
 use edges::Sight;
 use format::layout::read_layout;
 use geometry::Vector;
 use painting::paint_rows;
 use walk::order::walk;
-ghost use Rattle.geometry.specs.Machine.{vecOf};
+ghost use Rattle.camera.specs.Machine.{viewOf};
 ghost use Rattle.rendering.specs.Painted.{PaintingAsked, Painted};
 
 // The tables have room for the edge functions of all corners and the rows of all patches; the painting fills them as far as it needs them.
-pub fn paint(
-    scene: &[u8],
-    eye: Vector,
-    width: u16,
-    height: u16,
-    lens: u16,
-    picture: &mut [u16],
-    unlit: &mut [u16],
-)
-    requires { ⌜ PaintingAsked (now scene) eye width height (now picture) (now unlit) ⌝ }
-    ensures { λ r. ⌜ Painted (now (scene .entry)) (record { eye = vecOf eye; camera = record { window = record { width = width; height = height; lens = lens } } })
-        (now (picture .exit)) (now (unlit .exit)) ⌝ }
+pub fn paint(scene: &[u8], eye: Vector, camera: Camera, picture: &mut [u16], unlit: &mut [u16])
+    requires { ⌜ PaintingAsked (now scene) eye camera (now picture) (now unlit) ⌝ }
+    ensures { λ r. ⌜ Painted (now (scene .entry)) (viewOf eye camera) (now (picture .exit)) (now (unlit .exit)) ⌝ }
 {
     let l = read_layout(scene);
     let mut order = [0u16; 1024];
     let n = walk(scene, l, eye, &mut order);
     let sight = Sight {
         eye,
-        raster: camera_raster(width, height, lens),
+        raster: camera_raster(camera),
     };
     let mut edges = [0i64; 12288];
     let mut rows = [0u16; 2048];

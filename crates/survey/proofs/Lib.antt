@@ -1,5 +1,2 @@
--- The results of a painted walk, and the answer of the call.
-pub mod Results
+-- A view that was handed over in words.
 pub mod Handed
-mod Gates
-mod Calls

@@ -1,5 +1,6 @@
 //! What `ringbill` prints for an input.
 
+use crate::axes::LEVEL;
 use crate::call::{Call, View};
 use crate::scene::{point_at, u16_at};
 use crate::survey::survey;
@@ -13,8 +14,10 @@ pub fn bill(input: &[u8]) -> String {
     if !(SHORTEST..=LONGEST).contains(&input.len()) {
         return "refused 1\n".to_string();
     }
+    // "`ringbill` keeps it": the old view.
     let view = View {
         eye: point_at(input, 0),
+        axes: LEVEL,
         width: u16_at(input, 6),
         height: u16_at(input, 8),
         lens: u16_at(input, 10),

@@ -1,5 +1,6 @@
 //! One call of the survey, what is lent to it, and who answers it.
 
+use crate::axes::Axes;
 use crate::random::Random;
 use crate::vector::Point;
 
@@ -7,10 +8,11 @@ pub const COUNTS: usize = 1_025;
 /// "In the lent lists row j has the 256 numbers from 256 × j."
 pub const ROW: usize = 256;
 
-/// The station and "A window is width, height and lens."
+/// The station, the camera's vectors and "A window is width, height and lens."
 #[derive(Clone, Copy, Debug, PartialEq, Eq)]
 pub struct View {
     pub eye: Point,
+    pub axes: Axes,
     pub width: u16,
     pub height: u16,
     pub lens: u16,
@@ -45,7 +47,8 @@ impl Call {
         }
     }
 
-    /// What `ringbill` reads: eye, width, height, lens, then the scene.
+    /// What `ringbill` reads: eye, width, height, lens, then the scene. Its
+    /// view is level, whatever this one is.
     pub fn standard_input(&self) -> Vec<u8> {
         let view = &self.view;
         let mut bytes = Vec::new();

@@ -4,7 +4,7 @@ use crate::call::{Call, Lent, Library};
 use crate::gate::Gate;
 use crate::pairs::{parts, Pair};
 use crate::random::Random;
-use crate::survey::survey;
+use crate::survey::Due;
 
 #[derive(Clone, Copy, Debug, PartialEq, Eq, PartialOrd, Ord)]
 pub enum Difference {
@@ -34,7 +34,7 @@ pub enum Difference {
 use Difference::*;
 
 pub struct Outcome {
-    /// The model's answer.
+    /// The answer that is due.
     pub number: u32,
     pub lent: Lent,
     pub differences: Vec<Difference>,
@@ -46,33 +46,36 @@ fn note(differences: &mut Vec<Difference>, differs: bool, which: Difference) {
     }
 }
 
-/// Survey and gate on one call, the buffers full of noise before.
+/// Survey and gate on one call, against what the model makes of it.
 pub fn check(library: &dyn Library, call: &Call, rng: &mut Random) -> Outcome {
+    check_due(library, call, &Due::of(call), rng)
+}
+
+/// Survey and gate on one call, the buffers full of noise before.
+pub fn check_due(library: &dyn Library, call: &Call, due: &Due, rng: &mut Random) -> Outcome {
     let before = Lent::noise(call, rng);
     let mut lent = before.clone();
     let asked = call.clone();
     let answer = library.survey(&asked, &mut lent);
     let gate = library.gate(&asked);
-    let wanted = survey(call);
-    let number = wanted.as_ref().err().copied().unwrap_or(0);
+    let number = due.answer();
 
     let mut found = Vec::new();
     note(&mut found, answer != number, Answer);
     note(&mut found, gate != number, Gate);
     note(&mut found, asked.scene != call.scene, TouchedScene);
-    match wanted {
+    match &due.result {
         Ok(done) => {
             note(&mut found, *lent.picture != *done.picture, Picture);
             note(&mut found, *lent.counts != *done.counts, Counts);
             note(&mut found, *lent.unlit != *done.unlit, Unlit);
-            // "It rises by one with each accepted picture."
-            note(&mut found, lent.counter != before.counter + 1, Counter);
+            note(&mut found, lent.counter != due.counter, Counter);
         }
         Err(_) => {
             note(&mut found, lent.picture != before.picture, TouchedPicture);
             note(&mut found, lent.counts != before.counts, TouchedCounts);
             note(&mut found, lent.unlit != before.unlit, TouchedUnlit);
-            note(&mut found, lent.counter != before.counter, TouchedCounter);
+            note(&mut found, lent.counter != due.counter, TouchedCounter);
         }
     }
     Outcome {

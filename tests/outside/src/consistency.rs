@@ -1,6 +1,7 @@
 //! The model against itself: other ways to the same answers.
 
-use crate::call::{Call, Lent};
+use crate::axes::LEVEL;
+use crate::call::{Call, Lent, View};
 use crate::compare::check_pair;
 use crate::fault::Faulty;
 use crate::gate::patch_normal;
@@ -9,7 +10,7 @@ use crate::random::Random;
 use crate::ray::{closest, direction, eye_to_corner, met};
 use crate::scene::{Patch, Scene, NONE};
 use crate::stations::{t, VIEW};
-use crate::survey::survey;
+use crate::survey::{picture, survey};
 use crate::vector::{cross, dot, minus, side, wide, Vector};
 
 /// Meeting told from the point where the line pierces the plane: ahead of the
@@ -73,6 +74,48 @@ pub fn rays_agree(call: &Call) -> bool {
             let agree = |p: &Patch| met(p, eye, along) == pierces(p, eye, along);
             first == closest(&patches, eye, along) && patches.iter().all(agree)
         })
+}
+
+/// In the old view "The cell's direction is (2i + 1 − width, lens, height − 1 −
+/// 2j)".
+pub fn old_directions_hold() -> bool {
+    (1..=5).all(|width| {
+        (1..=4).all(|height| {
+            let view = View {
+                width,
+                height,
+                ..VIEW
+            };
+            let [w, h] = [width, height].map(i128::from);
+            (0..view.cells()).all(|at| {
+                let (i, j) = (at % usize::from(width), at / usize::from(width));
+                let old = [2 * i as i128 + 1 - w, 4, h - 1 - 2 * j as i128];
+                direction(&view, i, j) == old
+            })
+        })
+    })
+}
+
+/// A turned view shows what the level view shows of the patches turned back:
+/// each corner told by how far it lies along right, forward and up, times the
+/// volume. None where a corner so told is out of reach, or the view is level.
+pub fn turned_back(call: &Call) -> Option<bool> {
+    let [right, forward, up] = call.view.axes.vectors().map(wide);
+    let told_by = [cross(forward, up), cross(up, right), cross(right, forward)];
+    let mut patches = Scene::read(&call.scene).patches();
+    for corner in patches.iter_mut().flat_map(|p| p.corners.iter_mut()) {
+        let from = minus(wide(*corner), wide(call.view.eye));
+        let [x, y, z] = told_by.map(|by| i16::try_from(dot(by, from)).ok());
+        *corner = [x?, y?, z?];
+    }
+    let level = View {
+        eye: [0; 3],
+        axes: LEVEL,
+        ..call.view
+    };
+    let shown = survey(call).expect("an accepted scene").picture;
+    (call.view.axes != LEVEL && shown.iter().any(|&panel| panel > 0))
+        .then(|| picture(&patches, &level) == shown)
 }
 
 /// The second scene has "just the first's patches less all those of the chosen

@@ -2,9 +2,11 @@
 
 use std::collections::BTreeMap;
 
+use crate::axes::LEVEL;
 use crate::call::{Call, Library};
 use crate::compare::{check, check_gate, check_pair, Difference};
 use crate::damage::LOOSE;
+use crate::gate::Gate;
 use crate::generate::{make, Kind, Size, KINDS};
 use crate::header::BYTES;
 use crate::outer::{any_window, beyond_memory, ends, CALL};
@@ -86,8 +88,16 @@ fn scene_call(rng: &mut Random, kind: Kind, size: Size) -> Call {
 
 /// The questions aimed at, those with many rules more often; 0 is any byte.
 const AIMS: &[u32] = &[
-    0, 1, 1, 2, 2, 2, 3, 4, 5, 5, 6, 6, 6, 6, 7, 7, 8, 8, 8, 9, 9, 9, 9, 10, 11, 12,
+    0, 1, 1, 2, 2, 2, 3, 4, 5, 5, 6, 6, 6, 6, 7, 7, 8, 8, 8, 9, 9, 9, 9, 10, 10, 14, 14, 14, 11,
+    11, 12, 12,
 ];
+
+/// The question asked next, the first behind the last.
+fn next(aim: u32) -> u32 {
+    let asked = Gate::of_the_paper().numbers();
+    let place = asked.iter().position(|&number| number == aim);
+    asked[place.map_or(0, |place| (place + 1) % asked.len())]
+}
 
 /// An accepted scene, harmed once or several times.
 fn damaged(rng: &mut Random, size: Size) -> Case {
@@ -107,7 +117,7 @@ fn damaged(rng: &mut Random, size: Size) -> Case {
     let mut aims = vec![rng.pick(AIMS)];
     while rng.once_in(3) {
         // Often the next question, which must not be the one that answers.
-        let (next, any) = (aims[0] % 12 + 1, rng.pick(AIMS));
+        let (next, any) = (next(aims[0]), rng.pick(AIMS));
         aims.push(rng.pick(&[next, any]));
     }
     rng.shuffle(&mut aims);
@@ -154,18 +164,31 @@ pub struct Tally {
     pub kinds: BTreeMap<String, u64>,
     /// How often the model gave each answer.
     pub answers: BTreeMap<u32, u64>,
-    pub cells: u64,
-    pub lit: u64,
+    /// What accepted calls showed in a level view, and in a turned one.
+    pub level: Shown,
+    pub turned: Shown,
     pub differences: BTreeMap<Difference, u64>,
     pub failed: u64,
+}
+
+#[derive(Default)]
+pub struct Shown {
+    pub pictures: u64,
+    pub cells: u64,
+    pub lit: u64,
 }
 
 impl Tally {
     fn answer(&mut self, number: u32, call: &Call, picture: &[u16]) {
         *self.answers.entry(number).or_default() += 1;
         if number == 0 {
-            self.cells += call.view.cells() as u64;
-            self.lit += picture.iter().filter(|&&panel| panel != 0).count() as u64;
+            let shown = match call.view.axes == LEVEL {
+                true => &mut self.level,
+                false => &mut self.turned,
+            };
+            shown.pictures += 1;
+            shown.cells += call.view.cells() as u64;
+            shown.lit += picture.iter().filter(|&&panel| panel != 0).count() as u64;
         }
     }
 }

@@ -3,13 +3,13 @@
 
 use crate::call::{Call, Lent, Library};
 use crate::compare::Difference;
-use crate::differential::{case, put, Tally};
+use crate::differential::{case, put, Case, Tally};
 use crate::gate::Gate;
 use crate::generate::Size;
 use crate::random::Random;
-use crate::ray::closest;
 use crate::scene::Scene;
 use crate::survey::Done;
+use crate::wrong_camera::CAMERAS;
 use crate::wrong_gate::{SHORT_LENGTHS, WRONG};
 use crate::wrong_paint::{painted, Look, Spoil, Trace, LOOKS, SPOILS, TRACES};
 
@@ -34,7 +34,7 @@ impl Faulty {
             shows: Vec::new(),
             gate: Gate::of_the_paper(),
             survey_gate: Gate::of_the_paper(),
-            look: |scene, eye, along| closest(&scene.patches(), eye, along),
+            look: |scene, cell| cell.closest(&scene.patches()),
             spoil: |_, _, _| (),
             trace: |_| (),
             thirteen: false,
@@ -48,7 +48,7 @@ impl Faulty {
             shows: vec![shows],
             ..Faulty::none()
         };
-        for &(name, look) in LOOKS {
+        for &(name, look) in LOOKS.iter().chain(CAMERAS) {
             all.push(Faulty {
                 look,
                 ..base(name, Difference::Picture)
@@ -90,11 +90,23 @@ impl Faulty {
     pub fn found(&self, seed: u64, cases: u64, size: Size) -> Option<u64> {
         let mut tally = Tally::default();
         (0..cases).find(|&number| {
+            let made = case(seed, number, size);
+            if !self.can_show(&made) {
+                return false;
+            }
             let mut noise = Random::new(!seed, number);
-            put(self, &case(seed, number, size), &mut noise, &mut tally);
+            put(self, &made, &mut noise, &mut tally);
             let seen = &tally.differences;
             self.shows.iter().all(|shown| seen.contains_key(shown))
         })
+    }
+
+    /// A wrong gate shows only where it judges otherwise; the comparison is
+    /// spared the rest.
+    fn can_show(&self, made: &Case) -> bool {
+        let right = Gate::of_the_paper();
+        let otherwise = |call: &&Call| self.gate.judge(call) != right.judge(call);
+        !self.shows.contains(&Difference::Gate) || made.calls().iter().any(otherwise)
     }
 }
 
@@ -110,15 +122,13 @@ impl Library for Faulty {
             return 0;
         }
         let scene = Scene::read(&call.scene);
-        let done = Done::of(painted(&scene, call, self.look), &call.view);
+        let done = Done::of(painted(&scene, call.view, self.look), &call.view);
         let is_full = |row: &[u16]| row[255] > 0;
         if self.thirteen && done.unlit.chunks(256).any(is_full) {
             return 13;
         }
         let before = lent.clone();
-        lent.picture.copy_from_slice(&done.picture);
-        lent.counts.copy_from_slice(&done.counts);
-        lent.unlit.copy_from_slice(&done.unlit);
+        done.leave(lent);
         lent.counter += 1;
         (self.spoil)(&done, &before, lent);
         0

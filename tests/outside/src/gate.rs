@@ -4,6 +4,7 @@
 //! Question 13 is not asked: a row of at most 256 cells never needs more than
 //! 128 stretches that do not touch.
 
+use crate::axes::Axes;
 use crate::call::{Call, COUNTS, ROW};
 use crate::scene::{pair_at, u16_at, u32_at, Patch, Scene, HEADER, NONE, SIZES};
 use crate::vector::{cross, dot, minus, normal, side, wide, Point, Vector};
@@ -31,10 +32,17 @@ impl Gate {
                 (8, patches_convex),
                 (9, patches_on_their_sides),
                 (10, view_in_range),
+                (14, axes_proper),
                 (11, lengths_fit),
                 (12, counter_can_rise),
             ],
         }
+    }
+
+    /// Every number but 0, in the order of asking.
+    pub fn numbers(&self) -> Vec<u32> {
+        let later = self.questions.iter().map(|question| question.0);
+        [1, 2].into_iter().chain(later).collect()
     }
 
     pub fn judge(&self, call: &Call) -> u32 {
@@ -238,12 +246,27 @@ pub fn on_side(plane: &[Point; 3], sign: i128, patch: &Patch) -> bool {
 
 /// 10: "Is the eye within ±10,000, width 1 to 256, height 1 to 128, lens 1 to
 /// 4,096?"
-fn view_in_range(call: &Call, _: &Scene) -> bool {
+pub fn view_in_range(call: &Call, _: &Scene) -> bool {
     let view = &call.view;
     in_range(&view.eye)
         && (1..=256).contains(&view.width)
         && (1..=128).contains(&view.height)
         && (1..=4_096).contains(&view.lens)
+}
+
+/// 14: "when a part is out of range or right · (forward × up) is not above 0,
+/// put right after question 10."
+pub fn axes_proper(call: &Call, _: &Scene) -> bool {
+    parts_within(&call.view.axes, -100, 100) && call.view.axes.volume() > 0
+}
+
+/// "each part from −100 to 100".
+pub fn parts_within(axes: &Axes, low: i16, high: i16) -> bool {
+    let vectors = axes.vectors();
+    vectors
+        .iter()
+        .flatten()
+        .all(|part| (low..=high).contains(part))
 }
 
 /// 11: "Has the picture (u16) width × height cells, the counts (u32) 1,025,

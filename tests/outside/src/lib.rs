@@ -1,14 +1,21 @@
 //! An outside check of the lining survey, in exact whole numbers.
 //!
-//! The model: `vector`, `scene`, `gate`, `ray`, `survey`, `bill`, `stations`.
-//! The cases: `random`, `polygon`, `soup`, `works`, `tree`, `loose`, `view`,
-//! `generate`, `damage`, `stored`, `header`, `outer`, `pairs`.
+//! The model: `vector`, `axes`, `scene`, `gate`, `ray`, `survey`, `bill`,
+//! `stations`.
+//! The cases: `random`, `polygon`, `soup`, `works`, `tree`, `loose`, `mount`,
+//! `view`, `generate`, `damage`, `stored`, `header`, `outer`, `pairs`.
+//! Cases with what is due known beforehand: `trial`, `turned`, and from files
+//! `block`, `cases`.
 //! The comparison: `compare`, `differential`; and what shows that it can
-//! fail: `fault`, `wrong_gate`, `wrong_questions`, `wrong_paint`; and the
-//! model against itself: `consistency`.
+//! fail: `fault`, `wrong_gate`, `wrong_questions`, `wrong_paint`,
+//! `wrong_camera`, `altered`; and the model against itself: `consistency`.
 
+pub mod altered;
+pub mod axes;
 pub mod bill;
+pub mod block;
 pub mod call;
+pub mod cases;
 pub mod compare;
 pub mod consistency;
 pub mod damage;
@@ -18,6 +25,7 @@ pub mod gate;
 pub mod generate;
 pub mod header;
 pub mod loose;
+pub mod mount;
 pub mod outer;
 pub mod pairs;
 pub mod polygon;
@@ -29,9 +37,12 @@ pub mod stations;
 pub mod stored;
 pub mod survey;
 pub mod tree;
+pub mod trial;
+pub mod turned;
 pub mod vector;
 pub mod view;
 pub mod works;
+pub mod wrong_camera;
 pub mod wrong_gate;
 pub mod wrong_paint;
 pub mod wrong_questions;

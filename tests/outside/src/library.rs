@@ -10,6 +10,15 @@ extern "C" {
         eye_x: i16,
         eye_y: i16,
         eye_z: i16,
+        right_x: i16,
+        right_y: i16,
+        right_z: i16,
+        forward_x: i16,
+        forward_y: i16,
+        forward_z: i16,
+        up_x: i16,
+        up_y: i16,
+        up_z: i16,
         width: u16,
         height: u16,
         lens: u16,
@@ -28,6 +37,15 @@ extern "C" {
         eye_x: i16,
         eye_y: i16,
         eye_z: i16,
+        right_x: i16,
+        right_y: i16,
+        right_z: i16,
+        forward_x: i16,
+        forward_y: i16,
+        forward_z: i16,
+        up_x: i16,
+        up_y: i16,
+        up_z: i16,
         width: u16,
         height: u16,
         lens: u16,
@@ -43,6 +61,7 @@ pub struct Linked;
 impl Library for Linked {
     fn survey(&self, call: &Call, lent: &mut Lent) -> u32 {
         let view = &call.view;
+        let [right, forward, up] = view.axes.vectors();
         // Every pointer is lent with the length of its own allocation.
         unsafe {
             ring_survey(
@@ -51,6 +70,15 @@ impl Library for Linked {
                 view.eye[0],
                 view.eye[1],
                 view.eye[2],
+                right[0],
+                right[1],
+                right[2],
+                forward[0],
+                forward[1],
+                forward[2],
+                up[0],
+                up[1],
+                up[2],
                 view.width,
                 view.height,
                 view.lens,
@@ -67,6 +95,7 @@ impl Library for Linked {
 
     fn gate(&self, call: &Call) -> u32 {
         let view = &call.view;
+        let [right, forward, up] = view.axes.vectors();
         // Only the scene is lent; the other lengths are plain numbers.
         unsafe {
             ring_gate(
@@ -75,6 +104,15 @@ impl Library for Linked {
                 view.eye[0],
                 view.eye[1],
                 view.eye[2],
+                right[0],
+                right[1],
+                right[2],
+                forward[0],
+                forward[1],
+                forward[2],
+                up[0],
+                up[1],
+                up[2],
                 view.width,
                 view.height,
                 view.lens,

@@ -1,11 +1,13 @@
-//! The library set against the model, case by case.
+//! The library set against the stored cases, the turned stations, and the model
+//! case by case.
 //!
 //!     differential [--cases N] [--seed S] [--only K] [--small] [--trace]
 //!                  [--out DIR] [--ringbill PROGRAM]
 //!
-//! A case that differs is written to DIR as an input of `ringbill`. `--only`
-//! runs case K alone, `--trace` names each case before it runs, `--small`
-//! keeps cases cheap, `--ringbill` sets the program against the model too.
+//! A case that differs is written to DIR as an input of `ringbill`, its axes in
+//! what is printed. `--only` runs case K alone, `--trace` names each case before
+//! it runs, `--small` keeps cases cheap, `--ringbill` sets the program, whose
+//! view is level, against the model too.
 
 mod library;
 
@@ -18,8 +20,10 @@ use library::Linked;
 use outside::bill::{bill, LONGEST, SHORTEST};
 use outside::compare::Difference;
 use outside::differential::{case, put, Case, Tally};
+use outside::gate::Gate;
 use outside::generate::{FULL, SMALL};
 use outside::random::Random;
+use outside::trial::hold_all;
 
 struct Options {
     cases: u64,
@@ -71,9 +75,9 @@ fn main() {
     let options = options();
     let size = if options.small { SMALL } else { FULL };
     let mut tally = Tally::default();
-    let numbers = match options.only {
-        Some(k) => k..k + 1,
-        None => 0..options.cases,
+    let (numbers, known) = match options.only {
+        Some(k) => (k..k + 1, 0),
+        None => (0..options.cases, hold_all(|_| Linked)),
     };
     for k in numbers {
         let made = case(options.seed, k, size);
@@ -93,7 +97,8 @@ fn main() {
             keep(&options, k, &made, &differences);
         }
     }
-    exit(report(&options, &tally));
+    let status = report(&options, &tally);
+    exit(status.max(i32::from(known > 0)));
 }
 
 /// Writes a case that differs, one file a scene.
@@ -122,13 +127,18 @@ fn report(options: &Options, tally: &Tally) -> i32 {
     for (answer, times) in &tally.answers {
         println!("{times:8} answered {answer}");
     }
-    println!("{:8} cells, {} of them lit", tally.cells, tally.lit);
+    for (shown, name) in [(&tally.level, "level"), (&tally.turned, "turned")] {
+        println!(
+            "{:8} {name} views accepted: {} cells, {} of them lit",
+            shown.pictures, shown.cells, shown.lit
+        );
+    }
     for (difference, times) in &tally.differences {
         println!("{times:8} differences: {difference:?}");
     }
-    let silent: Vec<u32> = (0..=12)
-        .filter(|answer| !tally.answers.contains_key(answer))
-        .collect();
+    let mut silent = vec![0];
+    silent.extend(Gate::of_the_paper().numbers());
+    silent.retain(|answer| !tally.answers.contains_key(answer));
     let thin = tally.cases >= 500 && !silent.is_empty();
     if thin {
         println!("never answered: {silent:?}");

@@ -1,6 +1,8 @@
-//! Damage to the call around the scene, aimed at questions 10 to 12.
+//! Damage to the call around the scene, aimed at questions 10 to 12 and 14.
 
+use crate::axes::{Axes, LEVEL};
 use crate::call::{Call, View, COUNTS, ROW};
+use crate::mount;
 use crate::random::Random;
 
 pub type CallHarm = fn(&mut Call, &mut Random);
@@ -8,6 +10,9 @@ pub type CallHarm = fn(&mut Call, &mut Random);
 pub const CALL: &[(u32, CallHarm)] = &[
     (10, eye_out),
     (10, window_out),
+    (14, part_out),
+    (14, vectors_in_a_plane),
+    (14, vectors_mirrored),
     (11, picture_length),
     (11, counts_length),
     (11, unlit_length),
@@ -34,6 +39,36 @@ fn window_out(call: &mut Call, rng: &mut Random) {
         call.picture_len = fitting.picture_len;
         call.unlit_len = fitting.unlit_len;
     }
+}
+
+fn part_out(call: &mut Call, rng: &mut Random) {
+    let ends = [-101, 101, -101, 101, -32_768, 32_767, -100, 100];
+    *call.view.axes.part(rng.below(9)) = rng.pick(&ends);
+}
+
+/// One vector is another, or none, or the sum of the others: the volume is 0.
+fn vectors_in_a_plane(call: &mut Call, rng: &mut Random) {
+    let mut vectors = call.view.axes.vectors();
+    let at = rng.below(3);
+    let [one, other] = [1, 2].map(|k| vectors[(at + k) % 3]);
+    vectors[at] = match rng.below(4) {
+        0 => one,
+        1 => other,
+        2 => [0; 3],
+        _ => [0, 1, 2].map(|k: usize| one[k].wrapping_add(other[k])),
+    };
+    call.view.axes = Axes::of(vectors);
+}
+
+/// Two vectors change places, or one is turned about.
+fn vectors_mirrored(call: &mut Call, rng: &mut Random) {
+    let mut vectors = call.view.axes.vectors();
+    let at = rng.below(3);
+    match rng.once_in(2) {
+        true => vectors.swap(at, (at + 1) % 3),
+        false => vectors[at] = vectors[at].map(i16::wrapping_neg),
+    }
+    call.view.axes = Axes::of(vectors);
 }
 
 fn length(rng: &mut Random, right: usize) -> usize {
@@ -71,14 +106,10 @@ fn counter_full(call: &mut Call, rng: &mut Random) {
     call.counter = rng.pick(&[u32::MAX, u32::MAX, u32::MAX - 1, 0]);
 }
 
-/// Every end of questions 10 to 12, just inside and just outside, and two
-/// questions at once.
+/// Every end of questions 10 to 12 and 14, just inside and just outside, and
+/// two questions at once.
 pub fn ends(call: &Call) -> Vec<Call> {
-    let changed = |change: &dyn Fn(&mut Call)| {
-        let mut other = call.clone();
-        change(&mut other);
-        other
-    };
+    let changed = |change: &dyn Fn(&mut Call)| changed(call, change);
     let seen = |view: View| Call::new(call.scene.to_vec(), view);
     let mut all = Vec::new();
     for axis in 0..3 {
@@ -102,6 +133,53 @@ pub fn ends(call: &Call) -> Vec<Call> {
         all.push(changed(&|c| (c.view.lens, c.counter) = (0, counter)));
     }
     all.push(changed(&|c| (c.view.lens, c.counts_len) = (4_097, 0)));
+    all.extend(ends_of_axes().map(|axes| changed(&|c| c.view.axes = axes)));
+    all.extend(axes_and_another(call));
+    all
+}
+
+fn changed(call: &Call, change: &dyn Fn(&mut Call)) -> Call {
+    let mut other = call.clone();
+    change(&mut other);
+    other
+}
+
+/// Each part at its ends, and volumes of 0, next to 0 and as large as can be.
+fn ends_of_axes() -> impl Iterator<Item = Axes> {
+    let parts = (0..9).flat_map(|k| [-101, -100, 100, 101].map(|n| mount::with_part(k, n)));
+    let thin = [[99, 98, 0], [100, 99, 0], [0, 0, 1]];
+    let great = [[-100, 100, 100], [100, -100, 100], [100, 100, -100]];
+    let flat = [[100, 99, 98], [1, 1, 1], [99, 98, 97]];
+    let volumes = [thin, great, flat].into_iter().flat_map(|vectors| {
+        let [right, forward, up] = vectors;
+        [[right, forward, up], [forward, right, up]].map(Axes::of)
+    });
+    parts.chain(volumes)
+}
+
+/// A no to 14 and another: only the one asked first may answer.
+fn axes_and_another(call: &Call) -> Vec<Call> {
+    let others: [&dyn Fn(&mut Call); 7] = [
+        &|c| c.scene = c.scene[1..].into(),
+        &|c| c.view.eye[2] = 10_001,
+        &|c| c.view.lens = 0,
+        &|c| c.picture_len = stepped(c.picture_len, -1),
+        &|c| c.counts_len = 0,
+        &|c| c.unlit_len = stepped(c.unlit_len, 1),
+        &|c| c.counter = u32::MAX,
+    ];
+    let flat = Axes {
+        up: LEVEL.forward,
+        ..LEVEL
+    };
+    let mut all = Vec::new();
+    for axes in [mount::with_part(5, 101), flat] {
+        let with = |other: &dyn Fn(&mut Call)| {
+            let turned = changed(call, &|c| c.view.axes = axes);
+            changed(&turned, other)
+        };
+        all.extend(others.map(with));
+    }
     all
 }
 
@@ -127,6 +205,7 @@ pub fn beyond_memory(call: &mut Call, rng: &mut Random) {
 pub fn any_window(rng: &mut Random) -> View {
     View {
         eye: [0; 3].map(|_| rng.between(-10_000, 10_000) as i16),
+        axes: mount::any(rng),
         width: rng.between(1, 256) as u16,
         height: rng.between(1, 128) as u16,
         lens: rng.between(1, 4_096) as u16,

@@ -9,6 +9,17 @@ pub fn point(p: [i64; 3]) -> Option<Point> {
     fits.then(|| p.map(|n| n as i16))
 }
 
+/// The greatest number that divides all three parts, 1 where all are 0.
+pub fn divisor(p: [i64; 3]) -> i64 {
+    fn common(a: i64, b: i64) -> i64 {
+        match b {
+            0 => a,
+            _ => common(b, a % b),
+        }
+    }
+    p.iter().fold(0, |a, b| common(a, b.abs())).max(1)
+}
+
 /// The strict hull of points in a plane with this normal, one way round.
 pub fn hull(mut points: Vec<Point>, n: Vector) -> Vec<Point> {
     let axis = (0..3).max_by_key(|&k| n[k].abs()).unwrap_or(0);

@@ -5,10 +5,12 @@ use crate::gate::patch_normal;
 use crate::scene::Patch;
 use crate::vector::{cross, dot, minus, wide, Vector};
 
-/// "The cell's direction is (2i + 1 − width, lens, height − 1 − 2j)".
+/// "A cell's direction is (2i + 1 − width) times right plus lens times forward
+/// plus (height − 1 − 2j) times up."
 pub fn direction(view: &View, i: usize, j: usize) -> Vector {
     let [width, height, lens] = [view.width, view.height, view.lens].map(i128::from);
-    [2 * i as i128 + 1 - width, lens, height - 1 - 2 * j as i128]
+    let (i, j) = (i as i128, j as i128);
+    view.axes.sum([2 * i + 1 - width, lens, height - 1 - 2 * j])
 }
 
 /// "the eye-to-corner product (first corner − eye) · n".

@@ -1,19 +1,26 @@
 //! The outside check checked, without the library.
 //!
-//! `selftest` runs the paper's stations, the model against itself and the
-//! comparison against faulty libraries. `selftest --bill` reads an input of
-//! `ringbill` and prints what the model makes of it.
+//! `selftest` runs the paper's stations and the stored cases on the model, the
+//! model against itself and the comparison against faulty libraries.
+//! `selftest --bill` reads an input of `ringbill` and prints what the model
+//! makes of it.
 
 use std::io::Read;
 use std::process::exit;
 
+use outside::altered::{every_line, files_are_refused};
 use outside::bill::bill;
-use outside::consistency::{pair_holds, parts_are_told_apart, rays_agree, sums_hold};
+use outside::block::Reading;
+use outside::consistency::{
+    old_directions_hold, pair_holds, parts_are_told_apart, rays_agree, sums_hold, turned_back,
+};
 use outside::differential::{case, put, Case, Tally};
 use outside::fault::Faulty;
 use outside::generate::{FULL, SMALL};
 use outside::random::Random;
 use outside::stations::stations;
+use outside::survey::Due;
+use outside::trial::hold_all;
 
 const SEED: u64 = 20;
 
@@ -26,10 +33,17 @@ fn main() {
         return;
     }
     let mut failed = 0;
-    for (name, held) in stations().into_iter().chain(parts_are_told_apart()) {
+    let old = [("the old view's directions", old_directions_hold())];
+    let told = stations().into_iter().chain(parts_are_told_apart());
+    for (name, held) in told.chain(old) {
         println!("{} {name}", if held { "holds" } else { "FAILS" });
         failed += usize::from(!held);
     }
+    failed += hold_all(Due::of);
+    failed += alterations_show().unwrap_or_else(|why| {
+        println!("FAILS {why}");
+        1
+    });
     failed += consistent(400);
     failed += sound(300);
     failed += faults(6_000);
@@ -37,16 +51,27 @@ fn main() {
     exit(i32::from(failed > 0));
 }
 
+/// No stored case can be altered unseen.
+fn alterations_show() -> Reading<usize> {
+    let (seen, missed) = every_line()?;
+    println!("altered cases: {seen} seen, {missed} missed");
+    let refused = files_are_refused()?;
+    println!("{} broken files", if refused { "refused" } else { "READ" });
+    Ok(missed + usize::from(!refused) + usize::from(seen == 0))
+}
+
 /// Rays, sums and pairs of made scenes.
 fn consistent(cases: u64) -> usize {
-    let (mut scenes, mut pairs, mut failed) = (0, 0, 0);
+    let (mut scenes, mut pairs, mut back, mut failed) = (0, 0, 0, 0);
     for number in 0..cases {
         let made = case(SEED, number, SMALL);
         let mut rng = Random::new(SEED, !number);
         let held = match &made {
             Case::Scene(_, call) => {
                 scenes += 1;
-                rays_agree(call) && sums_hold(call)
+                let turned = turned_back(call);
+                back += usize::from(turned.is_some());
+                rays_agree(call) && sums_hold(call) && turned.unwrap_or(true)
             }
             Case::Two(_, pair) => {
                 pairs += 1;
@@ -59,8 +84,8 @@ fn consistent(cases: u64) -> usize {
             failed += 1;
         }
     }
-    println!("consistent: {scenes} scenes, {pairs} pairs, {failed} failed");
-    failed
+    println!("consistent: {scenes} scenes, {back} turned back, {pairs} pairs, {failed} failed");
+    failed + usize::from(scenes == 0 || back == 0 || pairs == 0)
 }
 
 /// No fault, no difference. Few cases: the comparison with the library itself runs on thousands.

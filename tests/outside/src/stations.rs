@@ -1,5 +1,6 @@
 //! The stations tried in the paper, starred and unstarred, on the model.
 
+use crate::axes::LEVEL;
 use crate::bill::bill;
 use crate::call::{Call, View};
 use crate::loose::{Loose, Site};
@@ -10,6 +11,7 @@ use crate::vector::Point;
 /// "Eye and window as above unless said."
 pub const VIEW: View = View {
     eye: [0, 0, 0],
+    axes: LEVEL,
     width: 4,
     height: 4,
     lens: 4,
@@ -26,7 +28,7 @@ fn square(panel: u16, half: i16, forward: i16) -> Patch {
 }
 
 /// A node on the plane of its first patch.
-fn site(patches: Vec<Patch>) -> Site {
+pub fn site(patches: Vec<Patch>) -> Site {
     let corners = &patches[0].corners;
     Site {
         points: [corners[0], corners[1], corners[2]],
@@ -36,7 +38,7 @@ fn site(patches: Vec<Patch>) -> Site {
     }
 }
 
-fn scene_of(sites: Vec<Site>) -> Scene {
+pub fn scene_of(sites: Vec<Site>) -> Scene {
     Loose { sites }.pack()
 }
 

@@ -1,6 +1,6 @@
 //! The whole answer to a call: picture, counts and unlit lists.
 
-use crate::call::{Call, View, COUNTS, ROW};
+use crate::call::{Call, Lent, Library, View, COUNTS, ROW};
 use crate::gate::Gate;
 use crate::ray::{closest, direction};
 use crate::scene::{Patch, Scene};
@@ -24,6 +24,41 @@ pub fn survey(call: &Call) -> Result<Done, u32> {
     }
 }
 
+/// What is due for a call: its result, and the counter after it.
+#[derive(Clone, Debug, PartialEq, Eq)]
+pub struct Due {
+    pub result: Result<Done, u32>,
+    pub counter: u32,
+}
+
+impl Due {
+    pub fn of(call: &Call) -> Due {
+        let result = survey(call);
+        // "It rises by one with each accepted picture."
+        let counter = call.counter + u32::from(result.is_ok());
+        Due { result, counter }
+    }
+
+    pub fn answer(&self) -> u32 {
+        self.result.as_ref().err().copied().unwrap_or(0)
+    }
+}
+
+/// A library that leaves just what is due, whatever it is asked.
+impl Library for Due {
+    fn survey(&self, _: &Call, lent: &mut Lent) -> u32 {
+        if let Ok(done) = &self.result {
+            done.leave(lent);
+        }
+        lent.counter = self.counter;
+        self.answer()
+    }
+
+    fn gate(&self, _: &Call) -> u32 {
+        self.answer()
+    }
+}
+
 /// The cells row after row from the top, cell (i, j) at j × width + i.
 pub fn picture(patches: &[Patch], view: &View) -> Vec<u16> {
     let (width, eye) = (usize::from(view.width), wide(view.eye));
@@ -41,6 +76,13 @@ impl Done {
             counts: counts(&picture),
             picture,
         }
+    }
+
+    /// Fills the lent buffers; the counter is not touched.
+    pub fn leave(&self, lent: &mut Lent) {
+        lent.picture.copy_from_slice(&self.picture);
+        lent.counts.copy_from_slice(&self.counts);
+        lent.unlit.copy_from_slice(&self.unlit);
     }
 }
 

@@ -9,6 +9,14 @@ pub fn wide(p: Point) -> Vector {
     p.map(i128::from)
 }
 
+pub fn plus(p: Vector, q: Vector) -> Vector {
+    [p[0] + q[0], p[1] + q[1], p[2] + q[2]]
+}
+
+pub fn times(n: i128, p: Vector) -> Vector {
+    p.map(|part| n * part)
+}
+
 pub fn minus(p: Vector, q: Vector) -> Vector {
     [p[0] - q[0], p[1] - q[1], p[2] - q[2]]
 }

@@ -1,8 +1,10 @@
-//! Stations and windows: many sight lines pass exactly through corners and
-//! edges, many eyes stand on planes.
+//! Stations, cameras and windows: many sight lines pass exactly through corners
+//! and edges, many eyes stand on planes.
 
+use crate::axes::Axes;
 use crate::call::View;
-use crate::polygon::point;
+use crate::mount;
+use crate::polygon::{divisor, point};
 use crate::random::Random;
 use crate::ray::direction;
 use crate::scene::Patch;
@@ -12,28 +14,46 @@ use crate::vector::Point;
 /// A view of the patches with at most `work` rays times patches, or so.
 pub fn choose(rng: &mut Random, patches: &[Patch], work: usize) -> View {
     let most = (work / patches.len().max(1)).max(16);
+    let axes = mount::any(rng);
     if !patches.is_empty() && rng.once_in(2) {
-        if let Some(view) = framed(rng, patches, most) {
+        if let Some(view) = framed(rng, patches, axes, most) {
             return view;
         }
     }
     let (width, height) = size(rng, most);
     let mut view = View {
         eye: [0, 0, 0],
+        axes,
         width,
         height,
         lens: lens(rng, width),
     };
-    let eye = match rng.below(10) {
-        _ if patches.is_empty() => None,
-        0..=4 => aimed(rng, patches, &view),
-        5 => in_plane(rng, patches),
-        6 => middle(rng, patches),
-        7 | 8 => among(rng, patches),
-        _ => None,
-    };
-    view.eye = eye.unwrap_or_else(|| [0; 3].map(|_| end(rng) as i16));
+    if patches.is_empty() {
+        view.eye = anywhere(rng);
+    } else if rng.once_in(2) {
+        view.eye = aimed(rng, patches, &view).unwrap_or_else(|| anywhere(rng));
+    } else {
+        view.eye = standing(rng, patches).unwrap_or_else(|| anywhere(rng));
+        if rng.once_in(2) {
+            let target = target(rng, patches);
+            view.axes = mount::facing(rng, view.eye, target).unwrap_or(axes);
+        }
+    }
     view
+}
+
+fn anywhere(rng: &mut Random) -> Point {
+    [0; 3].map(|_| end(rng) as i16)
+}
+
+/// An eye on a patch's plane, or in the midst of the patches.
+fn standing(rng: &mut Random, patches: &[Patch]) -> Option<Point> {
+    match rng.below(5) {
+        0 => in_plane(rng, patches),
+        1 => middle(rng, patches),
+        2 | 3 => among(rng, patches),
+        _ => None,
+    }
 }
 
 fn size(rng: &mut Random, most: usize) -> (u16, u16) {
@@ -86,22 +106,26 @@ fn target(rng: &mut Random, patches: &[Patch]) -> [i64; 3] {
     }
 }
 
-/// A close view: a small step leads from the eye to a target, and a multiple
-/// of the step is the direction of a cell.
-fn framed(rng: &mut Random, patches: &[Patch], most: usize) -> Option<View> {
+/// A close view: a small step, told by right, forward and up, leads from the
+/// eye to a target, and a multiple of the step is the direction of a cell.
+fn framed(rng: &mut Random, patches: &[Patch], axes: Axes, most: usize) -> Option<View> {
     let target = target(rng, patches);
     let step = [rng.between(-3, 3), rng.between(1, 5), rng.between(-2, 2)];
     let corners = patches.iter().flat_map(|p| p.corners.iter());
     let reach = corners.flatten().map(|n| i64::from(n.abs())).max();
-    let far = rng.between(1, reach.unwrap_or(1).clamp(1, 2_000));
     let fine = rng.pick(&[1, 2, 3, 7, 12, 30, 60]);
     let along = step.map(|n| fine * n);
     // Cells on both sides of the one aimed at; the parity is that of its
     // direction.
     let width = along[0].abs() + 1 + 2 * rng.between(0, 3 * fine);
     let height = along[2].abs() + 1 + 2 * rng.between(0, 2 * fine);
+    let step = axes.sum(step.map(i128::from)).map(|n| n as i64);
+    let step = step.map(|n| n / divisor(step));
+    let room = 10_000 / step.iter().map(|n| n.abs()).max().unwrap_or(1);
+    let far = rng.between(1, reach.unwrap_or(1).clamp(1, room.min(2_000)));
     let view = View {
         eye: point([0, 1, 2].map(|k| target[k] - far * step[k]))?,
+        axes,
         width: width as u16,
         height: height as u16,
         lens: along[1] as u16,
@@ -116,6 +140,7 @@ fn aimed(rng: &mut Random, patches: &[Patch], view: &View) -> Option<Point> {
     let i = rng.below(usize::from(view.width));
     let j = rng.below(usize::from(view.height));
     let along = direction(view, i, j).map(|n| n as i64);
+    let along = along.map(|n| n / divisor(along));
     let most = (0..3).filter(|&k| along[k] != 0).map(|k| {
         let room = 10_000 + target[k] * along[k].signum();
         room / along[k].abs()
@@ -132,17 +157,9 @@ fn aimed(rng: &mut Random, patches: &[Patch], view: &View) -> Option<Point> {
 /// A lattice point of the edge, its ends among them.
 fn on_edge(rng: &mut Random, v: [i64; 3], w: [i64; 3]) -> [i64; 3] {
     let apart = [0, 1, 2].map(|k| w[k] - v[k]);
-    let parts = apart.iter().fold(0, |a, b| common(a, b.abs())).max(1);
+    let parts = divisor(apart);
     let part = rng.between(0, parts);
     [0, 1, 2].map(|k| v[k] + apart[k] / parts * part)
-}
-
-fn common(a: i64, b: i64) -> i64 {
-    if b == 0 {
-        a
-    } else {
-        common(b, a % b)
-    }
 }
 
 fn centre(corners: &[Point]) -> [i64; 3] {

@@ -1,6 +1,8 @@
 //! Built works: stacks of parallel patches, combs of columns and linings.
 
+use crate::axes::{Axes, LEVEL};
 use crate::call::View;
+use crate::mount;
 use crate::polygon::{dressed, hull, point, Basis};
 use crate::random::Random;
 use crate::scene::Patch;
@@ -36,52 +38,67 @@ pub fn stack(rng: &mut Random, most: usize) -> Vec<Corners> {
     patches.collect()
 }
 
-/// Lit columns between unlit ones, up to 128 stretches in a row of 256. Each
-/// tooth stops short of the neighbour's sight line or ends exactly on it.
+/// Lit columns between unlit ones, up to 128 stretches in a row of 256,
+/// whichever way the camera is turned.
 pub fn comb(rng: &mut Random, work: usize) -> (Vec<Corners>, View) {
     let width = rng.pick(&[256, 256, 256, 255, 254, 64, 9]);
     let height = (work as i64 / (width * width / 2)).clamp(1, 6);
-    let height = rng.between(1, height);
-    let depths: Vec<i64> = (0..1 + rng.below(3)).map(|_| rng.between(1, 18)).collect();
-    let lens = rng.between(1, 500);
-    let eye = [0; 3].map(|_| rng.between(-400, 400));
-    let (parity, dense, whole) = (rng.between(0, 1), rng.once_in(2), rng.once_in(2));
+    let axes = match rng.below(4) {
+        0 | 1 => LEVEL,
+        2 => mount::quarter(rng),
+        _ => mount::small(rng),
+    };
+    let view = View {
+        eye: [0; 3].map(|_| rng.between(-400, 400) as i16),
+        axes,
+        width: width as u16,
+        height: rng.between(1, height) as u16,
+        lens: rng.between(1, 500) as u16,
+    };
+    let deepest = (18 / spread(&axes)).max(1);
+    let depths: Vec<i64> = (0..1 + rng.below(3))
+        .map(|_| rng.between(1, deepest))
+        .collect();
+    let (parity, dense, whole) = (rng.below(2), rng.once_in(2), rng.once_in(2));
     let mut teeth = Vec::new();
-    for i in 0..width {
-        let lit = if dense {
-            i % 2 == parity
-        } else {
-            rng.once_in(2)
+    for i in 0..usize::from(view.width) {
+        let lit = match dense {
+            true => i % 2 == parity,
+            false => rng.once_in(2),
         };
-        if !lit {
-            continue;
-        }
-        let k = rng.pick(&depths);
-        let reach = rng.pick(&[1, k, 2 * k - 1, 2 * k, 2 * k]);
-        let middle = eye[0] + k * (2 * i + 1 - width);
-        let up = match whole {
-            true => k * height,
-            false => k * rng.between(0, height) + rng.between(0, 1),
-        };
-        let corner = |x: i64, z: i64| point([middle + x * reach, eye[1] + k * lens, eye[2] + z]);
-        let square = [
-            corner(-1, -up),
-            corner(1, -up),
-            corner(1, up),
-            corner(-1, up),
-        ];
-        let square: Corners = square.into_iter().flatten().collect();
-        if up > 0 {
-            teeth.push(square);
+        if lit {
+            let depth = rng.pick(&depths);
+            teeth.extend(tooth(rng, &view, i, depth, whole));
         }
     }
-    let view = View {
-        eye: eye.map(|n| n as i16),
-        width: width as u16,
-        height: height as u16,
-        lens: lens as u16,
-    };
     (teeth, view)
+}
+
+/// How far one unit along each vector can lead along an axis of the scene.
+fn spread(axes: &Axes) -> i64 {
+    let along = |k: usize| axes.vectors().map(|v| i64::from(v[k].abs())).iter().sum();
+    (0..3).map(along).max().unwrap_or(1)
+}
+
+/// The tooth of column i, so many times the direction away. It stops short of
+/// the neighbour's sight line or ends exactly on it. One beyond the range, or
+/// of no height, falls out.
+fn tooth(rng: &mut Random, view: &View, i: usize, depth: i64, whole: bool) -> Option<Corners> {
+    let height = i64::from(view.height);
+    let reach = rng.pick(&[1, depth, 2 * depth - 1, 2 * depth, 2 * depth]);
+    let up = match whole {
+        true => depth * height,
+        false => depth * rng.between(0, height) + rng.between(0, 1),
+    };
+    let middle = depth * (2 * i as i64 + 1 - i64::from(view.width));
+    let corner = |(side, above): (i64, i64)| {
+        let told = [middle + side * reach, depth * i64::from(view.lens), above];
+        let from = view.axes.sum(told.map(i128::from)).map(|n| n as i64);
+        point([0, 1, 2].map(|k| i64::from(view.eye[k]) + from[k]))
+    };
+    let square = [(-1, -up), (1, -up), (1, up), (-1, up)];
+    let corners: Option<Corners> = square.into_iter().map(corner).collect();
+    corners.filter(|_| up > 0)
 }
 
 /// Rings of panels around the bore, straight or bent, with gaps, a face at the
@@ -139,6 +156,7 @@ pub fn lining(rng: &mut Random, most: usize) -> (Vec<Patch>, View) {
     ];
     let view = View {
         eye: eye.map(|n| n as i16),
+        axes: mount::any(rng),
         width: rng.between(1, 48) as u16,
         height: rng.between(1, 32) as u16,
         lens: rng.between(1, 60) as u16,

@@ -118,6 +118,50 @@ pub const WRONG: &[WrongGate] = &[
                 && c.view.lens <= 4_096
         })
     }),
+    ("14: left out", || without(14)),
+    ("14: 101 passes", || {
+        asked(14, |c, _| axes_fit(c, -100, 101))
+    }),
+    ("14: −101 passes", || {
+        asked(14, |c, _| axes_fit(c, -101, 100))
+    }),
+    ("14: 99 at most", || asked(14, |c, _| axes_fit(c, -100, 99))),
+    ("14: −99 at least", || {
+        asked(14, |c, _| axes_fit(c, -99, 100))
+    }),
+    ("14: first part of right unseen", || asked(14, unseen::<0>)),
+    ("14: second part of right unseen", || asked(14, unseen::<1>)),
+    ("14: third part of right unseen", || asked(14, unseen::<2>)),
+    ("14: first part of forward unseen", || {
+        asked(14, unseen::<3>)
+    }),
+    ("14: second part of forward unseen", || {
+        asked(14, unseen::<4>)
+    }),
+    ("14: third part of forward unseen", || {
+        asked(14, unseen::<5>)
+    }),
+    ("14: first part of up unseen", || asked(14, unseen::<6>)),
+    ("14: second part of up unseen", || asked(14, unseen::<7>)),
+    ("14: third part of up unseen", || asked(14, unseen::<8>)),
+    ("14: volume unseen", || {
+        asked(14, |c, _| volume(c, |_| true))
+    }),
+    ("14: a volume of 0 passes", || {
+        asked(14, |c, _| volume(c, |v| v >= 0))
+    }),
+    ("14: mirrored passes", || {
+        asked(14, |c, _| volume(c, |v| v != 0))
+    }),
+    ("14: a volume of 1 refused", || {
+        asked(14, |c, _| volume(c, |v| v > 1))
+    }),
+    ("14: volume in 16 bits", || {
+        asked(14, |c, _| volume(c, |v| v as i16 > 0))
+    }),
+    ("14 within 10", || {
+        asked(10, |c, s| view_in_range(c, s) && axes_proper(c, s))
+    }),
     ("11: longer picture", || {
         asked(11, |c, _| {
             c.picture_len >= c.view.cells() && c.counts_len == COUNTS && unlit_fits(c)
@@ -146,8 +190,11 @@ pub const WRONG: &[WrongGate] = &[
     ("7 after 8", || swapped(7)),
     ("8 after 9", || swapped(8)),
     ("9 after 10", || swapped(9)),
-    ("10 after 11", || swapped(10)),
+    ("10 after 14", || swapped(10)),
+    ("14 after 11", || swapped(14)),
     ("11 after 12", || swapped(11)),
+    ("14 after all", || moved(14, 12)),
+    ("14 before all but 1 and 2", || moved(14, 3)),
 ];
 
 /// Shows only where the gate alone is asked: nobody lends so much.
@@ -185,9 +232,26 @@ fn without(number: u32) -> Gate {
     asked(number, |_, _| true)
 }
 
+fn place(gate: &Gate, number: u32) -> usize {
+    let mut numbers = gate.questions.iter().map(|question| question.0);
+    numbers
+        .position(|own| own == number)
+        .expect("a question of this number")
+}
+
+/// The question changes places with the next.
 fn swapped(number: u32) -> Gate {
     let mut gate = Gate::of_the_paper();
-    gate.questions
-        .swap(number as usize - 3, number as usize - 2);
+    let at = place(&gate, number);
+    gate.questions.swap(at, at + 1);
+    gate
+}
+
+/// The question is asked in the place of another.
+fn moved(number: u32, other: u32) -> Gate {
+    let mut gate = Gate::of_the_paper();
+    let (from, to) = (place(&gate, number), place(&gate, other));
+    let question = gate.questions.remove(from);
+    gate.questions.insert(to, question);
     gate
 }

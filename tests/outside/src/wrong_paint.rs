@@ -1,6 +1,7 @@
 //! Painters and writers that are right but for one thing.
 
-use crate::call::{Call, Lent, ROW};
+use crate::axes::LEVEL;
+use crate::call::{Lent, View, ROW};
 use crate::compare::Difference;
 use crate::gate::patch_normal;
 use crate::ray::{closest, direction, edge_products, eye_to_corner, met};
@@ -8,79 +9,89 @@ use crate::scene::{Patch, Scene};
 use crate::survey::Done;
 use crate::vector::{dot, wide, Vector};
 
-/// What one ray sees, by its own rule.
-pub type Look = fn(&Scene, Vector, Vector) -> u16;
+/// A cell of a view, from which one ray looks.
+#[derive(Clone, Copy)]
+pub struct Cell {
+    pub view: View,
+    pub i: usize,
+    pub j: usize,
+}
+
+impl Cell {
+    pub fn eye(&self) -> Vector {
+        wide(self.view.eye)
+    }
+
+    pub fn along(&self) -> Vector {
+        direction(&self.view, self.i, self.j)
+    }
+
+    /// Is the cell left of the window's centre?
+    fn is_left(&self) -> bool {
+        2 * self.i + 1 < usize::from(self.view.width)
+    }
+
+    /// What the model shows of these patches.
+    pub fn closest(&self, patches: &[Patch]) -> u16 {
+        closest(patches, self.eye(), self.along())
+    }
+}
+
+/// What a cell shows, by its own rule.
+pub type Look = fn(&Scene, Cell) -> u16;
 
 pub const LOOKS: &[(&str, Look)] = &[
-    ("edges count as inside", |s, eye, along| {
-        by(s, eye, along, touched, exact)
+    ("edges count as inside", |s, c| by(s, c, touched, exact)),
+    ("edges count as inside, left of the centre", |s, c| {
+        by(s, c, if c.is_left() { touched } else { met }, exact)
     }),
-    (
-        "edges count as inside, left of the centre",
-        |s, eye, along| by(s, eye, along, touched_on_the_left, exact),
-    ),
-    ("sign alone: mirrored and level patches", |s, eye, along| {
-        by(s, eye, along, one_sign, exact)
+    ("edges count as inside, in a turned view", |s, c| {
+        let level = c.view.axes == LEVEL;
+        by(s, c, if level { met } else { touched }, exact)
     }),
-    ("one face only", |s, eye, along| {
-        by(s, eye, along, faced, exact)
+    ("sign alone: mirrored and level patches", |s, c| {
+        by(s, c, one_sign, exact)
     }),
-    ("edges tried to the last but one", |s, eye, along| {
-        by(s, eye, along, all_but_one, exact)
+    ("one face only", |s, c| by(s, c, faced, exact)),
+    ("edges tried to the last but one", |s, c| {
+        by(s, c, all_but_one, exact)
     }),
-    ("distance in whole numbers", |s, eye, along| {
-        by(s, eye, along, met, |a, b| (a.0 / a.1 - b.0 / b.1).signum())
+    ("distance in whole numbers", |s, c| {
+        by(s, c, met, |a, b| (a.0 / a.1 - b.0 / b.1).signum())
     }),
-    ("distance compared in 64 bits", |s, eye, along| {
-        by(s, eye, along, met, |a, b| {
+    ("distance compared in 64 bits", |s, c| {
+        by(s, c, met, |a, b| {
             let [one, two] = [a.0 * b.1, b.0 * a.1].map(|n| n as i64);
             i128::from(one > two) - i128::from(one < two)
         })
     }),
-    ("edges in 32 bits", |s, eye, along| {
-        by(s, eye, along, met_in_32_bits, exact)
-    }),
-    ("distance in single precision", |s, eye, along| {
-        by(s, eye, along, met, single)
-    }),
-    ("highest number where level", |s, eye, along| {
-        let turned = patches(s, |p| 2_000 - p.panel);
-        match closest(&turned, eye, along) {
+    ("edges in 32 bits", |s, c| by(s, c, met_in_32_bits, exact)),
+    ("distance in single precision", |s, c| by(s, c, met, single)),
+    ("highest number where level", |s, c| {
+        match c.closest(&patches(s, |p| 2_000 - p.panel)) {
             0 => 0,
             panel => 2_000 - panel,
         }
     }),
-    ("first stored is shown", |s, eye, along| {
+    ("first stored is shown", |s, c| {
         let all = s.patches();
         all.iter()
-            .find(|p| met(p, eye, along))
+            .find(|p| met(p, c.eye(), c.along()))
             .map_or(0, |p| p.panel)
     }),
-    ("root's patches only", |s, eye, along| match s.nodes.len() {
+    ("root's patches only", |s, c| match s.nodes.len() {
         0 => 0,
-        _ => closest(&s.patches_of(0), eye, along),
+        _ => c.closest(&s.patches_of(0)),
     }),
-    ("every eighth corner forgotten", |s, eye, along| {
+    ("every eighth corner forgotten", |s, c| {
         let mut all = s.patches();
         all.iter_mut().for_each(|p| p.corners.truncate(7));
-        closest(&all, eye, along)
+        c.closest(&all)
     }),
-    ("panel 1,024 shown as 0", |s, eye, along| {
-        closest(&s.patches(), eye, along) % 1_024
+    ("panel 1,024 shown as 0", |s, c| {
+        c.closest(&s.patches()) % 1_024
     }),
-    ("blank", |_, _, _| 0),
-    ("lens taken twice", |s, eye, along| {
-        closest(&s.patches(), eye, [along[0], 2 * along[1], along[2]])
-    }),
-    ("half a column off", |s, eye, along| {
-        closest(&s.patches(), eye, [along[0] - 1, along[1], along[2]])
-    }),
-    ("rows from the bottom", |s, eye, along| {
-        closest(&s.patches(), eye, [along[0], along[1], -along[2]])
-    }),
-    ("columns from the right", |s, eye, along| {
-        closest(&s.patches(), eye, [-along[0], along[1], along[2]])
-    }),
+    ("blank", |_, _| 0),
 ];
 
 fn patches(scene: &Scene, panel: impl Fn(&Patch) -> u16) -> Vec<Patch> {
@@ -90,15 +101,11 @@ fn patches(scene: &Scene, panel: impl Fn(&Patch) -> u16) -> Vec<Patch> {
 }
 
 type Over = (i128, i128);
+type Meets = fn(&Patch, Vector, Vector) -> bool;
 
 /// The closest panel with another rule of meeting or of distance.
-fn by(
-    scene: &Scene,
-    eye: Vector,
-    along: Vector,
-    meets: fn(&Patch, Vector, Vector) -> bool,
-    against: fn(Over, Over) -> i128,
-) -> u16 {
+fn by(scene: &Scene, cell: Cell, meets: Meets, against: fn(Over, Over) -> i128) -> u16 {
+    let (eye, along) = (cell.eye(), cell.along());
     let mut best: Option<(Over, u16)> = None;
     for patch in scene.patches() {
         let over = eye_to_corner(&patch, eye).abs();
@@ -139,13 +146,6 @@ fn met_in_32_bits(patch: &Patch, eye: Vector, along: Vector) -> bool {
     sign != 0 && short.all(|p| p.signum() == sign)
 }
 
-fn touched_on_the_left(patch: &Patch, eye: Vector, along: Vector) -> bool {
-    match along[0] < 0 {
-        true => touched(patch, eye, along),
-        false => met(patch, eye, along),
-    }
-}
-
 fn one_sign(patch: &Patch, eye: Vector, along: Vector) -> bool {
     let signs: Vec<i128> = edge_products(patch, eye, along).map(i128::signum).collect();
     signs[0] != 0 && signs.iter().all(|&sign| sign == signs[0])
@@ -163,13 +163,14 @@ fn all_but_one(patch: &Patch, eye: Vector, along: Vector) -> bool {
 }
 
 /// The picture as one way of looking gives it.
-pub fn painted(scene: &Scene, call: &Call, look: Look) -> Vec<u16> {
-    let (view, width) = (&call.view, usize::from(call.view.width));
-    let cells = 0..view.cells();
-    let along = |at: usize| direction(view, at % width, at / width);
-    cells
-        .map(|at| look(scene, wide(view.eye), along(at)))
-        .collect()
+pub fn painted(scene: &Scene, view: View, look: Look) -> Vec<u16> {
+    let width = usize::from(view.width);
+    let cell = |at: usize| Cell {
+        view,
+        i: at % width,
+        j: at / width,
+    };
+    (0..view.cells()).map(|at| look(scene, cell(at))).collect()
 }
 
 /// Spoils what a right call left, given what the buffers held before.

@@ -196,6 +196,23 @@ pub fn window(call: &Call, width: u16, height: u16, lens: u16) -> bool {
         && (1..=lens).contains(&view.lens)
 }
 
+/// Question 14 with other ends of a part.
+pub fn axes_fit(call: &Call, low: i16, high: i16) -> bool {
+    parts_within(&call.view.axes, low, high) && call.view.axes.volume() > 0
+}
+
+/// Question 14 with something else asked of the volume.
+pub fn volume(call: &Call, held: fn(i128) -> bool) -> bool {
+    parts_within(&call.view.axes, -100, 100) && held(call.view.axes.volume())
+}
+
+/// Question 14 with part K of the nine taken for 0 where its range is asked.
+pub fn unseen<const K: usize>(call: &Call, _: &Scene) -> bool {
+    let mut others = call.view.axes;
+    *others.part(K) = 0;
+    parts_within(&others, -100, 100) && call.view.axes.volume() > 0
+}
+
 pub fn unlit_fits(call: &Call) -> bool {
     call.unlit_len == usize::from(call.view.height) * ROW
 }

@@ -16,11 +16,12 @@ mkdir -p "$built"
 export SURVEY_LIB_DIR="$built" CARGO_TARGET_DIR="$built"
 cargo build --release --offline --quiet --features library
 differential="$built/release/differential"
+# A number that no bill has: its view is level.
 printf '#!/bin/sh\ncat >/dev/null\necho refused 14\n' >"$work/ringbill"
 chmod +x "$work/ringbill"
 
 # must FAULT CODE PREFIX DIFFERENCES...: runs, and wants this exit code and
-# these differences.
+# these differences, and that stations and stored cases differ.
 must() {
     fault=$1 code=$2 prefix=$3
     shift 3
@@ -31,6 +32,10 @@ must() {
     for difference; do
         grep -q " differences: $difference\$" "$work/report" ||
             { echo "$fault: $difference not seen"; exit 1; }
+    done
+    for known in 'the turned stations' F-1.txt; do
+        grep -q "^cases: [1-9][0-9]* of $known differ\$" "$work/report" ||
+            { echo "$fault: $known not seen"; exit 1; }
     done
     echo "$fault: exit $got, seen $*"
 }

@@ -17,12 +17,18 @@ static int fault_is(const char *name)
 
 uint32_t ring_survey(const uint8_t *scene, size_t scene_len,
                      int16_t eye_x, int16_t eye_y, int16_t eye_z,
+                     int16_t right_x, int16_t right_y, int16_t right_z,
+                     int16_t forward_x, int16_t forward_y, int16_t forward_z,
+                     int16_t up_x, int16_t up_y, int16_t up_z,
                      uint16_t width, uint16_t height, uint16_t lens,
                      uint16_t *picture, size_t picture_len,
                      uint32_t *counts, size_t counts_len,
                      uint16_t *unlit, size_t unlit_len, uint32_t *counter)
 {
     (void)eye_x, (void)eye_y, (void)eye_z, (void)lens;
+    (void)right_x, (void)right_y, (void)right_z;
+    (void)forward_x, (void)forward_y, (void)forward_z;
+    (void)up_x, (void)up_y, (void)up_z;
     if (fault_is("scribe")) {
         if (scene_len > 0)
             ((uint8_t *)(uintptr_t)scene)[0] ^= 1;
@@ -53,11 +59,17 @@ uint32_t ring_survey(const uint8_t *scene, size_t scene_len,
 
 uint32_t ring_gate(const uint8_t *scene, size_t scene_len,
                    int16_t eye_x, int16_t eye_y, int16_t eye_z,
+                   int16_t right_x, int16_t right_y, int16_t right_z,
+                   int16_t forward_x, int16_t forward_y, int16_t forward_z,
+                   int16_t up_x, int16_t up_y, int16_t up_z,
                    uint16_t width, uint16_t height, uint16_t lens,
                    size_t picture_len, size_t counts_len, size_t unlit_len,
                    uint32_t counter)
 {
     (void)scene, (void)scene_len, (void)eye_x, (void)eye_y, (void)eye_z;
+    (void)right_x, (void)right_y, (void)right_z;
+    (void)forward_x, (void)forward_y, (void)forward_z;
+    (void)up_x, (void)up_y, (void)up_z;
     (void)width, (void)height, (void)lens, (void)picture_len;
     (void)counts_len, (void)unlit_len, (void)counter;
     return fault_is("scribe") ? 1 : 0;

@@ -1,40 +1,23 @@
--- `survey::ring_gate` meets its contract: each question is asked after those before it said yes.
+-- `survey::ring_gate` meets its contract: the view's numbers pass through words unchanged.
+use mathlib.Core.Path.{_∙_}
 use borrow.Author.Needs.{needs}
-use Rattle.model.proofs.FirstNo.{said}
-use Rattle.survey.proofs.Gates.{scene-says-no, refused, accepted, asked, callTests}
+use Rattle.contract.proofs.SameView.{answered-from}
+use Rattle.survey.proofs.Handed.{same-vector, handed, same-axes, same-view}
 use Rattle.survey.proofs.ring_gate.Statement.{statement}
 use Rattle.survey.proofs.ring_gate.Tie as tie
 
 returns : tie.Need-returns
-returns c = search scene-says-no
-
-returns-2 : tie.Need-returns-2
-unfolding callTests
-returns-2 c = refused _ (search asked) 10 (search (said, asked) depth 40 fits 20000)
-
-returns-3 : tie.Need-returns-3
-unfolding callTests
-returns-3 c = refused _ (search asked) 11 (search (said, asked) depth 40 fits 20000)
-
-returns-4 : tie.Need-returns-4
-unfolding callTests
-returns-4 c = refused _ (search asked) 12 (search (said, asked) depth 40 fits 20000)
-
-returns-5 : tie.Need-returns-5
-unfolding callTests
-returns-5 c = accepted _ (search asked) (search (said, asked) depth 40 fits 20000)
+returns c =
+    let e = c .before .before .before .before .fits in
+    let eye = handed (e .eye-x) (e .eye-y) (e .eye-z) (c .before .before .vector .ensures) in
+    let axes = c .before .axes-by .ensures ∙ same-axes (same-vector (e .right-x) (e .right-y) (e .right-z)) (same-vector (e .forward-x) (e .forward-y) (e .forward-z)) (same-vector (e .up-x) (e .up-y) (e .up-z)) in
+    answered-from _ _ _ (same-view eye axes) (c .view-answer .ensures)
 
 pub ring-gate-spec : {M : Type 1} → statement M
 ring-gate-spec =
     tie.close
     (tie.spec
     (λ c κs. search needs)
-    returns
     (λ c κs. search needs)
     (λ c κs. search needs)
-    returns-2
-    (λ c κs. search needs)
-    returns-3
-    (λ c κs. search needs)
-    returns-4
-    returns-5)
+    returns)

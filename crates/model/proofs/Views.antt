@@ -1,0 +1,125 @@
+-- The old view keeps its pictures and answers; and in an accepted view right, a cell's direction and up do not lie in one plane.
+use mathlib.Core.Path.{_≡_, refl, sym, _∙_, ap, fun-ext, subst}
+use mathlib.Core.Bool.{Bool, true, false, not, cond, _&&_, _||_}
+use mathlib.Core.List.{List, [], _∷_}
+use Prim.Native.Nat.{ℕ, _+_, _*_}
+use lib.Dec.{T, eqb, le→leb}
+use lib.IntN.{ℤ, pos, _+ℤ_, _-ℤ_, _*ℤ_}
+use lib.Signed.{_<ℤ_}
+use Rattle.integer.proofs.Identity.{ring, reify}
+use Rattle.integer.proofs.Products.{*-pos}
+use Rattle.model.specs.Lists.{every}
+use Rattle.model.specs.Vector.{Vec, vec, plus, times}
+use Rattle.model.specs.View.{Window, Axes, View, levelAxes, direction, viewDirection}
+use Rattle.model.specs.Picture.{picture, cellPanel, unlitLists}
+use Rattle.model.specs.Call.{Call, callDirection}
+use Rattle.model.specs.Questions.{Question, answer, sceneQuestions, callQuestions, questions, surveyAnswer, viewInRange, axesProper}
+use Rattle.model.specs.Survey.{callPatches, callPicture, callUnlit}
+use Rattle.model.proofs.Tests.{is-true, both}
+use Rattle.model.proofs.Answers.{answer-yes, answer-no}
+use Rattle.model.proofs.Vectors.{det}
+use Rattle.model.proofs.CallLimits.{view-bounded, axes-bounded}
+
+-- ---- the old view
+
+-- document 01: "The cell's direction is (2i + 1 − width, lens, height − 1 − 2j), from the eye onward."
+abbrev pub levelDirection : Window → ℕ → ℕ → Vec
+levelDirection w i j = vec (pos (2 * i + 1) -ℤ pos (w .width)) (pos (w .lens)) (pos (w .height) -ℤ pos (1 + 2 * j))
+
+-- a part of each of the three terms, of which the level camera's axes take one
+first-part : (a b c : ℤ) → a *ℤ pos 1 +ℤ b *ℤ pos 0 +ℤ c *ℤ pos 0 ≡ a
+first-part a b c = ring (a ∷ b ∷ c ∷ []) (search reify depth 40 fits 200000, tt)
+
+second-part : (a b c : ℤ) → a *ℤ pos 0 +ℤ b *ℤ pos 1 +ℤ c *ℤ pos 0 ≡ b
+second-part a b c = ring (a ∷ b ∷ c ∷ []) (search reify depth 40 fits 200000, tt)
+
+third-part : (a b c : ℤ) → a *ℤ pos 0 +ℤ b *ℤ pos 0 +ℤ c *ℤ pos 1 ≡ c
+third-part a b c = ring (a ∷ b ∷ c ∷ []) (search reify depth 40 fits 200000, tt)
+
+pub level-direction : (w : Window) (i j : ℕ) → direction (record { axes = levelAxes; window = w }) i j ≡ levelDirection w i j
+level-direction w i j =
+    let a : ℤ = pos (2 * i + 1) -ℤ pos (w .width) in
+    let b : ℤ = pos (w .lens) in
+    let c : ℤ = pos (w .height) -ℤ pos (1 + 2 * j) in
+    λ t. vec (first-part a b c t) (second-part a b c t) (third-part a b c t)
+
+-- question 14 says yes of the old view
+pub level-proper : T (axesProper levelAxes)
+unfolding axesProper
+level-proper = tt
+
+-- the questions but those of a number
+abbrev pub without : {A : Type 0} → ℕ → List (Question A) → List (Question A)
+without n [] = []
+without n (q ∷ qs) = cond (eqb (q .number) n) (without n qs) (q ∷ without n qs)
+
+-- where those say yes, they may be left out
+module _ {A : Type 0} (a : A) (n : ℕ) where
+  abbrev yesAt : Question A → Bool
+  yesAt q = not (eqb (q .number) n) || q .test a
+
+  without-same : (qs : List (Question A)) → T (every yesAt qs) → answer (without n qs) a ≡ answer qs a
+  without-same [] t = refl
+  without-same (q ∷ qs) t = go (eqb (q .number) n) (q .test a) refl (both (yesAt q) (every yesAt qs) .0 t .0) (without-same qs (both (yesAt q) (every yesAt qs) .0 t .1))
+    where
+      go : (here said : Bool) → q .test a ≡ said → T (not here || said) → answer (without n qs) a ≡ answer qs a →
+          answer (cond here (without n qs) (q ∷ without n qs)) a ≡ answer (q ∷ qs) a
+      go true true s t rest = rest ∙ sym (answer-yes q qs a (is-true s))
+      go true false s t rest = absurd t
+      go false true s t rest = answer-yes q (without n qs) a (is-true s) ∙ rest ∙ sym (answer-yes q qs a (is-true s))
+      go false false s t rest =
+          answer-no q (without n qs) a (λ u. subst T s u) ∙ sym (answer-no q qs a (λ u. subst T s u))
+
+-- a call of the old view
+module _ (c : Call) (level : c .camera .axes ≡ levelAxes) where
+  -- Every old call keeps its answer: that of the questions without 14.
+  pub level-answer : surveyAnswer c ≡ answer (without 14 questions) c
+  unfolding surveyAnswer questions sceneQuestions callQuestions
+  level-answer =
+      sym (without-same c 14 questions (subst (λ (a : Axes). T (axesProper a && true)) (sym level) (both (axesProper levelAxes) true .1 (level-proper, tt))))
+
+  level-directions : callDirection c ≡ levelDirection (c .camera .window)
+  level-directions =
+      ap (λ (a : Axes). direction (record { axes = a; window = c .camera .window })) level
+      ∙ fun-ext (λ i. fun-ext (λ j. level-direction (c .camera .window) i j))
+
+  -- Every old call keeps its picture and its unlit lists: those along document 01's directions.
+  pub level-picture :
+      callPicture c
+      ≡ picture (c .eye) (c .camera .window .width) (c .camera .window .height) (levelDirection (c .camera .window)) (callPatches c)
+  unfolding callPicture
+  level-picture =
+      ap (λ (d : ℕ → ℕ → Vec). picture (c .eye) (c .camera .window .width) (c .camera .window .height) d (callPatches c)) level-directions
+
+  pub level-unlit :
+      callUnlit c
+      ≡ unlitLists (c .camera .window .width) (c .camera .window .height)
+      (cellPanel (c .eye) (levelDirection (c .camera .window)) (callPatches c))
+  unfolding callUnlit
+  level-unlit =
+      ap
+      (λ (d : ℕ → ℕ → Vec).
+      unlitLists (c .camera .window .width) (c .camera .window .height) (cellPanel (c .eye) d (callPatches c))) level-directions
+
+-- ---- any view
+
+-- right, the direction and up: only the direction's part along forward counts
+direction-between :
+    (r f u : Vec) (a b c : ℤ) → det r (plus (plus (times a r) (times b f)) (times c u)) u ≡ b *ℤ det r f u
+direction-between r f u a b c =
+    ring
+    (r .x ∷ r .y ∷ r .z ∷ f .x ∷ f .y ∷ f .z ∷ u .x ∷ u .y ∷ u .z ∷ a ∷ b ∷ c ∷ [])
+    (search reify depth 40 fits 200000, tt)
+
+-- In a view that questions 10 and 14 let pass, right, the direction of any cell and up turn as right, forward and up do: none of them lies in the plane of the
+-- other two, and no direction is zero.
+pub axes-apart :
+    (v : View) → T (viewInRange v) → T (axesProper (v .camera .axes)) → (i j : ℕ) →
+    pos 0 <ℤ det (v .camera .axes .right) (viewDirection v i j) (v .camera .axes .up)
+axes-apart v t s i j =
+    let a = v .camera .axes in
+    let w = v .camera .window in
+    let lens : pos 0 <ℤ pos (w .lens) = record { lt = le→leb 1 (w .lens) (view-bounded v t .lens-some) } in
+    subst (λ (z : ℤ). pos 0 <ℤ z)
+    (sym (direction-between (a .right) (a .forward) (a .up) (pos (2 * i + 1) -ℤ pos (w .width)) (pos (w .lens)) (pos (w .height) -ℤ pos (1 + 2 * j))))
+    (*-pos lens (axes-bounded a s .turning))

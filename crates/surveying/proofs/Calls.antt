@@ -1,0 +1,105 @@
+-- The survey's contract: refused, or accepted and painted.
+use mathlib.Core.Path.{_≡_, sym, _∙_, ap, subst}
+use mathlib.Core.List.{List}
+use Prim.Native.Nat.{ℕ, _+_, _≤_, _<_}
+use native.Mathlib.Nat.{mul-le-mul}
+use native.Mathlib.Omega.{arith}
+use lib.Dec.{ltb→lt}
+use lib.ListN.{length, getD}
+use Rattle.model.specs.View.{View, viewWidth, viewHeight, viewDirection}
+use Rattle.model.specs.Lent.{Lent}
+use Rattle.model.specs.Format.{decode, patchTable}
+use Rattle.model.specs.Picture.{counts, countEntries}
+use Rattle.model.specs.Questions.{counterBelowEnd, surveyAnswer}
+use Rattle.model.specs.Survey.{callPicture, callCounts, callUnlit, callCounter}
+use Rattle.model.proofs.Answers.{AcceptedCall, accepted-call}
+use Rattle.model.proofs.CallLimits.{ViewBounded, view-bounded, AxesBounded, axes-bounded, LengthsRight, lengths-right}
+use Rattle.model.proofs.Pictures.{picture-length, picture-counted}
+use Rattle.model.proofs.PanelNumbers.{panel-bounded}
+use Rattle.geometry.specs.declared.Vector.{Vector}
+use Rattle.geometry.proofs.Sizes.{parts-bounded}
+use Rattle.camera.specs.declared.Camera.{Camera}
+use Rattle.camera.specs.Machine.{viewOf}
+use Rattle.counting.specs.Counting.{Countable}
+use Rattle.contract.specs.Contract.{lentOf, callOn, results, leftBy, Surveyed}
+use Rattle.contract.proofs.Refusal.{left-old}
+use Rattle.rendering.specs.Painted.{PaintingAsked, Painted}
+
+module _
+    (bytes : List ℕ) (eye : Vector) (camera : Camera) (before : Lent) {n : ℕ}
+    (answer : n ≡ surveyAnswer (callOn bytes (viewOf eye camera) before))
+  where
+    abbrev v : View
+    v = viewOf eye camera
+
+    -- "The first no gives its number, and nothing lent is altered."
+    pub refused : (n ≡ 0 → ⊥) → Surveyed bytes v before before n
+    refused f =
+        record {
+          answered = answer;
+          left =
+              left-old (surveyAnswer (callOn bytes v before)) (results (callOn bytes v before)) before (λ z. f (answer ∙ z));
+        }
+
+    module _ (done : n ≡ 0) where
+      yes : AcceptedCall (callOn bytes v before)
+      yes = accepted-call (callOn bytes v before) .0 (sym answer ∙ done)
+
+      view : ViewBounded v
+      view = view-bounded v (yes .view)
+
+      axes : AxesBounded (v .camera .axes)
+      axes = axes-bounded (v .camera .axes) (yes .axes)
+
+      fitting : LengthsRight (callOn bytes v before)
+      fitting = lengths-right (callOn bytes v before) (yes .lengths)
+
+      -- what painting asks
+      pub paintable : PaintingAsked bytes eye camera (before .picture) (before .unlit)
+      paintable =
+          record {
+            accepted = yes .scene;
+            near = parts-bounded 10000 eye (omega arith) (view .point);
+            aimed =
+                record {
+                  right-bounded = parts-bounded 100 (camera .axes .right) (omega arith) (axes .right-short);
+                  forward-bounded = parts-bounded 100 (camera .axes .forward) (omega arith) (axes .forward-short);
+                  up-bounded = parts-bounded 100 (camera .axes .up) (omega arith) (axes .up-short);
+                  width-within = record { within = view .narrow };
+                  height-within = record { within = view .low };
+                  lens-within = record { within = view .lens-most };
+                };
+            framed =
+                record { narrow = view .narrow; low = omega (arith, view .low); cells = fitting .cells; rows = fitting .rows };
+          }
+
+      pub counter-rises : before .counter + 1 < 4294967296
+      unfolding counterBelowEnd
+      counter-rises = let h : before .counter < 4294967295 = ltb→lt (before .counter) 4294967295 (yes .counter) in omega arith
+
+      module _ {cells unlit : List ℕ} (painted : Painted bytes v cells unlit) where
+        -- what counting asks
+        pub countable : Countable cells (before .counts)
+        countable =
+            record {
+              numbered =
+                  subst (λ (l : List ℕ). (k : ℕ) → k < length l → getD l k 0 < countEntries) (sym (painted .cells-are))
+                  (picture-counted (v .eye) (viewWidth v) (viewHeight v) (viewDirection v) (patchTable (decode bytes))
+                  (panel-bounded (decode bytes) (yes .scene .panels)));
+              few =
+                  subst (λ (k : ℕ). k ≤ 32768)
+                  (sym (ap length (painted .cells-are) ∙ picture-length (v .eye) (viewWidth v) (viewHeight v) (viewDirection v) (patchTable (decode bytes))))
+                  (mul-le-mul (view .narrow) (view .low));
+              entries = fitting .entries;
+            }
+
+        -- an accepted call leaves its results
+        pub accepted : {totals : List ℕ} {k : ℕ} → totals ≡ counts cells → k ≡ before .counter + 1 → Surveyed bytes v before (lentOf cells totals unlit k) 0
+        unfolding callPicture callCounts callUnlit callCounter
+        accepted {totals} {k} t e =
+            record {
+              answered = sym done ∙ answer;
+              left =
+                  (λ i. lentOf (painted .cells-are i) ((t ∙ ap counts (painted .cells-are)) i) (painted .unlit-are i) (e i))
+                  ∙ ap (λ (m : ℕ). leftBy m (results (callOn bytes v before)) before) (sym done ∙ answer);
+            }

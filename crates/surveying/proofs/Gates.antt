@@ -1,0 +1,38 @@
+-- The call's answer: the scene's, and then the questions on the call, by the general law of the first no.
+use mathlib.Core.Path.{_≡_, sym, _∙_}
+use mathlib.Core.Bool.{Bool, true, false}
+use mathlib.Core.List.{List}
+use Prim.Native.Nat.{ℕ}
+use Rattle.model.specs.Call.{Call, callView}
+use Rattle.model.specs.Questions.{sceneAnswer, viewInRange, lengthsFit, counterBelowEnd, rowsFit, callQuestions, surveyAnswer}
+use Rattle.model.proofs.Tests.{is-true, true-of}
+use Rattle.model.proofs.Answers.{scene-first, call-next}
+use Rattle.model.proofs.FirstNo.{RefusedAt, refused-at, AllYes, no-no}
+use Rattle.surveying.proofs.Results.{rows-always-fit}
+
+pub scene-says-no : (c : Call) {n : ℕ} → n ≡ sceneAnswer (c .scene) → (n ≡ 0 → ⊥) → n ≡ surveyAnswer c
+scene-says-no c scene f = scene ∙ sym (scene-first c (λ z. f (scene ∙ z)))
+
+module _ (c : Call) (scene : sceneAnswer (c .scene) ≡ 0) where
+  pub refused : (n : ℕ) → RefusedAt c n callQuestions → n ≡ surveyAnswer c
+  refused n r = refused-at c n callQuestions r ∙ sym (call-next c scene)
+
+  pub accepted : AllYes c callQuestions → 0 ≡ surveyAnswer c
+  accepted y = no-no c callQuestions y ∙ sym (call-next c scene)
+
+-- ---- what a question said, by the code's test of its answer
+
+-- questions 1 to 9
+pub scene-yes : (bytes : List ℕ) {n : ℕ} → n ≡ sceneAnswer bytes → n ≡ 0 → sceneAnswer bytes ≡ 0
+scene-yes bytes e z = sym e ∙ z
+
+-- question 13 never says no
+pub rows-yes : (c : Call) → viewInRange (callView c) ≡ true → rowsFit c ≡ true
+rows-yes c e = true-of (rows-always-fit c (is-true e))
+
+pub ruleset asked = (scene-yes, rows-yes)
+
+-- one name that unfolds the questions on the call, and of their tests those that the code's answers are read as
+unfoldable pub callTests : Unit {0}
+unfolding callQuestions lengthsFit counterBelowEnd
+callTests = tt

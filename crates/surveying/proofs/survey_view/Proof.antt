@@ -1,0 +1,59 @@
+-- `surveying::survey_view` meets its contract: it refuses before it writes, or paints, counts and raises the counter.
+use mathlib.Core.Path.{refl}
+use denote.Ref.{now}
+use borrow.Author.Needs.{needs}
+use Rattle.contract.specs.Contract.{lentOf}
+use Rattle.surveying.proofs.Calls.{refused, paintable, counter-rises, countable, accepted}
+use Rattle.surveying.proofs.survey_view.Statement.{statement}
+use Rattle.surveying.proofs.survey_view.Tie as tie
+
+returns : tie.Need-returns
+returns c = refused _ _ _ _ (c .before .view-answer .ensures) (c .if1 .taken)
+
+paint-requires : tie.Need-paint-requires
+paint-requires c κs =
+    let g = c .before .before in
+    let s = c .before .before .before .before .before .before .before .before .before in
+    paintable _ _ _ (lentOf (now (s .args .picture)) (now (s .args .counts)) (now (s .args .unlit)) (now (s .args .counter)))
+    (g .before .view-answer .ensures) (g .if1 .left)
+
+count-cells-requires : tie.Need-count-cells-requires
+count-cells-requires c κs =
+    let p = c .before .before .before .before .before .before in
+    let g = p .before .before .before in
+    let s = c .before .before .before .before .before .before .before .before .before .before .before .before .before .before .before .before in
+    countable _ _ _ (lentOf (now (s .args .picture)) (now (s .args .counts)) (now (s .args .unlit)) (now (s .args .counter)))
+    (g .before .view-answer .ensures) (g .if1 .left) (p .paint .ensures)
+
+add-counter : tie.Need-add-counter
+add-counter c =
+    let g = c .before .before .before .before .before .before .before .before .before .before .before .before in
+    let s = c .before .before .before .before .before .before .before .before .before .before .before .before .before .before .before .before .before .before .before in
+    record {
+      fits =
+          counter-rises _ _ _ (lentOf (now (s .args .picture)) (now (s .args .counts)) (now (s .args .unlit)) (now (s .args .counter)))
+          (g .before .view-answer .ensures) (g .if1 .left);
+    }
+
+returns-2 : tie.Need-returns-2
+returns-2 c =
+    let n = c .before .before in
+    let p = c .before .before .before .before .before .before .before .before .before in
+    let g = p .before .before .before in
+    let s = c .before .before .before .before .before .before .before .before .before .before .before .before .before .before .before .before .before .before .before in
+    accepted _ _ _ (lentOf (now (s .args .picture)) (now (s .args .counts)) (now (s .args .unlit)) (now (s .args .counter)))
+    (g .before .view-answer .ensures) (g .if1 .left) (p .paint .ensures) (n .count-cells .ensures) refl
+
+pub survey-view-spec : {M : Type 1} → statement M
+survey-view-spec =
+    tie.close
+    (tie.spec
+    (λ c κs. search needs)
+    returns
+    paint-requires
+    count-cells-requires
+    add-counter
+    (λ c. search needs)
+    (λ c. search needs)
+    (λ c. search needs)
+    returns-2)

@@ -1,0 +1,84 @@
+// The survey of one view, and its answer: what the calls for a console share.
+use call::axes_proper;
+use call::counter_below_end;
+use call::lengths_fit;
+use call::view_in_range;
+use camera::Camera;
+use counting::count_cells;
+use gate::scene_answer;
+use geometry::Vector;
+use rendering::paint;
+ghost use mathlib.Core.Path.{_≡_};
+ghost use Rattle.model.specs.Questions.{surveyAnswer};
+ghost use Rattle.camera.specs.Machine.{viewOf};
+ghost use Rattle.contract.specs.Contract.{lentOf, lengthsBy, gateCall, Surveyed};
+
+// The answer of the survey on these numbers: 0, or the number of the first question that says no. Question 13 never does, so it is not asked.
+pub fn view_answer(
+    scene: &[u8],
+    eye: Vector,
+    camera: Camera,
+    picture_len: usize,
+    counts_len: usize,
+    unlit_len: usize,
+    counter: u32,
+) -> u32
+    ensures { λ r. ⌜ r ≡ surveyAnswer (gateCall (now (scene .entry)) (viewOf eye camera) (lengthsBy «picture_len» «counts_len» «unlit_len») counter) ⌝ }
+{
+    let answer = scene_answer(scene);
+    if answer != 0 {
+        return answer;
+    }
+    if !view_in_range(eye, camera) {
+        return 10;
+    }
+    if !axes_proper(camera.axes) {
+        return 14;
+    }
+    if !lengths_fit(
+        camera.width,
+        camera.height,
+        picture_len,
+        counts_len,
+        unlit_len,
+    ) {
+        return 11;
+    }
+    if !counter_below_end(counter) {
+        return 12;
+    }
+    0
+}
+
+// Checks the scene and paints its picture. Nothing lent is written before the last question is answered.
+pub fn survey_view(
+    scene: &[u8],
+    eye: Vector,
+    camera: Camera,
+    picture: &mut [u16],
+    counts: &mut [u32],
+    unlit: &mut [u16],
+    counter: &mut u32,
+) -> u32
+    ensures { λ r. ⌜ Surveyed (now (scene .entry)) (viewOf eye camera)
+        (lentOf (now (picture .entry)) (now (counts .entry)) (now (unlit .entry)) (now (counter .entry)))
+        (lentOf (now (picture .exit)) (now (counts .exit)) (now (unlit .exit)) (now (counter .exit))) r ⌝ }
+{
+    let before = *counter;
+    let verdict = view_answer(
+        scene,
+        eye,
+        camera,
+        picture.len(),
+        counts.len(),
+        unlit.len(),
+        before,
+    );
+    if verdict != 0 {
+        return verdict;
+    }
+    paint(scene, eye, camera, picture, unlit);
+    count_cells(picture, counts);
+    *counter = before + 1;
+    0
+}

@@ -1,0 +1,104 @@
+//! Stored cases altered in one place: each must be unreadable or differ.
+
+use crate::block::{Block, Reading};
+use crate::cases::{files, trial, trials};
+use crate::compare::check_due;
+use crate::random::Random;
+use crate::survey::Due;
+use crate::trial::Trial;
+
+/// The keys of what is due; a change of another number need not show.
+const DUE: &[&str] = &[
+    "answer",
+    "picture_row",
+    "counts",
+    "unlit_row",
+    "counter_after",
+];
+
+type Lines = Vec<String>;
+
+fn key(line: &str) -> &str {
+    line.split(' ').next().unwrap_or("")
+}
+
+fn read(lines: &Lines) -> Reading<Trial> {
+    let text = lines.join("\n");
+    trial(Block::of(&text, 1)?)
+}
+
+/// Is the block unreadable, or does it disagree with what was due before?
+fn is_seen(lines: &Lines, due: &Due, rng: &mut Random) -> bool {
+    match read(lines) {
+        Err(_) => true,
+        Ok(other) => {
+            let outcome = check_due(due, &other.call, &other.due, rng);
+            !outcome.differences.is_empty()
+        }
+    }
+}
+
+/// The line with one digit behind its key changed.
+fn renumbered(line: &str, rng: &mut Random) -> String {
+    let is_digit = |at: &usize| line.as_bytes()[*at].is_ascii_digit();
+    let digits: Vec<usize> = (key(line).len()..line.len()).filter(is_digit).collect();
+    let at = rng.pick(&digits);
+    let other = (line.as_bytes()[at] - b'0' + 1 + rng.below(9) as u8) % 10;
+    format!("{}{other}{}", &line[..at], &line[at + 1..])
+}
+
+/// Each line in turn left out, doubled, under another key and, where it says
+/// what is due, with another number.
+fn alterations(lines: &Lines, rng: &mut Random) -> Vec<Lines> {
+    let mut all = Vec::new();
+    for (k, line) in lines.iter().enumerate() {
+        let mut others = vec![vec![], vec![line.clone(), line.clone()]];
+        others.push(vec![line.replacen(key(line), "other", 1)]);
+        if DUE.contains(&key(line)) {
+            others.push(vec![renumbered(line, rng)]);
+        }
+        all.extend(others.into_iter().map(|other| {
+            let mut altered = lines.clone();
+            altered.splice(k..k + 1, other);
+            altered
+        }));
+    }
+    all
+}
+
+/// Alters every line of every block, one at a time; gives how many alterations
+/// were seen and how many were not.
+pub fn every_line() -> Reading<(usize, usize)> {
+    let (mut seen, mut missed) = (0, 0);
+    for (name, text) in files()? {
+        let mut rng = Random::new(1, text.len() as u64);
+        for part in text.trim_end().split("\n\n").skip(1) {
+            let lines: Lines = part.lines().map(str::to_string).collect();
+            let due = read(&lines)?.due;
+            for altered in alterations(&lines, &mut rng) {
+                if is_seen(&altered, &due, &mut rng) {
+                    seen += 1;
+                } else {
+                    missed += 1;
+                    println!("MISSED in {name}:\n{}", altered.join("\n"));
+                }
+            }
+        }
+    }
+    Ok((seen, missed))
+}
+
+/// A file that does not say what it is, or with its blocks out of order, is
+/// refused.
+pub fn files_are_refused() -> Reading<bool> {
+    let (_, text) = files()?.swap_remove(0);
+    let second = text.split("\n\n").nth(2).unwrap_or("");
+    let broken = [
+        text.replacen("# ", "", 1),
+        text.trim_end().to_string(),
+        text.replacen("\n\n", "\n\n\n", 2),
+        format!("{text}\n# said too late\n"),
+        format!("# a file\n\n{second}\n"),
+    ];
+    Ok(broken.iter().all(|text| trials(text).is_err()))
+}

@@ -1,0 +1,114 @@
+//! Cameras that are right but for one thing; the cases must find each.
+
+use crate::axes::{Axes, LEVEL};
+use crate::call::View;
+use crate::ray::{closest, direction};
+use crate::scene::{Patch, Scene};
+use crate::vector::{cross, dot, minus, wide, Point, Vector};
+use crate::wrong_paint::{Cell, Look};
+
+pub const CAMERAS: &[(&str, Look)] = &[
+    ("always the level view", |s, c| turned(s, c, |_| LEVEL)),
+    ("only forward turns", |s, c| {
+        turned(s, c, |a| Axes {
+            forward: a.forward,
+            ..LEVEL
+        })
+    }),
+    ("forward does not turn", |s, c| {
+        turned(s, c, |a| Axes {
+            forward: LEVEL.forward,
+            ..a
+        })
+    }),
+    ("up with the wrong sign: rows from the bottom", |s, c| {
+        turned(s, c, |a| Axes {
+            up: a.up.map(|n| -n),
+            ..a
+        })
+    }),
+    (
+        "right with the wrong sign: columns from the right",
+        |s, c| {
+            turned(s, c, |a| Axes {
+                right: a.right.map(|n| -n),
+                ..a
+            })
+        },
+    ),
+    ("right and up exchanged", |s, c| {
+        turned(s, c, |a| Axes {
+            right: a.up,
+            up: a.right,
+            ..a
+        })
+    }),
+    ("right and forward exchanged", |s, c| {
+        turned(s, c, |a| Axes {
+            right: a.forward,
+            forward: a.right,
+            ..a
+        })
+    }),
+    ("forward and up exchanged", |s, c| {
+        turned(s, c, |a| Axes {
+            forward: a.up,
+            up: a.forward,
+            ..a
+        })
+    }),
+    ("vectors as rows of a matrix, not columns", |s, c| {
+        turned(s, c, |a| Axes::of([0, 1, 2].map(|k| part_of_each(a, k))))
+    }),
+    ("lens taken twice", |s, c| {
+        let lens = 2 * c.view.lens;
+        let view = View { lens, ..c.view };
+        Cell { view, ..c }.closest(&s.patches())
+    }),
+    ("half a column off", |s, c| {
+        seen(s, c, minus(c.along(), wide(c.view.axes.right)))
+    }),
+    ("half a row off", |s, c| {
+        seen(s, c, minus(c.along(), wide(c.view.axes.up)))
+    }),
+    ("directions in 16 bits", |s, c| {
+        seen(s, c, c.along().map(|n| i128::from(n as i16)))
+    }),
+    ("rows that a level camera would need", level_rows),
+];
+
+/// What the cell shows under other vectors.
+fn turned(scene: &Scene, cell: Cell, turn: fn(Axes) -> Axes) -> u16 {
+    let mut other = cell;
+    other.view.axes = turn(cell.view.axes);
+    other.closest(&scene.patches())
+}
+
+/// What the cell shows along another direction.
+fn seen(scene: &Scene, cell: Cell, along: Vector) -> u16 {
+    closest(&scene.patches(), cell.eye(), along)
+}
+
+fn part_of_each(axes: Axes, k: usize) -> Point {
+    axes.vectors().map(|v| v[k])
+}
+
+/// A patch is tried only in the rows whose plane has corners of it on both
+/// sides; but the planes are those of a level camera.
+fn level_rows(scene: &Scene, cell: Cell) -> u16 {
+    let level = View {
+        axes: LEVEL,
+        ..cell.view
+    };
+    let plane = cross(wide(LEVEL.right), direction(&level, 0, cell.j));
+    let reaches = |patch: &Patch| {
+        let corners = patch.corners.iter();
+        let sides: Vec<i128> = corners
+            .map(|&p| dot(plane, minus(wide(p), cell.eye())))
+            .collect();
+        sides.iter().any(|&side| side > 0) && sides.iter().any(|&side| side < 0)
+    };
+    let mut patches = scene.patches();
+    patches.retain(reaches);
+    cell.closest(&patches)
+}
