@@ -7,13 +7,9 @@ use geometry::cross_product;
 use geometry::dot_product;
 use geometry::parts_up_to;
 ghost use mathlib.Core.Path.{_≡_};
-ghost use mathlib.Core.Bool.{_&&_};
 ghost use Prim.Native.Nat.{_*_};
-ghost use lib.Dec.{eqb, ltb};
-ghost use Rattle.model.specs.Row.{rowLength};
-ghost use Rattle.model.specs.Picture.{countEntries};
-ghost use Rattle.model.specs.Questions.{within, viewInRange, axesProper};
-ghost use Rattle.camera.specs.Machine.{axesOf, viewOf};
+ghost use Rattle.model.specs.Questions.{within, viewInRange, axesProper, lengthsFit, counterBelowEnd};
+ghost use Rattle.camera.specs.Machine.{axesOf, cameraOf, viewOf};
 
 fn between(low: u16, n: u16, high: u16) -> bool
     ensures { λ r. ⌜ r ≡ within low high n ⌝ }
@@ -63,21 +59,21 @@ pub fn area(width: u16, height: u16) -> usize
 }
 
 // question 11
-pub fn lengths_fit(width: u16, height: u16, picture: usize, counts: usize, unlit: usize) -> bool
-    ensures { λ r. ⌜ r ≡ (eqb picture (width * height) && eqb counts countEntries && eqb unlit (height * rowLength)) ⌝ }
+pub fn lengths_fit(camera: Camera, picture: usize, counts: usize, unlit: usize) -> bool
+    ensures { λ r. ⌜ r ≡ lengthsFit (cameraOf camera) (record { picture = picture; counts = counts; unlit = unlit }) ⌝ }
 {
-    if picture != area(width, height) {
+    if picture != area(camera.width, camera.height) {
         return false;
     }
     if counts != 1025 {
         return false;
     }
-    unlit == (height as usize) * 256
+    unlit == (camera.height as usize) * 256
 }
 
 // question 12
 pub fn counter_below_end(counter: u32) -> bool
-    ensures { λ r. ⌜ r ≡ ltb counter 4294967295 ⌝ }
+    ensures { λ r. ⌜ r ≡ counterBelowEnd counter ⌝ }
 {
     counter < 4294967295
 }

@@ -17,7 +17,7 @@ cameraOf c = record { axes = axesOf (c .axes); window = record { width = c .widt
 abbrev pub viewOf : Vector → Camera → View
 viewOf e c = record { eye = vecOf e; camera = cameraOf c }
 
--- as questions 10 and 14 let it pass
+-- its numbers are no larger than questions 10 and 14 let pass
 pub record CameraBounded (c : Camera) : Type 0 where
   pub right-bounded : Bounded 100 (c .axes .right)
   pub forward-bounded : Bounded 100 (c .axes .forward)

@@ -15,6 +15,7 @@ pub struct Axes {
     pub up: Vector,
 }
 
+// A camera: its axes and its window.
 pub struct Camera {
     pub axes: Axes,
     pub width: u16,

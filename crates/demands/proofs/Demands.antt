@@ -57,7 +57,7 @@ all-yes-says {A} (q ∷ qs) a h =
 pub refuses-rightly :
     {bytes : List ℕ} {v : View} {before after : Lent} {result : ℕ} →
     Surveyed bytes v before after result →
-    RefusesRightly (callOn bytes v before) before after result
+    RefusesRightly bytes v before after result
 unfolding surveyAnswer questions sceneQuestions callQuestions
 refuses-rightly {bytes} {v} {before} {after} {result} h =
     let c = callOn bytes v before in

@@ -17,7 +17,7 @@ use Rattle.model.specs.Picture.{countEntries}
 use Rattle.model.specs.Call.{Call}
 use Rattle.model.specs.Questions.{Question, questions, surveyAnswer}
 use Rattle.model.specs.Removal.{isChosen, kept, TakenAway}
-use Rattle.contract.specs.Contract.{results, Surveyed}
+use Rattle.contract.specs.Contract.{callOn, results, Surveyed}
 
 -- the patches of a scene
 abbrev pub patchesIn : List ℕ → List Patch
@@ -29,10 +29,10 @@ cell v picture i j = getD picture (j * viewWidth v + i) 0
 
 -- Demand 1: "every call ends with a full picture or with the one numbered refusal that document 01 gives, a scene is accepted exactly if it keeps the rules there,
 -- and a refusal leaves picture, counts, unlit lists and station counter untouched."
-pub record RefusesRightly (c : Call) (before after : Lent) (result : ℕ) : Type 0 where
-  pub exactly : (result ≡ 0) ↔ T (every (λ (q : Question Call). q .test c) questions)
-  pub numbered : result ≡ surveyAnswer c
-  pub painted : result ≡ 0 → after ≡ results c
+pub record RefusesRightly (bytes : List ℕ) (v : View) (before after : Lent) (result : ℕ) : Type 0 where
+  pub exactly : (result ≡ 0) ↔ T (every (λ (q : Question Call). q .test (callOn bytes v before)) questions)
+  pub numbered : result ≡ surveyAnswer (callOn bytes v before)
+  pub painted : result ≡ 0 → after ≡ results (callOn bytes v before)
   pub untouched : (result ≡ 0 → ⊥) → after ≡ before
 
 -- Demand 2, of an accepted call: "Each cell of an accepted scene's picture holds the panel that Fuchs, Kedem and Naylor define: the polygon closest to the eye along
@@ -53,7 +53,8 @@ pub record ClosestPanels (bytes : List ℕ) (v : View) (after : Lent) : Type 0 w
       ≡ rowOf (viewWidth v) (λ (i : ℕ). eqb (cell v (after .picture) i j) 0)
   pub rowCount : length (after .unlit) ≡ viewHeight v * rowLength
 
--- Demand 3, of two accepted calls with one view (station and window), on a scene and on one that "has just the first's patches less all those of the chosen panels":
+-- Document 02, F-1: "Closest panel and chosen panels are meant along these directions, and the two pictures compared are of one view."
+-- Demand 3, of two accepted calls with one view (station, axes and window), on a scene and on one that "has just the first's patches less all those of the chosen panels":
 -- "The two pictures are equal, cell by cell, exactly when every chosen panel's count, from the call on the first scene, is zero. Equal or not, each cell of the
 -- first holds its closest panel .., or 0; the pictures differ in exactly the cells where the first shows a chosen panel, and in each of these the second shows
 -- the closest of the panels kept, or 0." Of the cell's closest among the panels kept: "among the first scene's patches with those of chosen panels left out".

@@ -1,4 +1,4 @@
-// The survey that an input asks for: a view (an eye and a window, 12 bytes) and a scene.
+// The survey that an input asks for: an eye and a window (12 bytes), and a scene.
 use call::area;
 use little_endian::i16_at;
 use little_endian::u16_at;
@@ -32,7 +32,7 @@ fn buffer() -> [u16; 32768]
     [0; 32768]
 }
 
-// The survey of an input of a view and a scene, seen by a level camera, with the station counter at 0: the answer, and the counts.
+// The survey of an input of an eye, a window and a scene, seen by a level camera, with the station counter at 0: the answer, and the counts.
 pub fn survey_input(input: &[u8], counts: &mut [u32]) -> u32
     requires { ⌜ 12 ≤ length (now input) ⌝ }
     ensures { λ r. ⌜ r ≡ surveyAnswer (inputCall (now (input .entry)) (length (now (counts .entry)))) ⌝ }

@@ -152,8 +152,8 @@ pub record AcceptedCall (c : Call) : Type 0 where
   pub scene : AcceptedScene (c .scene)
   pub view : T (viewInRange (callView c))
   pub axes : T (axesProper (c .camera .axes))
-  pub lengths : T (lengthsFit c)
-  pub counter : T (counterBelowEnd c)
+  pub lengths : T (lengthsFit (c .camera) (c .lengths))
+  pub counter : T (counterBelowEnd (c .counter))
   pub rows : T (rowsFit c)
 
 pub accepted-call : (c : Call) → surveyAnswer c ≡ 0 ↔ AcceptedCall c

@@ -6,10 +6,10 @@ use lib.Dec.{T, eqb, leb, leb→le, eqb→eq}
 use lib.IntN.{pos}
 use lib.Signed.{ltZ, _<ℤ_}
 use Rattle.model.specs.Vector.{dot, cross}
-use Rattle.model.specs.View.{Axes, View, viewWidth, viewHeight}
+use Rattle.model.specs.View.{Axes, Camera, View, viewWidth, viewHeight}
+use Rattle.model.specs.Lent.{Lengths}
 use Rattle.model.specs.Row.{rowLength}
 use Rattle.model.specs.Picture.{countEntries}
-use Rattle.model.specs.Call.{Call, callView}
 use Rattle.model.specs.Questions.{within, partsUpTo, pointInRange, viewInRange, axesProper, lengthsFit}
 use Rattle.model.proofs.Tests.{both}
 
@@ -20,7 +20,7 @@ module _ (low high n : ℕ) (t : T (within low high n)) where
   at-most : n ≤ high
   at-most = leb→le n high (both (leb low n) (leb n high) .0 t .1)
 
--- the eye is in range, the picture no wider and no higher than a row and the lists have room for, and the lens some
+-- the eye is in range, the picture no wider and no higher than a row and the lists have room for, and the lens from 1 to 4,096
 pub record ViewBounded (v : View) : Type 0 where
   pub point : T (pointInRange (v .eye))
   pub narrow : viewWidth v ≤ 256
@@ -68,20 +68,19 @@ axes-bounded a t =
     }
 
 -- each buffer has the length that it is to have: one more buffer is one more line in each of these
-pub record LengthsRight (c : Call) : Type 0 where
-  pub cells : c .lengths .picture ≡ viewWidth (callView c) * viewHeight (callView c)
-  pub entries : c .lengths .counts ≡ countEntries
-  pub rows : c .lengths .unlit ≡ viewHeight (callView c) * rowLength
+pub record LengthsRight (a : Camera) (l : Lengths) : Type 0 where
+  pub cells : l .picture ≡ a .window .width * a .window .height
+  pub entries : l .counts ≡ countEntries
+  pub rows : l .unlit ≡ a .window .height * rowLength
 
-pub lengths-right : (c : Call) → T (lengthsFit c) → LengthsRight c
+pub lengths-right : (a : Camera) (l : Lengths) → T (lengthsFit a l) → LengthsRight a l
 unfolding lengthsFit
-lengths-right c t =
-    let l = c .lengths in
-    let w = c .camera .window in
-    let a = both (eqb (l .picture) (w .width * w .height) && eqb (l .counts) countEntries) (eqb (l .unlit) (w .height * rowLength)) .0 t in
-    let b = both (eqb (l .picture) (w .width * w .height)) (eqb (l .counts) countEntries) .0 (a .0) in
+lengths-right a l t =
+    let w = a .window in
+    let p = both (eqb (l .picture) (w .width * w .height) && eqb (l .counts) countEntries) (eqb (l .unlit) (w .height * rowLength)) .0 t in
+    let q = both (eqb (l .picture) (w .width * w .height)) (eqb (l .counts) countEntries) .0 (p .0) in
     record {
-      cells = eqb→eq (l .picture) (w .width * w .height) (b .0);
-      entries = eqb→eq (l .counts) countEntries (b .1);
-      rows = eqb→eq (l .unlit) (w .height * rowLength) (a .1);
+      cells = eqb→eq (l .picture) (w .width * w .height) (q .0);
+      entries = eqb→eq (l .counts) countEntries (q .1);
+      rows = eqb→eq (l .unlit) (w .height * rowLength) (p .1);
     }

@@ -12,8 +12,9 @@ use Rattle.model.specs.Patch.{Patch, cornersCounted}
 use Rattle.model.specs.Format.{Scene, u16At, u32At, signed16}
 use Rattle.model.specs.Row.{rowOf, usedPart}
 use Rattle.model.specs.Picture.{counts}
-use Rattle.model.specs.View.{Axes, levelAxes}
-use Rattle.model.specs.Call.{Call, callView}
+use Rattle.model.specs.View.{Axes, Camera, levelAxes}
+use Rattle.model.specs.Lent.{Lengths}
+use Rattle.model.specs.Call.{callView}
 use Rattle.model.specs.Questions.{hasHeader, hasSections, coordinatesInRange, properChild, panelsInRange, viewInRange, axesProper, lengthsFit, counterBelowEnd, rowFits}
 use Rattle.model.specs.Removal.{isChosen}
 use Rattle.model.proofs.Encode.{headerBytes}
@@ -124,8 +125,8 @@ sceneLimits =
 -- ---- question 14, of a camera's axes
 
 -- axes by their nine parts: those of right, of forward, of up
-abbrev axesBy : List ℤ → Axes
-axesBy ps =
+abbrev axesOfParts : List ℤ → Axes
+axesOfParts ps =
     let part : ℕ → ℤ = λ k. getD ps k (pos 0) in
     record {
       right = vec (part 0) (part 1) (part 2);
@@ -144,7 +145,7 @@ upward = pos 0 ∷ pos 1 ∷ pos 0 ∷ pos 0 ∷ pos 0 ∷ pos 1 ∷ pos 1 ∷ p
 abbrev withPart : ℕ → ℤ → Axes
 withPart k z =
     let ps : List ℤ = cond (eqb (k % 4) 0) upward level in
-    axesBy (take k ps ++ (z ∷ drop (suc k) ps))
+    axesOfParts (take k ps ++ (z ∷ drop (suc k) ps))
 
 abbrev axesLimits : List Limit
 axesLimits =
@@ -156,20 +157,17 @@ axesLimits =
     (101 ∷ [])
     []
     -- right · (forward × up) is n − 1
-    ∷ limit (λ n. axesProper (axesBy ((pos n -ℤ pos 1) ∷ drop 1 level))) (2 ∷ []) (0 ∷ 1 ∷ [])
+    ∷ limit (λ n. axesProper (axesOfParts ((pos n -ℤ pos 1) ∷ drop 1 level))) (2 ∷ []) (0 ∷ 1 ∷ [])
     ∷ []
 
 -- ---- questions 10 to 13, of a call
 
-abbrev lent : ℕ → ℕ → ℕ → ℕ → Call
-lent p n u k =
-    record {
-      scene = [];
-      eye = origin;
-      camera = record { axes = levelAxes; window = record { width = 4; height = 3; lens = 4 } };
-      lengths = record { picture = p; counts = n; unlit = u };
-      counter = k;
-    }
+-- a camera with a window of 4 by 3 cells, and lengths
+abbrev fourByThree : Camera
+fourByThree = record { axes = levelAxes; window = record { width = 4; height = 3; lens = 4 } }
+
+abbrev lengths : ℕ → ℕ → ℕ → Lengths
+lengths p n u = record { picture = p; counts = n; unlit = u }
 
 -- every other column shows a square, so that n columns need half as many segments
 abbrev everyOther : ℕ → Vec
@@ -180,11 +178,10 @@ callLimits =
     limit (λ n. viewInRange (callView (fittingCall [] origin n 4 4))) (1 ∷ 256 ∷ []) (0 ∷ 257 ∷ [])
     ∷ limit (λ n. viewInRange (callView (fittingCall [] origin 4 n 4))) (1 ∷ 128 ∷ []) (0 ∷ 129 ∷ [])
     ∷ limit (λ n. viewInRange (callView (fittingCall [] origin 4 4 n))) (1 ∷ 4096 ∷ []) (0 ∷ 4097 ∷ [])
-    -- a window of 4 by 3 cells
-    ∷ limit (λ n. lengthsFit (lent n 1025 768 0)) (12 ∷ []) (11 ∷ 13 ∷ [])
-    ∷ limit (λ n. lengthsFit (lent 12 n 768 0)) (1025 ∷ []) (1024 ∷ 1026 ∷ [])
-    ∷ limit (λ n. lengthsFit (lent 12 1025 n 0)) (768 ∷ []) (767 ∷ 769 ∷ [])
-    ∷ limit (λ n. counterBelowEnd (lent 12 1025 768 n)) (0 ∷ 4294967294 ∷ []) (4294967295 ∷ [])
+    ∷ limit (λ n. lengthsFit fourByThree (lengths n 1025 768)) (12 ∷ []) (11 ∷ 13 ∷ [])
+    ∷ limit (λ n. lengthsFit fourByThree (lengths 12 n 768)) (1025 ∷ []) (1024 ∷ 1026 ∷ [])
+    ∷ limit (λ n. lengthsFit fourByThree (lengths 12 1025 n)) (768 ∷ []) (767 ∷ 769 ∷ [])
+    ∷ limit counterBelowEnd (0 ∷ 4294967294 ∷ []) (4294967295 ∷ [])
     -- 128 segments, and 129
     ∷ limit
     (λ n. rowFits n origin everyOther (record { panel = 1; corners = square (pos 100) (pos 50) } ∷ []))

@@ -20,7 +20,7 @@ pub record Outcome : Type 0 where
   pub rows : List (List ℕ)
   pub cells : List ℕ
 
--- a call, the rows and panels that are looked at, and what document 01 says
+-- a call, the rows and panels that are looked at, and what is due
 pub record Station : Type 0 where
   pub call : Call
   pub rowsAsked : List ℕ

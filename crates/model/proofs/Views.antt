@@ -26,7 +26,7 @@ use Rattle.model.proofs.CallLimits.{view-bounded, axes-bounded}
 abbrev pub levelDirection : Window → ℕ → ℕ → Vec
 levelDirection w i j = vec (pos (2 * i + 1) -ℤ pos (w .width)) (pos (w .lens)) (pos (w .height) -ℤ pos (1 + 2 * j))
 
--- a part of each of the three terms, of which the level camera's axes take one
+-- one part of the sum of three terms: a level camera's axes leave one of them
 first-part : (a b c : ℤ) → a *ℤ pos 1 +ℤ b *ℤ pos 0 +ℤ c *ℤ pos 0 ≡ a
 first-part a b c = ring (a ∷ b ∷ c ∷ []) (search reify depth 40 fits 200000, tt)
 
@@ -72,13 +72,13 @@ module _ {A : Type 0} (a : A) (n : ℕ) where
 
 -- a call of the old view
 module _ (c : Call) (level : c .camera .axes ≡ levelAxes) where
-  -- Every old call keeps its answer: that of the questions without 14.
+  -- Every old call keeps its answer: that of the questions without 14. (Question 13 goes along the call's directions, which `level-directions` shows to be the old ones.)
   pub level-answer : surveyAnswer c ≡ answer (without 14 questions) c
   unfolding surveyAnswer questions sceneQuestions callQuestions
   level-answer =
       sym (without-same c 14 questions (subst (λ (a : Axes). T (axesProper a && true)) (sym level) (both (axesProper levelAxes) true .1 (level-proper, tt))))
 
-  level-directions : callDirection c ≡ levelDirection (c .camera .window)
+  pub level-directions : callDirection c ≡ levelDirection (c .camera .window)
   level-directions =
       ap (λ (a : Axes). direction (record { axes = a; window = c .camera .window })) level
       ∙ fun-ext (λ i. fun-ext (λ j. level-direction (c .camera .window) i j))

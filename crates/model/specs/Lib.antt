@@ -1,4 +1,5 @@
--- What a reader must believe: document 01's words as definitions. Nothing is proved in this folder.
+-- What a reader must believe: the words of document 01, and of document 02 as far as its requests have landed, as definitions. Nothing is proved in this folder. A quotation that
+-- names no document is from document 01.
 pub mod Lists
 pub mod Vector
 pub mod Patch

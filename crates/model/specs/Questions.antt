@@ -12,7 +12,8 @@ use Rattle.model.specs.Patch.{Patch, cornersCounted, flat, strictlyConve
 use Rattle.model.specs.Ray.{met}
 use Rattle.model.specs.Tree.{order, divides}
 use Rattle.model.specs.Format.{Header, Section, Run, NodeRecord, PatchRecord, Scene, headerOf, decode, sceneVersion, headerSize, nodeSize, patchSize, cornerSize, mostNodes, mostPatches, mostCorners, highestPanel, noChild, inRun, patchTable, patchTree}
-use Rattle.model.specs.View.{Axes, View}
+use Rattle.model.specs.View.{Axes, Camera, View}
+use Rattle.model.specs.Lent.{Lengths}
 use Rattle.model.specs.Call.{Call, callView, callDirection}
 use Rattle.model.specs.Row.{segments, rowPairs, rowLength}
 use Rattle.model.specs.Picture.{countEntries}
@@ -187,7 +188,8 @@ viewInRange v =
     && within 1 128 (v .camera .window .height)
     && within 1 4096 (v .camera .window .lens)
 
--- 14. No "when a part is out of range or right · (forward × up) is not above 0"; "each part from −100 to 100"
+-- 14. Is each part from −100 to 100, and right · (forward × up) above 0? Document 02, F-1: "each part from −100 to 100"; "14 when a part is out of range or
+-- right · (forward × up) is not above 0".
 unfoldable pub axesProper : Axes → Bool
 axesProper a =
     partsUpTo 100 (a .right)
@@ -196,15 +198,15 @@ axesProper a =
     && ltZ (pos 0) (dot (a .right) (cross (a .forward) (a .up)))
 
 -- 11. "Has the picture (u16) width × height cells, the counts (u32) 1,025, the unlit lists (u16) height × 256?"
-unfoldable pub lengthsFit : Call → Bool
-lengthsFit c =
-    eqb (c .lengths .picture) (c .camera .window .width * c .camera .window .height)
-    && eqb (c .lengths .counts) countEntries
-    && eqb (c .lengths .unlit) (c .camera .window .height * rowLength)
+unfoldable pub lengthsFit : Camera → Lengths → Bool
+lengthsFit a l =
+    eqb (l .picture) (a .window .width * a .window .height)
+    && eqb (l .counts) countEntries
+    && eqb (l .unlit) (a .window .height * rowLength)
 
 -- 12. "Is the station counter below 4,294,967,295?"
-unfoldable pub counterBelowEnd : Call → Bool
-counterBelowEnd c = ltb (c .counter) 4294967295
+unfoldable pub counterBelowEnd : ℕ → Bool
+counterBelowEnd n = ltb n 4294967295
 
 -- the column is unlit after some patches are painted: none of them is met there
 unfoldable pub unlitAfter : Vec → (ℕ → Vec) → List Patch → ℕ → Bool
@@ -224,13 +226,13 @@ rowsFit c =
     rowFits (c .camera .window .width) (c .eye) (λ (i : ℕ). callDirection c i j)
     (order (c .eye) (patchTree (decode (c .scene))))) (range 0 (c .camera .window .height))
 
--- the questions on the call, in the order of asking: 14 is "put right after question 10"
+-- The questions on the call, in the order of asking. Document 02, F-1: 14 is "put right after question 10".
 unfoldable pub callQuestions : List (Question Call)
 callQuestions =
     record { number = 10; test = λ c. viewInRange (callView c) }
     ∷ record { number = 14; test = λ c. axesProper (c .camera .axes) }
-    ∷ record { number = 11; test = lengthsFit }
-    ∷ record { number = 12; test = counterBelowEnd }
+    ∷ record { number = 11; test = λ c. lengthsFit (c .camera) (c .lengths) }
+    ∷ record { number = 12; test = λ c. counterBelowEnd (c .counter) }
     ∷ record { number = 13; test = rowsFit }
     ∷ []
 

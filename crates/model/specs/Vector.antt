@@ -3,7 +3,7 @@ use mathlib.Core.Bool.{Bool, true, false}
 use Prim.Native.Nat.{zero, suc}
 use lib.IntN.{ℤ, pos, negsuc, _+ℤ_, _-ℤ_, _*ℤ_}
 
--- "Axes: first to the right, second forward along the bore, third up."
+-- "Axes: first to the right, second forward along the bore, third up." These are the scene's; a camera has its own (`Axes` in View).
 pub record Vec : Type 0 where
   pub x : ℤ
   pub y : ℤ

@@ -1,4 +1,4 @@
--- How it is looked, and from where: a camera, a camera at an eye, and the directions of a picture's cells.
+-- Which way one looks, and from where: a camera, a camera at an eye, and the directions of a picture's cells.
 use Prim.Native.Nat.{ℕ, _+_, _*_}
 use lib.IntN.{pos, _-ℤ_}
 use Rattle.model.specs.Vector.{Vec, vec, plus, times}
@@ -9,13 +9,13 @@ pub record Window : Type 0 where
   pub height : ℕ
   pub lens : ℕ
 
--- "A view takes three vectors, right, forward and up": where the camera's own axes point
+-- Document 02, F-1: "A view takes three vectors, right, forward and up": where the camera's own axes point.
 pub record Axes : Type 0 where
   pub right : Vec
   pub forward : Vec
   pub up : Vec
 
--- "The old view is (1,0,0), (0,1,0), (0,0,1)": the camera stands level and looks along the bore
+-- Document 02, F-1: "The old view is (1,0,0), (0,1,0), (0,0,1)": the camera stands level and looks along the bore.
 abbrev pub levelAxes : Axes
 levelAxes =
     record {
@@ -30,7 +30,7 @@ pub record Camera : Type 0 where
   pub window : Window
 
 -- "Column i runs from 0 at the left, row j from 0 at the top."
--- "A cell's direction is (2i + 1 − width) times right plus lens times forward plus (height − 1 − 2j) times up."
+-- Document 02, F-1: "A cell's direction is (2i + 1 − width) times right plus lens times forward plus (height − 1 − 2j) times up."
 abbrev pub direction : Camera → ℕ → ℕ → Vec
 direction c i j =
     plus

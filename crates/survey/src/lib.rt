@@ -2,8 +2,8 @@
 use camera::Axes;
 use camera::Camera;
 use format::records::vector;
+use surveying::survey_answer;
 use surveying::survey_view;
-use surveying::view_answer;
 ghost use mathlib.Core.Path.{_≡_};
 ghost use Rattle.model.specs.Vector.{vec};
 ghost use Rattle.model.specs.Questions.{surveyAnswer};
@@ -77,7 +77,7 @@ pub extern "C" fn ring_gate(
         height,
         lens,
     };
-    view_answer(
+    survey_answer(
         scene,
         eye,
         camera,

@@ -7,7 +7,7 @@ use native.Mathlib.Omega.{arith}
 use lib.Dec.{ltb→lt}
 use lib.ListN.{length, getD}
 use Rattle.model.specs.View.{View, viewWidth, viewHeight, viewDirection}
-use Rattle.model.specs.Lent.{Lent}
+use Rattle.model.specs.Lent.{Lent, lengthsOf}
 use Rattle.model.specs.Format.{decode, patchTable}
 use Rattle.model.specs.Picture.{counts, countEntries}
 use Rattle.model.specs.Questions.{counterBelowEnd, surveyAnswer}
@@ -51,8 +51,8 @@ module _
       axes : AxesBounded (v .camera .axes)
       axes = axes-bounded (v .camera .axes) (yes .axes)
 
-      fitting : LengthsRight (callOn bytes v before)
-      fitting = lengths-right (callOn bytes v before) (yes .lengths)
+      fitting : LengthsRight (v .camera) (lengthsOf before)
+      fitting = lengths-right (v .camera) (lengthsOf before) (yes .lengths)
 
       -- what painting asks
       pub paintable : PaintingAsked bytes eye camera (before .picture) (before .unlit)

@@ -4,7 +4,7 @@ use mathlib.Core.Bool.{Bool, true, false}
 use mathlib.Core.List.{List}
 use Prim.Native.Nat.{ℕ}
 use Rattle.model.specs.Call.{Call, callView}
-use Rattle.model.specs.Questions.{sceneAnswer, viewInRange, lengthsFit, counterBelowEnd, rowsFit, callQuestions, surveyAnswer}
+use Rattle.model.specs.Questions.{sceneAnswer, viewInRange, rowsFit, callQuestions, surveyAnswer}
 use Rattle.model.proofs.Tests.{is-true, true-of}
 use Rattle.model.proofs.Answers.{scene-first, call-next}
 use Rattle.model.proofs.FirstNo.{RefusedAt, refused-at, AllYes, no-no}
@@ -31,8 +31,3 @@ pub rows-yes : (c : Call) → viewInRange (callView c) ≡ true → rowsFit c �
 rows-yes c e = true-of (rows-always-fit c (is-true e))
 
 pub ruleset asked = (scene-yes, rows-yes)
-
--- one name that unfolds the questions on the call, and of their tests those that the code's answers are read as
-unfoldable pub callTests : Unit {0}
-unfolding callQuestions lengthsFit counterBelowEnd
-callTests = tt

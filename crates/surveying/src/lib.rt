@@ -14,7 +14,7 @@ ghost use Rattle.camera.specs.Machine.{viewOf};
 ghost use Rattle.contract.specs.Contract.{lentOf, lengthsBy, gateCall, Surveyed};
 
 // The answer of the survey on these numbers: 0, or the number of the first question that says no. Question 13 never does, so it is not asked.
-pub fn view_answer(
+pub fn survey_answer(
     scene: &[u8],
     eye: Vector,
     camera: Camera,
@@ -35,13 +35,7 @@ pub fn view_answer(
     if !axes_proper(camera.axes) {
         return 14;
     }
-    if !lengths_fit(
-        camera.width,
-        camera.height,
-        picture_len,
-        counts_len,
-        unlit_len,
-    ) {
+    if !lengths_fit(camera, picture_len, counts_len, unlit_len) {
         return 11;
     }
     if !counter_below_end(counter) {
@@ -65,7 +59,7 @@ pub fn survey_view(
         (lentOf (now (picture .exit)) (now (counts .exit)) (now (unlit .exit)) (now (counter .exit))) r ⌝ }
 {
     let before = *counter;
-    let verdict = view_answer(
+    let verdict = survey_answer(
         scene,
         eye,
         camera,

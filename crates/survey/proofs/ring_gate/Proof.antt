@@ -11,7 +11,7 @@ returns c =
     let e = c .before .before .before .before .fits in
     let eye = handed (e .eye-x) (e .eye-y) (e .eye-z) (c .before .before .vector .ensures) in
     let axes = c .before .axes-by .ensures ∙ same-axes (same-vector (e .right-x) (e .right-y) (e .right-z)) (same-vector (e .forward-x) (e .forward-y) (e .forward-z)) (same-vector (e .up-x) (e .up-y) (e .up-z)) in
-    answered-from _ _ _ (same-view eye axes) (c .view-answer .ensures)
+    answered-from _ _ _ (same-view eye axes) (c .survey-answer .ensures)
 
 pub ring-gate-spec : {M : Type 1} → statement M
 ring-gate-spec =

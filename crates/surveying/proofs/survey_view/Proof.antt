@@ -8,14 +8,14 @@ use Rattle.surveying.proofs.survey_view.Statement.{statement}
 use Rattle.surveying.proofs.survey_view.Tie as tie
 
 returns : tie.Need-returns
-returns c = refused _ _ _ _ (c .before .view-answer .ensures) (c .if1 .taken)
+returns c = refused _ _ _ _ (c .before .survey-answer .ensures) (c .if1 .taken)
 
 paint-requires : tie.Need-paint-requires
 paint-requires c κs =
     let g = c .before .before in
     let s = c .before .before .before .before .before .before .before .before .before in
     paintable _ _ _ (lentOf (now (s .args .picture)) (now (s .args .counts)) (now (s .args .unlit)) (now (s .args .counter)))
-    (g .before .view-answer .ensures) (g .if1 .left)
+    (g .before .survey-answer .ensures) (g .if1 .left)
 
 count-cells-requires : tie.Need-count-cells-requires
 count-cells-requires c κs =
@@ -23,7 +23,7 @@ count-cells-requires c κs =
     let g = p .before .before .before in
     let s = c .before .before .before .before .before .before .before .before .before .before .before .before .before .before .before .before in
     countable _ _ _ (lentOf (now (s .args .picture)) (now (s .args .counts)) (now (s .args .unlit)) (now (s .args .counter)))
-    (g .before .view-answer .ensures) (g .if1 .left) (p .paint .ensures)
+    (g .before .survey-answer .ensures) (g .if1 .left) (p .paint .ensures)
 
 add-counter : tie.Need-add-counter
 add-counter c =
@@ -32,7 +32,7 @@ add-counter c =
     record {
       fits =
           counter-rises _ _ _ (lentOf (now (s .args .picture)) (now (s .args .counts)) (now (s .args .unlit)) (now (s .args .counter)))
-          (g .before .view-answer .ensures) (g .if1 .left);
+          (g .before .survey-answer .ensures) (g .if1 .left);
     }
 
 returns-2 : tie.Need-returns-2
@@ -42,7 +42,7 @@ returns-2 c =
     let g = p .before .before .before in
     let s = c .before .before .before .before .before .before .before .before .before .before .before .before .before .before .before .before .before .before .before in
     accepted _ _ _ (lentOf (now (s .args .picture)) (now (s .args .counts)) (now (s .args .unlit)) (now (s .args .counter)))
-    (g .before .view-answer .ensures) (g .if1 .left) (p .paint .ensures) (n .count-cells .ensures) refl
+    (g .before .survey-answer .ensures) (g .if1 .left) (p .paint .ensures) (n .count-cells .ensures) refl
 
 pub survey-view-spec : {M : Type 1} → statement M
 survey-view-spec =

@@ -1,35 +1,36 @@
--- `surveying::view_answer` meets its contract: each question is asked after those before it said yes.
+-- `surveying::survey_answer` meets its contract: each question is asked after those before it said yes.
 use borrow.Author.Needs.{needs}
+use Rattle.model.specs.Questions.{callQuestions}
 use Rattle.model.proofs.FirstNo.{said}
-use Rattle.surveying.proofs.Gates.{scene-says-no, refused, accepted, asked, callTests}
-use Rattle.surveying.proofs.view_answer.Statement.{statement}
-use Rattle.surveying.proofs.view_answer.Tie as tie
+use Rattle.surveying.proofs.Gates.{scene-says-no, refused, accepted, asked}
+use Rattle.surveying.proofs.survey_answer.Statement.{statement}
+use Rattle.surveying.proofs.survey_answer.Tie as tie
 
 returns : tie.Need-returns
 returns c = search scene-says-no
 
 returns-2 : tie.Need-returns-2
-unfolding callTests
+unfolding callQuestions
 returns-2 c = refused _ (search asked) 10 (search (said, asked) depth 40 fits 20000)
 
 returns-3 : tie.Need-returns-3
-unfolding callTests
+unfolding callQuestions
 returns-3 c = refused _ (search asked) 14 (search (said, asked) depth 40 fits 20000)
 
 returns-4 : tie.Need-returns-4
-unfolding callTests
+unfolding callQuestions
 returns-4 c = refused _ (search asked) 11 (search (said, asked) depth 40 fits 20000)
 
 returns-5 : tie.Need-returns-5
-unfolding callTests
+unfolding callQuestions
 returns-5 c = refused _ (search asked) 12 (search (said, asked) depth 40 fits 20000)
 
 returns-6 : tie.Need-returns-6
-unfolding callTests
+unfolding callQuestions
 returns-6 c = accepted _ (search asked) (search (said, asked) depth 40 fits 20000)
 
-pub view-answer-spec : {M : Type 1} → statement M
-view-answer-spec =
+pub survey-answer-spec : {M : Type 1} → statement M
+survey-answer-spec =
     tie.close
     (tie.spec
     (λ c κs. search needs)
