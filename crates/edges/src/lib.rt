@@ -34,17 +34,19 @@ fn eye_sign(bytes: &[u8], l: Layout, k: usize, eye: Vector) -> i64
     arithmetic::sign(geometry::eye_product(eye, a, normal))
 }
 
-// sign · ((v − eye) × (w − eye)), for the sign of the eye product: one edge vector of a patch, turned to the patch's side
+// sign · ((v − eye) × (w − eye)), for the sign of the eye product: one edge vector of a patch, turned to the patch's side. Turned over it is that of the edge
+// gone the other way, which costs no product.
 fn oriented_edge(eye: Vector, v: Vector, w: Vector, sign: i64) -> Vector
     requires { ⌜ EdgeAsked eye v w sign ⌝ }
     ensures { λ r. ⌜ VectorIs 800000000 (times sign (cross (minus (vecOf v) (vecOf eye)) (minus (vecOf w) (vecOf eye)))) r ⌝ }
 {
-    let edge = geometry::edge_vector(eye, v, w);
-    Vector {
-        x: arithmetic::product(sign, edge.x),
-        y: arithmetic::product(sign, edge.y),
-        z: arithmetic::product(sign, edge.z),
+    if sign < 0 {
+        return geometry::edge_vector(eye, w, v);
     }
+    if 0 < sign {
+        return geometry::edge_vector(eye, v, w);
+    }
+    Vector { x: 0, y: 0, z: 0 }
 }
 
 // the corner's place after place i: after the last comes the first
