@@ -10,14 +10,14 @@ use Rattle.geometry.specs.Raster.{rayAt}
 use Rattle.format.specs.declared.layout.Layout.{Layout}
 use Rattle.edges.specs.declared.Sight.{Sight}
 use Rattle.painting.specs.declared.Band.{Band}
-use Rattle.scanline.specs.Laying.{Drawable, walkOf}
+use Rattle.scanline.specs.Laying.{walkOf}
 use Rattle.placing.specs.Framing.{Framed, RowsUpTo}
-use Rattle.readiness.specs.Ready.{Paintable, Room, Reached}
+use Rattle.readiness.specs.Ready.{Paintable, Room, Drawn, Reached}
 
 -- what painting a band's rows asks
 pub record BandAsked
     (bytes : List ℕ) (l : Layout) (s : Sight) (edges : List ℤ) (rows order : List ℕ) (band : Band) (picture unlit : List ℕ) : Type 0 where
-  pub drawable : Drawable bytes l s edges order
+  pub drawn : Drawn bytes l s edges rows order
   pub reached : Reached bytes s rows order
   pub few : length order ≤ 1024
   pub framed : Framed (s .raster .width) (s .raster .height) picture unlit

@@ -9,7 +9,7 @@ use lib.IntN.{ℤ}
 use lib.ListN.{length, getD, take}
 use lib.Seq.{length-take-le}
 use borrow.Author.Tests.{ltb-false}
-use lib.Dec.{ltb}
+use lib.Dec.{ltb, ltb→lt}
 use Rattle.model.specs.Lists.{any}
 use Rattle.model.specs.Vector.{Vec}
 use Rattle.model.specs.Patch.{Patch}
@@ -27,7 +27,8 @@ use Rattle.edges.specs.declared.Sight.{Sight}
 use Rattle.scanline.specs.Shown.{shownAfter}
 use Rattle.scanline.specs.Laying.{PatchDrawable, Drawable, walkOf}
 use Rattle.placing.specs.Framing.{withRow, RowDone}
-use Rattle.readiness.specs.Ready.{ReachKnown, Reached}
+use Rattle.model.proofs.Tests.{is-true, both-true}
+use Rattle.readiness.specs.Ready.{InSight, Drawn, ReachKnown, Reached}
 
 -- what holds of every number holds of those that pass
 passing-all :
@@ -43,6 +44,19 @@ passing-all test P (n ∷ ns) f k h = go (passing-all test P ns (λ k h. f (suc 
     go others true zero h = f 0 (omega arith)
     go others true (suc k) h = others k (omega arith)
     go others false k h = others k h
+
+-- and those pass
+passing-passed : (test : ℕ → Bool) (ns : List ℕ) (k : ℕ) → k < length (passing test ns) → test (getD (passing test ns) k 0) ≡ true
+unfolding passing
+passing-passed test [] k h = absurd (omega arith)
+passing-passed test (n ∷ ns) k h = go (passing-passed test ns) (test n) refl k h
+  where
+    go :
+        ((k : ℕ) → k < length (passing test ns) → test (getD (passing test ns) k 0) ≡ true) → (b : Bool) → test n ≡ b → (k : ℕ) →
+        k < length (cond b (n ∷ passing test ns) (passing test ns)) → test (getD (cond b (n ∷ passing test ns) (passing test ns)) k 0) ≡ true
+    go others true e zero h = e
+    go others true e (suc k) h = others k (omega arith)
+    go others false e k h = others k h
 
 -- numbers that do not pass the test are those of patches that the ray does not meet
 abbrev Unmet : Vec → Vec → (ℕ → Patch) → (ℕ → Bool) → List ℕ → Type 0
@@ -77,10 +91,13 @@ module _ {rows order near : List ℕ} {from to n : ℕ} (s : Selected rows from 
   near-each : (P : ℕ → Type 0) → ((k : ℕ) → k < length order → P (getD order k 0)) → (k : ℕ) → k < length (take n near) → P (getD (take n near) k 0)
   near-each P f = rw (s .front) (passing-all (reaching rows from to) P order f)
 
-  pub near-drawable :
-      {bytes : List ℕ} {l : Layout} {sight : Sight} {edges : List ℤ} → Drawable bytes l sight edges order → Drawable bytes l sight edges (take n near)
-  near-drawable {bytes} {l} {sight} {edges} d =
-      record { checked = d .checked; each = near-each (PatchDrawable bytes l sight edges) (d .each) }
+  pub near-drawn :
+      {bytes : List ℕ} {l : Layout} {sight : Sight} {edges : List ℤ} → Drawn bytes l sight edges rows order → Drawn bytes l sight edges rows (take n near)
+  near-drawn {bytes} {l} {sight} {edges} d =
+      record { checked = d .checked; each = near-each (λ (p : ℕ). InSight rows p → PatchDrawable bytes l sight edges p) (d .each) }
+
+  near-reaches : (k : ℕ) → k < length (take n near) → reaching rows from to (getD (take n near) k 0) ≡ true
+  near-reaches = rw (s .front) (passing-passed (reaching rows from to) order)
 
   module _ {bytes : List ℕ} {sight : Sight} (r : Reached bytes sight rows order) where
     pub near-reached : Reached bytes sight rows (take n near)
@@ -140,3 +157,17 @@ module _ {rows order near : List ℕ} {from to n : ℕ} (s : Selected rows from 
                 };
             full-says = λ t i b. sym (unlit-same i) ∙ done .full-says t i b;
           }
+
+-- The patches that reach one row have some row, so that their edge functions stand in the table.
+pub row-drawable :
+    {bytes : List ℕ} {l : Layout} {sight : Sight} {edges : List ℤ} {rows order near : List ℕ} {j n : ℕ} → Selected rows j (j + 1) order near n →
+    Drawn bytes l sight edges rows order → Drawable bytes l sight edges (take n near)
+row-drawable {rows = rows} {j = j} s d =
+    record { checked = d .checked; each = λ k h. near-drawn s d .each k h (in-sight _ _ (near-reaches s k h)) }
+  where
+    in-sight : (low high : ℕ) → reached low high j (j + 1) ≡ true → low < high
+    in-sight low high e =
+        let p = both-true (ltb low (j + 1)) (ltb j high) e in
+        let a : low < j + 1 = ltb→lt low (j + 1) (is-true (p .0)) in
+        let b : j < high = ltb→lt j high (is-true (p .1)) in
+        omega arith

@@ -6,7 +6,7 @@ use lib.ListN.{length}
 use Rattle.format.specs.declared.layout.Layout.{Layout}
 use Rattle.edges.specs.declared.Sight.{Sight}
 use Rattle.scanline.specs.Laying.{Drawable}
-use Rattle.readiness.specs.Ready.{Reached}
+use Rattle.readiness.specs.Ready.{Drawn, Reached}
 use Rattle.placing.specs.Framing.{Framed}
 
 -- what painting a row in its places asks
@@ -19,7 +19,7 @@ pub record RowAsked
 -- and what it asks where the patches that do not reach the row are passed over
 pub record NearAsked
     (bytes : List ℕ) (l : Layout) (s : Sight) (edges : List ℤ) (rows order picture unlit : List ℕ) (j : ℕ) : Type 0 where
-  pub drawable : Drawable bytes l s edges order
+  pub drawn : Drawn bytes l s edges rows order
   pub reached : Reached bytes s rows order
   pub few : length order ≤ 1024
   pub framed : Framed (s .raster .width) (s .raster .height) picture unlit

@@ -1,5 +1,6 @@
 -- The ready part of a walk grows patch by patch.
-use mathlib.Core.Path.{_≡_, refl, sym, subst, _∙_}
+use mathlib.Core.Path.{_≡_, refl, sym, ap, subst, _∙_}
+use mathlib.Core.Logic.{_⊎_, inl, inr}
 use mathlib.Core.List.{List}
 use Prim.Native.Nat.{ℕ, _+_, _*_, _≤_, _<_}
 use native.Mathlib.Decide.{ℕ-discrete}
@@ -8,7 +9,8 @@ use lib.IntN.{ℤ}
 use lib.ListN.{length, getD, take}
 use lib.Seq.{length-take-le, getD-take}
 use borrow.Author.Count.{below-none, below-more}
-use Rattle.model.specs.Format.{decode, patchNumbered}
+use Rattle.model.specs.Patch.{Patch}
+use Rattle.model.specs.Format.{Run, decode, patchNumbered}
 use Rattle.geometry.specs.Machine.{vecOf}
 use Rattle.format.specs.declared.layout.Layout.{Layout}
 use Rattle.format.specs.Layout.{patchNumber}
@@ -16,9 +18,11 @@ use Rattle.reach.specs.declared.Planes.{Planes}
 use Rattle.reach.specs.Reach.{PlanesOf, Sighting, Reach}
 use Rattle.reach.proofs.ProperPatches.{numbered-proper}
 use Rattle.edges.specs.declared.Sight.{Sight}
-use Rattle.edges.proofs.Runs.{runs-apart, edges-stay}
-use Rattle.scanline.specs.Laying.{PatchDrawable, Drawable}
-use Rattle.readiness.specs.Ready.{Paintable, Room, ReachKnown, Reached, PatchReady, ReadyUpTo}
+use Rattle.edges.specs.Edges.{EdgesAt, EdgesWritten}
+use Rattle.edges.proofs.Runs.{Apart, runs-apart, edges-stay}
+use Rattle.spans.specs.declared.Span.{Span}
+use Rattle.scanline.specs.Laying.{PatchDrawable}
+use Rattle.readiness.specs.Ready.{Paintable, Room, InSight, Drawn, ReachKnown, Reached, PatchReady, ReadyUpTo}
 
 pub ready-none :
     (bytes : List ℕ) (l : Layout) (s : Sight) (order : List ℕ) (edges : List ℤ) (rows : List ℕ) → ReadyUpTo bytes l s order edges rows 0
@@ -48,8 +52,9 @@ module _ {bytes : List ℕ} {l : Layout} {s : Sight} {order : List ℕ} (paintab
         let b : k < n = omega (arith, length-take-le n order (ready .most)) in
         subst P (sym (getD-take n order k 0 b)) (f k b)
 
-    pub ready-drawable : Drawable bytes l s edges (take n order)
-    ready-drawable = record { checked = paintable .checked; each = part-of (PatchDrawable bytes l s edges) (ready .drawable) }
+    pub ready-drawn : Drawn bytes l s edges rows (take n order)
+    ready-drawn =
+        record { checked = paintable .checked; each = part-of (λ (p : ℕ). InSight rows p → PatchDrawable bytes l s edges p) (ready .drawable) }
 
     pub ready-reached : Room l edges rows → Reached bytes s rows (take n order)
     ready-reached room =
@@ -73,28 +78,44 @@ module _ {bytes : List ℕ} {l : Layout} {s : Sight} {order : List ℕ} (paintab
         m : ℕ
         m = getD order n 0
 
-        drawn-now : PatchDrawable bytes l s edges′ m
-        drawn-now = record { numbered = paintable .numbers n h; edges = new .edges-are .edges }
+        drawn-now : InSight rows′ m → PatchDrawable bytes l s edges′ m
+        drawn-now i = go (new .edges-are)
+          where
+            go : EdgesWritten s (patchNumbered (decode bytes) m) (patchNumber bytes l m .cornerRun) edges edges′
+                ⊎ ((new .found .end ≤ new .found .first) × (edges′ ≡ edges)) → PatchDrawable bytes l s edges′ m
+            go (inl w) = record { numbered = paintable .numbers n h; edges = w .edges }
+            go (inr e) = let found : new .found .first < new .found .end = subst (λ (f : Span). f .first < f .end) (new .rows-are .stands) i in absurd (omega (arith, e .0))
 
         reached-now : ReachKnown bytes s rows′ m
         reached-now = subst (Reach (vecOf (s .eye)) (s .raster) (patchNumbered (decode bytes) m)) (sym (new .rows-are .stands)) (new .reach)
 
-        drawn : (k : ℕ) → k < n → Dec (getD order k 0 ≡ m) → PatchDrawable bytes l s edges′ (getD order k 0)
-        drawn k b (yes e) = subst (PatchDrawable bytes l s edges′) (sym e) drawn-now
-        drawn k b (no f) =
-            let old = ready .drawable k b in
+        drawn : (k : ℕ) → k < n → Dec (getD order k 0 ≡ m) → InSight rows′ (getD order k 0) → PatchDrawable bytes l s edges′ (getD order k 0)
+        drawn k b (yes e) i = subst (λ (p : ℕ). InSight rows′ p → PatchDrawable bytes l s edges′ p) (sym e) drawn-now i
+        drawn k b (no f) i =
+            let old = ready .drawable k b (subst (λ (r : Span). r .first < r .end) (new .rows-are .others (getD order k 0) f) i) in
             record {
               numbered = old .numbered;
-              edges =
-                  edges-stay (patchNumber bytes l (getD order k 0) .cornerRun) (patchNumber bytes l m .cornerRun)
-                  (runs-apart (paintable .checked) (getD order k 0) m f (old .numbered) (paintable .numbers n h)) (new .edges-are) (old .edges);
+              edges = stay (patchNumber bytes l (getD order k 0) .cornerRun) (runs-apart (paintable .checked) (getD order k 0) m f (old .numbered) (paintable .numbers n h)) (old .edges) (new .edges-are);
             }
+          where
+            stay : {p : Patch} (run : Run) → Apart run (patchNumber bytes l m .cornerRun) → EdgesAt s p run edges →
+                EdgesWritten s (patchNumbered (decode bytes) m) (patchNumber bytes l m .cornerRun) edges edges′
+                ⊎ ((new .found .end ≤ new .found .first) × (edges′ ≡ edges)) → EdgesAt s p run edges′
+            stay run apart here (inl w) = edges-stay run (patchNumber bytes l m .cornerRun) apart w here
+            stay {p} run apart here (inr e) = subst (EdgesAt s p run) (sym (e .1)) here
 
         reached : (k : ℕ) → k < n → Dec (getD order k 0 ≡ m) → ReachKnown bytes s rows′ (getD order k 0)
         reached k b (yes e) = subst (ReachKnown bytes s rows′) (sym e) reached-now
         reached k b (no f) =
             subst (Reach (vecOf (s .eye)) (s .raster) (patchNumbered (decode bytes) (getD order k 0))) (sym (new .rows-are .others (getD order k 0) f))
             (ready .reach k b)
+
+-- either way the table is as long as it was
+edges-long :
+    {s : Sight} {p : Patch} {run : Run} {edges edges′ : List ℤ} {A : Type 0} →
+    EdgesWritten s p run edges edges′ ⊎ (A × (edges′ ≡ edges)) → length edges′ ≡ length edges
+edges-long (inl w) = w .long
+edges-long (inr e) = ap length (e .1)
 
 -- while patches are made ready: the first k are, up to number `to`
 pub record Extending
@@ -115,7 +136,7 @@ module _ {bytes : List ℕ} {l : Layout} {s : Sight} {order : List ℕ} {edges :
   extending-more p e h room new =
       record {
         below = omega arith;
-        long-edges = new .edges-are .long ∙ e .long-edges;
+        long-edges = edges-long (new .edges-are) ∙ e .long-edges;
         long-rows = new .rows-are .long ∙ e .long-rows;
         ready = ready-more p (e .ready) (omega arith) new;
       }

@@ -1,4 +1,6 @@
 -- The part of a walk that is ready: the edge functions and the rows of its patches are worked out.
+use mathlib.Core.Path.{_≡_}
+use mathlib.Core.Logic.{_⊎_}
 use mathlib.Core.List.{List}
 use Prim.Native.Nat.{ℕ, _+_, _*_, _≤_, _<_}
 use lib.Dec.{T}
@@ -33,6 +35,15 @@ pub record Room (l : Layout) (edges : List ℤ) (rows : List ℕ) : Type 0 where
   pub edges-room : 3 * l .corners ≤ length edges
   pub rows-room : 2 * l .patches ≤ length rows
 
+-- a table of rows names some row for patch n
+abbrev pub InSight : List ℕ → ℕ → Type 0
+InSight rows n = spanAt rows n .first < spanAt rows n .end
+
+-- the edge functions of each patch of a walk that has some row stand in a table
+pub record Drawn (bytes : List ℕ) (l : Layout) (s : Sight) (edges : List ℤ) (rows order : List ℕ) : Type 0 where
+  pub checked : Checked bytes l
+  pub each : (k : ℕ) → k < length order → InSight rows (getD order k 0) → PatchDrawable bytes l s edges (getD order k 0)
+
 -- the rows that patch n can be met in stand in a table
 abbrev pub ReachKnown : List ℕ → Sight → List ℕ → ℕ → Type 0
 ReachKnown bytes s rows n = Reach (vecOf (s .eye)) (s .raster) (patchNumbered (decode bytes) n) (spanAt rows n)
@@ -49,11 +60,13 @@ pub record ReadyAsked
   pub sight : SightBounded s
   pub room : Room l edges rows
 
--- patch n is worked out now, and what the tables hold of others is as it was
+-- patch n is worked out now, its edge functions only where some row was found, and what the tables hold of others is as it was
 pub record PatchReady
     (bytes : List ℕ) (l : Layout) (s : Sight) (n : ℕ) (edges edges′ : List ℤ) (rows rows′ : List ℕ) : Type 0 where
-  pub edges-are : EdgesWritten s (patchNumbered (decode bytes) n) (patchNumber bytes l n .cornerRun) edges edges′
   pub found : Span
+  pub edges-are :
+      EdgesWritten s (patchNumbered (decode bytes) n) (patchNumber bytes l n .cornerRun) edges edges′
+      ⊎ ((found .end ≤ found .first) × (edges′ ≡ edges))
   pub rows-are : Stored spanAt rows rows′ n found
   pub reach : Reach (vecOf (s .eye)) (s .raster) (patchNumbered (decode bytes) n) found
 
@@ -61,7 +74,7 @@ pub record PatchReady
 pub record ReadyUpTo
     (bytes : List ℕ) (l : Layout) (s : Sight) (order : List ℕ) (edges : List ℤ) (rows : List ℕ) (n : ℕ) : Type 0 where
   pub most : n ≤ length order
-  pub drawable : (k : ℕ) → k < n → PatchDrawable bytes l s edges (getD order k 0)
+  pub drawable : (k : ℕ) → k < n → InSight rows (getD order k 0) → PatchDrawable bytes l s edges (getD order k 0)
   pub reach : (k : ℕ) → k < n → ReachKnown bytes s rows (getD order k 0)
 
 -- what making ready the patches from number `from` up to before number `to` asks

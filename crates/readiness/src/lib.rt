@@ -11,7 +11,7 @@ ghost use mathlib.Core.Path.{_≡_};
 ghost use Prim.Native.Nat.{_≤_, _<_};
 ghost use Rattle.readiness.specs.Ready.{ReadyAsked, PatchReady, ExtendAsked, ReadyUpTo};
 
-// Works out patch n.
+// Works out patch n: the rows that it can be met in and, if there are any, its edge functions. Those of a patch beyond the picture or behind the eye are never asked for.
 fn make_ready(
     bytes: &[u8],
     l: Layout,
@@ -24,9 +24,12 @@ fn make_ready(
     requires { ⌜ ReadyAsked (now bytes) l n sight planes (now edges) (now rows) ⌝ }
     ensures { λ r. ⌜ PatchReady (now (bytes .entry)) l sight n (now (edges .entry)) (now (edges .exit)) (now (rows .entry)) (now (rows .exit)) ⌝ }
 {
-    patch_edges(bytes, l, n, sight, edges);
     let reach = patch_rows(bytes, l, n, sight.eye, sight.raster, planes);
     store_span(rows, n, reach);
+    if reach.end <= reach.first {
+        return;
+    }
+    patch_edges(bytes, l, n, sight, edges);
 }
 
 // How many patches are to be ready next: where a row is not full with those that are, twice as many and some. Any larger number up to all would do: the

@@ -4,7 +4,7 @@ use Prim.Native.Nat.{_-_}
 use native.Mathlib.Omega.{arith}
 use borrow.Author.Needs.{needs}
 use Rattle.placing.proofs.RowsPlaced.{still-framed}
-use Rattle.placing.proofs.NearWalk.{near-count, near-drawable, near-reached, near-done}
+use Rattle.placing.proofs.NearWalk.{near-count, near-drawn, near-reached, near-done}
 use Rattle.painting.proofs.BandRows.{BandUpTo, band-start, band-go, band-waits, band-end}
 use Rattle.painting.proofs.paint_band.Statement.{statement}
 use Rattle.painting.proofs.paint_band.Tie as tie
@@ -36,7 +36,7 @@ place-near-requires c κs =
     let s = c .before .before .before .before .before .before .select .ensures in
     let p = c .before .before .before .before .before .before .before .before .before .before .before .before .before .pre in
     record {
-      drawable = near-drawable s (p .drawable);
+      drawn = near-drawn s (p .drawn);
       reached = near-reached s (p .reached);
       few = omega (arith, near-count s, s .few, p .few);
       framed = still-framed (c .before .before .before .before .loop .inv .same-cells) (c .before .before .before .before .loop .inv .same-unlit) (p .framed);

@@ -5,7 +5,7 @@ use native.Mathlib.Omega.{arith}
 use lib.ListN.{length}
 use lib.Seq.{length-take-le}
 use Rattle.placing.proofs.RowsPlaced.{still-framed}
-use Rattle.readiness.proofs.ReadyWalk.{room-stays, ready-drawable, ready-reached}
+use Rattle.readiness.proofs.ReadyWalk.{room-stays, ready-drawn, ready-reached}
 use Rattle.painting.proofs.Progress.{Progress, progress-start, progress-goes, progress-less, progress-end}
 use Rattle.painting.proofs.paint_rows.Statement.{statement}
 use Rattle.painting.proofs.paint_rows.Tie as tie
@@ -38,7 +38,7 @@ paint-band-requires c κs =
     let p = c .before .before .before .before .before .before .before .before .before .before .before .before .before .before .before .pre in
     let v = c .before .before .before .before .before .before .before .loop .inv in
     record {
-      drawable = ready-drawable (p .paintable) (v .ready-is);
+      drawn = ready-drawn (p .paintable) (v .ready-is);
       reached = ready-reached (p .paintable) (v .ready-is) (room-stays (v .long-edges) (v .long-rows) (p .room));
       few =
           omega (arith, length-take-le (c .before .before .before .before .before .before .before .loop .ready) (c .before .before .before .before .before .before .before .before .before .before .before .before .before .before .before .args .order .now) (v .ready-is .most), p .paintable .few, v .ready-is .most);

@@ -1,7 +1,7 @@
 -- `place_near` meets its contract: the patches that reach the row show in it what all show.
 use borrow.Author.Needs.{needs}
 use native.Mathlib.Omega.{arith}
-use Rattle.placing.proofs.NearWalk.{near-count, near-drawable, near-done}
+use Rattle.placing.proofs.NearWalk.{near-count, row-drawable, near-done}
 use Rattle.placing.proofs.place_near.Statement.{statement}
 use Rattle.placing.proofs.place_near.Tie as tie
 
@@ -11,7 +11,7 @@ slice-aggregate-place-row c = near-count (c .before .before .select .ensures)
 place-row-requires : tie.Need-place-row-requires
 place-row-requires c κs =
     let p = c .before .before .before .before .before .before .before .before .before .before .before .pre in
-    record { drawable = near-drawable (c .before .before .before .before .select .ensures) (p .drawable); framed = p .framed; inside = p .inside }
+    record { drawable = row-drawable (c .before .before .before .before .select .ensures) (p .drawn); framed = p .framed; inside = p .inside }
 
 returns : tie.Need-returns
 returns c = near-done (c .before .before .before .before .before .before .before .before .before .select .ensures) (c .before .before .before .before .before .before .before .before .before .before .before .before .before .before .before .before .pre .reached) (omega arith) (omega arith) (c .before .before .before .before .before .before .before .before .before .before .before .before .before .before .before .before .pre .inside) (c .before .before .before .before .place-row .ensures)
