@@ -8,7 +8,7 @@ use Rattle.readiness.proofs.make_ready.Tie as tie
 returns : tie.Need-returns
 returns c =
     let stored = c .before .before .before .before .store-span .ensures in
-    record { found = _; edges-are = inr (c .if1 .taken, refl); rows-are = stored; reach = search needs }
+    record { found = c .before .before .before .before .before .before .patch-rows .result; edges-are = inr (c .if1 .taken, refl); rows-are = stored; reach = search needs }
 
 returns-2 : tie.Need-returns-2
 returns-2 c =
