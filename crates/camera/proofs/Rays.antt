@@ -42,12 +42,7 @@ direction-by-steps :
     plus (plus (firstDirection c) (times (pos i) (toNextColumn c))) (times (pos j) (toNextRow c)) ≡ direction c i j
 direction-by-steps c i j =
     let a = c .axes in
-    let part : (r f u : ℤ) →
-    (pos 1 -ℤ pos (c .window .width)) *ℤ r +ℤ pos (c .window .lens) *ℤ f +ℤ (pos (c .window .height) -ℤ pos 1) *ℤ u
-    +ℤ pos i *ℤ (pos 2 *ℤ r) +ℤ pos j *ℤ (negsuc 1 *ℤ u)
-    ≡ (pos 2 *ℤ pos i +ℤ pos 1 -ℤ pos (c .window .width)) *ℤ r +ℤ pos (c .window .lens) *ℤ f
-    +ℤ (pos (c .window .height) -ℤ (pos 1 +ℤ pos 2 *ℤ pos j)) *ℤ u =
-    part-by-steps (pos (c .window .width)) (pos (c .window .lens)) (pos (c .window .height)) (pos i) (pos j) in
+    let part = part-by-steps (pos (c .window .width)) (pos (c .window .lens)) (pos (c .window .height)) (pos i) (pos j) in
     λ t.
     vec (part (a .right .x) (a .forward .x) (a .up .x) t) (part (a .right .y) (a .forward .y) (a .up .y) t)
     (part (a .right .z) (a .forward .z) (a .up .z) t)

@@ -1,7 +1,6 @@
 // A camera, and the rays of its picture as a raster.
 use geometry::Raster;
 use geometry::Vector;
-ghost use lib.IntN.{pos, negsuc};
 ghost use Rattle.integer.specs.Magnitude.{Within};
 ghost use Rattle.model.specs.Vector.{plus, times};
 ghost use Rattle.geometry.specs.Machine.{vecOf, Bounded, VectorIs};

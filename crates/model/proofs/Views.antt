@@ -1,22 +1,21 @@
 -- The old view keeps its pictures and answers; and in an accepted view right, a cell's direction and up do not lie in one plane.
-use mathlib.Core.Path.{_≡_, refl, sym, _∙_, ap, fun-ext, subst}
-use mathlib.Core.Bool.{Bool, true, false, not, cond, _&&_, _||_}
-use mathlib.Core.List.{List, [], _∷_}
+use mathlib.Core.Path.{_≡_, sym, _∙_, ap, fun-ext, subst}
+use mathlib.Core.Bool.{true, _&&_}
+use mathlib.Core.List.{[], _∷_}
 use Prim.Native.Nat.{ℕ, _+_, _*_}
-use lib.Dec.{T, eqb, le→leb}
+use lib.Dec.{T, le→leb}
 use lib.IntN.{ℤ, pos, _+ℤ_, _-ℤ_, _*ℤ_}
 use lib.Signed.{_<ℤ_}
 use Rattle.integer.proofs.Identity.{ring, reify}
 use Rattle.integer.proofs.Products.{*-pos}
-use Rattle.model.specs.Lists.{every}
 use Rattle.model.specs.Vector.{Vec, vec, plus, times}
 use Rattle.model.specs.View.{Window, Axes, View, levelAxes, direction, viewDirection}
 use Rattle.model.specs.Picture.{picture, cellPanel, unlitLists}
 use Rattle.model.specs.Call.{Call, callDirection}
-use Rattle.model.specs.Questions.{Question, answer, sceneQuestions, callQuestions, questions, surveyAnswer, viewInRange, axesProper}
+use Rattle.model.specs.Questions.{answer, sceneQuestions, callQuestions, questions, surveyAnswer, viewInRange, axesProper}
 use Rattle.model.specs.Survey.{callPatches, callPicture, callUnlit}
-use Rattle.model.proofs.Tests.{is-true, both}
-use Rattle.model.proofs.Answers.{answer-yes, answer-no}
+use Rattle.model.proofs.Tests.{both}
+use Rattle.model.proofs.FirstNo.{without, without-same}
 use Rattle.model.proofs.Vectors.{det}
 use Rattle.model.proofs.CallLimits.{view-bounded, axes-bounded}
 
@@ -47,28 +46,6 @@ level-direction w i j =
 pub level-proper : T (axesProper levelAxes)
 unfolding axesProper
 level-proper = tt
-
--- the questions but those of a number
-abbrev pub without : {A : Type 0} → ℕ → List (Question A) → List (Question A)
-without n [] = []
-without n (q ∷ qs) = cond (eqb (q .number) n) (without n qs) (q ∷ without n qs)
-
--- where those say yes, they may be left out
-module _ {A : Type 0} (a : A) (n : ℕ) where
-  abbrev yesAt : Question A → Bool
-  yesAt q = not (eqb (q .number) n) || q .test a
-
-  without-same : (qs : List (Question A)) → T (every yesAt qs) → answer (without n qs) a ≡ answer qs a
-  without-same [] t = refl
-  without-same (q ∷ qs) t = go (eqb (q .number) n) (q .test a) refl (both (yesAt q) (every yesAt qs) .0 t .0) (without-same qs (both (yesAt q) (every yesAt qs) .0 t .1))
-    where
-      go : (here said : Bool) → q .test a ≡ said → T (not here || said) → answer (without n qs) a ≡ answer qs a →
-          answer (cond here (without n qs) (q ∷ without n qs)) a ≡ answer (q ∷ qs) a
-      go true true s t rest = rest ∙ sym (answer-yes q qs a (is-true s))
-      go true false s t rest = absurd t
-      go false true s t rest = answer-yes q (without n qs) a (is-true s) ∙ rest ∙ sym (answer-yes q qs a (is-true s))
-      go false false s t rest =
-          answer-no q (without n qs) a (λ u. subst T s u) ∙ sym (answer-no q qs a (λ u. subst T s u))
 
 -- a call of the old view
 module _ (c : Call) (level : c .camera .axes ≡ levelAxes) where

@@ -22,7 +22,7 @@ use Rattle.edges.specs.Edges.{EdgesAt, EdgesWritten}
 use Rattle.edges.proofs.Runs.{Apart, runs-apart, edges-stay}
 use Rattle.spans.specs.declared.Span.{Span}
 use Rattle.scanline.specs.Laying.{PatchDrawable}
-use Rattle.readiness.specs.Ready.{Paintable, Room, InSight, Drawn, ReachKnown, Reached, PatchReady, ReadyUpTo}
+use Rattle.readiness.specs.Ready.{Paintable, Room, InSight, Drawn, ReachKnown, Reached, EdgesReady, PatchReady, ReadyUpTo}
 
 pub ready-none :
     (bytes : List ℕ) (l : Layout) (s : Sight) (order : List ℕ) (edges : List ℤ) (rows : List ℕ) → ReadyUpTo bytes l s order edges rows 0
@@ -81,8 +81,7 @@ module _ {bytes : List ℕ} {l : Layout} {s : Sight} {order : List ℕ} (paintab
         drawn-now : InSight rows′ m → PatchDrawable bytes l s edges′ m
         drawn-now i = go (new .edges-are)
           where
-            go : EdgesWritten s (patchNumbered (decode bytes) m) (patchNumber bytes l m .cornerRun) edges edges′
-                ⊎ ((new .found .end ≤ new .found .first) × (edges′ ≡ edges)) → PatchDrawable bytes l s edges′ m
+            go : EdgesReady bytes l s m (new .found) edges edges′ → PatchDrawable bytes l s edges′ m
             go (inl w) = record { numbered = paintable .numbers n h; edges = w .edges }
             go (inr e) = let found : new .found .first < new .found .end = subst (λ (f : Span). f .first < f .end) (new .rows-are .stands) i in absurd (omega (arith, e .0))
 
@@ -99,8 +98,7 @@ module _ {bytes : List ℕ} {l : Layout} {s : Sight} {order : List ℕ} (paintab
             }
           where
             stay : {p : Patch} (run : Run) → Apart run (patchNumber bytes l m .cornerRun) → EdgesAt s p run edges →
-                EdgesWritten s (patchNumbered (decode bytes) m) (patchNumber bytes l m .cornerRun) edges edges′
-                ⊎ ((new .found .end ≤ new .found .first) × (edges′ ≡ edges)) → EdgesAt s p run edges′
+                EdgesReady bytes l s m (new .found) edges edges′ → EdgesAt s p run edges′
             stay run apart here (inl w) = edges-stay run (patchNumber bytes l m .cornerRun) apart w here
             stay {p} run apart here (inr e) = subst (EdgesAt s p run) (sym (e .1)) here
 

@@ -60,13 +60,17 @@ pub record ReadyAsked
   pub sight : SightBounded s
   pub room : Room l edges rows
 
+-- the edge functions of patch n are in the table now; or no row was found, and the table is as it was
+abbrev pub EdgesReady : List ℕ → Layout → Sight → ℕ → Span → List ℤ → List ℤ → Type 0
+EdgesReady bytes l s n found edges edges′ =
+    EdgesWritten s (patchNumbered (decode bytes) n) (patchNumber bytes l n .cornerRun) edges edges′
+    ⊎ ((found .end ≤ found .first) × (edges′ ≡ edges))
+
 -- patch n is worked out now, its edge functions only where some row was found, and what the tables hold of others is as it was
 pub record PatchReady
     (bytes : List ℕ) (l : Layout) (s : Sight) (n : ℕ) (edges edges′ : List ℤ) (rows rows′ : List ℕ) : Type 0 where
   pub found : Span
-  pub edges-are :
-      EdgesWritten s (patchNumbered (decode bytes) n) (patchNumber bytes l n .cornerRun) edges edges′
-      ⊎ ((found .end ≤ found .first) × (edges′ ≡ edges))
+  pub edges-are : EdgesReady bytes l s n found edges edges′
   pub rows-are : Stored spanAt rows rows′ n found
   pub reach : Reach (vecOf (s .eye)) (s .raster) (patchNumbered (decode bytes) n) found
 

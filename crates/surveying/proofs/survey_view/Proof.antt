@@ -10,6 +10,16 @@ use Rattle.surveying.proofs.survey_view.Tie as tie
 returns : tie.Need-returns
 returns c = refused _ _ _ _ (c .before .survey-answer .ensures) (c .if1 .taken)
 
+-- It stands before the needs on the way, so that an edit of what the call leaves is refused for what it leaves.
+returns-2 : tie.Need-returns-2
+returns-2 c =
+    let n = c .before .before in
+    let p = c .before .before .before .before .before .before .before .before .before in
+    let g = p .before .before .before in
+    let s = c .before .before .before .before .before .before .before .before .before .before .before .before .before .before .before .before .before .before .before in
+    accepted _ _ _ (lentOf (now (s .args .picture)) (now (s .args .counts)) (now (s .args .unlit)) (now (s .args .counter)))
+    (g .before .survey-answer .ensures) (g .if1 .left) (p .paint .ensures) (n .count-cells .ensures) refl
+
 paint-requires : tie.Need-paint-requires
 paint-requires c κs =
     let g = c .before .before in
@@ -34,15 +44,6 @@ add-counter c =
           counter-rises _ _ _ (lentOf (now (s .args .picture)) (now (s .args .counts)) (now (s .args .unlit)) (now (s .args .counter)))
           (g .before .survey-answer .ensures) (g .if1 .left);
     }
-
-returns-2 : tie.Need-returns-2
-returns-2 c =
-    let n = c .before .before in
-    let p = c .before .before .before .before .before .before .before .before .before in
-    let g = p .before .before .before in
-    let s = c .before .before .before .before .before .before .before .before .before .before .before .before .before .before .before .before .before .before .before in
-    accepted _ _ _ (lentOf (now (s .args .picture)) (now (s .args .counts)) (now (s .args .unlit)) (now (s .args .counter)))
-    (g .before .survey-answer .ensures) (g .if1 .left) (p .paint .ensures) (n .count-cells .ensures) refl
 
 pub survey-view-spec : {M : Type 1} → statement M
 survey-view-spec =
