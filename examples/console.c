@@ -1,13 +1,15 @@
 /*
  * console: surveys a scene from several stations and prints a bill for each.
  *
- *   console [-u] [-o PICTURE] [-a RX RY RZ FX FY FZ UX UY UZ]
+ *   console [-p] [-u] [-o PICTURE] [-a RX RY RZ FX FY FZ UX UY UZ]
  *           SCENE WIDTH HEIGHT LENS X Y Z [X Y Z ...]
  *
  * A bill is the view line, each panel that shows with its number of cells, the cells that show
  * none, and all cells; a refusal is one line, `refused N`. Bills follow in the stations' order.
- *   -u          after each bill, a line for each row with unlit cells: the row's number, then
- *               first column and length of each stretch
+ *   -p          after each bill, a line for each patch of the scene: the patch's number, then its
+ *               panel and its cells
+ *   -u          after that, a line for each row with unlit cells: the row's number, then first
+ *               column and length of each stretch
  *   -o PICTURE  write the last picture as raw little-endian u16, for tools/draw.py --raw
  *   -a RX .. UZ the camera's axes at all stations: its vectors right, forward and up, three parts
  *               each; the level view, 1 0 0 0 1 0 0 0 1, where they are not given
@@ -25,9 +27,13 @@
 static uint8_t scene[RING_SCENE_MAX + 1];
 static size_t scene_len;
 
-/* Room for the largest window. */
+/* Where a scene's header holds the patch section's offset and length. */
+enum { PATCHES_AT = 16, PATCHES_LENGTH = 20 };
+
+/* Room for the largest window and for the most patches. */
 static uint16_t picture[RING_WIDTH_MAX * RING_HEIGHT_MAX];
 static uint32_t counts[RING_PANEL_MAX + 1];
+static uint32_t patch_counts[RING_PATCH_MAX];
 static uint16_t unlit[RING_HEIGHT_MAX * RING_UNLIT_ROW];
 static uint32_t counter;
 
@@ -39,7 +45,7 @@ struct camera {
 
 struct options {
     const char *picture_name;
-    int with_unlit;
+    int with_patches, with_unlit;
 };
 
 /* Vectors as a call takes them, part after part. */
@@ -54,8 +60,9 @@ static int fail(const char *what, const char *name)
 
 static int usage(void)
 {
-    fputs("usage: console [-u] [-o PICTURE] [-a RX RY RZ FX FY FZ UX UY UZ]\n"
+    fputs("usage: console [-p] [-u] [-o PICTURE] [-a RX RY RZ FX FY FZ UX UY UZ]\n"
           "               SCENE WIDTH HEIGHT LENS X Y Z [X Y Z ...]\n"
+          "  -p  print each patch with its panel and its cells after each bill\n"
           "  -u  print the unlit stretches after each bill\n"
           "  -o  write the last picture as raw little-endian u16\n"
           "  -a  turn the camera: its axes right, forward and up, each part from -100 to 100;\n"
@@ -101,11 +108,40 @@ static void read_parts(char **words, int16_t *parts, int count, int *ok)
         parts[k] = (int16_t)number(words[k], INT16_MIN, INT16_MAX, ok);
 }
 
-/* The part of a buffer to lend. A window that is too large for it is refused before its length
- * is looked at, so then the whole buffer will do. */
+/* A byte of the scene, 0 past its end: a scene that is too short for its header is refused. */
+static uint32_t scene_byte(size_t at)
+{
+    return at < scene_len ? scene[at] : 0;
+}
+
+/* Every field has its least significant byte first. */
+static uint32_t scene_u16(size_t at)
+{
+    return scene_byte(at) | scene_byte(at + 1) << 8;
+}
+
+static uint32_t scene_u32(size_t at)
+{
+    return scene_u16(at) | scene_u16(at + 2) << 16;
+}
+
+/* The part of a buffer to lend. A window or a scene that is too large for it is refused before its
+ * length is looked at, so then the whole buffer will do. */
 static size_t at_most(size_t wanted, size_t room)
 {
     return wanted < room ? wanted : room;
+}
+
+/* How many patches the scene has, if it is one that can be accepted. */
+static size_t patch_count(void)
+{
+    return at_most(scene_u32(PATCHES_LENGTH) / RING_PATCH_BYTES, RING_PATCH_MAX);
+}
+
+/* The panel of an accepted scene's patch: the first field of its record. */
+static uint32_t patch_panel(size_t patch)
+{
+    return scene_u16(scene_u32(PATCHES_AT) + RING_PATCH_BYTES * patch);
 }
 
 /* Asks the gate first, which needs no buffer; then surveys. */
@@ -113,12 +149,14 @@ static uint32_t survey(const struct camera *c, const int16_t *eye)
 {
     size_t cells = at_most(RING_PICTURE_LEN(c->width, c->height), sizeof picture / sizeof *picture);
     size_t pairs = at_most(RING_UNLIT_LEN(c->height), sizeof unlit / sizeof *unlit);
+    size_t patches = patch_count();
     uint32_t gate = ring_gate(scene, scene_len, THREE(eye), NINE(c->axes),
                               c->width, c->height, c->lens,
-                              cells, RING_COUNTS_LEN, pairs, counter);
+                              cells, RING_COUNTS_LEN, patches, pairs, counter);
     uint32_t result = ring_survey(scene, scene_len, THREE(eye), NINE(c->axes),
                                   c->width, c->height, c->lens,
-                                  picture, cells, counts, RING_COUNTS_LEN, unlit, pairs, &counter);
+                                  picture, cells, counts, RING_COUNTS_LEN,
+                                  patch_counts, patches, unlit, pairs, &counter);
     if (gate != result) {
         fprintf(stderr, "console: the gate said %u, the survey %u\n",
                 (unsigned)gate, (unsigned)result);
@@ -135,6 +173,13 @@ static void print_bill(const struct camera *c)
             printf("%u %lu\n", panel, (unsigned long)counts[panel]);
     printf("nothing %lu\n", (unsigned long)counts[0]);
     printf("total %lu\n", (unsigned long)c->width * c->height);
+}
+
+static void print_patches(void)
+{
+    for (size_t patch = 0; patch < patch_count(); patch++)
+        printf("patch %lu: %lu %lu\n", (unsigned long)patch, (unsigned long)patch_panel(patch),
+               (unsigned long)patch_counts[patch]);
 }
 
 /* The used pairs of a row end before the first pair of length 0, or with the row. */
@@ -182,7 +227,9 @@ static int read_options(int argc, char **argv, struct options *options, int16_t 
 {
     int at = 1;
     for (; at < argc && argv[at][0] == '-'; at++) {
-        if (!strcmp(argv[at], "-u")) {
+        if (!strcmp(argv[at], "-p")) {
+            options->with_patches = 1;
+        } else if (!strcmp(argv[at], "-u")) {
             options->with_unlit = 1;
         } else if (!strcmp(argv[at], "-o") && at + 1 < argc) {
             options->picture_name = argv[++at];
@@ -203,7 +250,7 @@ static void read_window(char **words, struct camera *c, int *ok)
     c->lens = window_number(words[2], ok);
 }
 
-static void print_survey(const struct camera *c, const int16_t *eye, int with_unlit)
+static void print_survey(const struct camera *c, const int16_t *eye, const struct options *options)
 {
     uint32_t result = survey(c, eye);
     if (result != RING_DONE) {
@@ -211,13 +258,15 @@ static void print_survey(const struct camera *c, const int16_t *eye, int with_un
         return;
     }
     print_bill(c);
-    if (with_unlit)
+    if (options->with_patches)
+        print_patches();
+    if (options->with_unlit)
         print_unlit(c);
 }
 
 int main(int argc, char **argv)
 {
-    struct options options = {NULL, 0};
+    struct options options = {NULL, 0, 0};
     struct camera c = {0, 0, 0, {RING_LEVEL_VIEW}};
     int16_t eye[3];
     int ok = 1;
@@ -233,7 +282,7 @@ int main(int argc, char **argv)
         return 1;
     for (int k = at + 4; k < argc; k += 3) {
         read_parts(argv + k, eye, 3, &ok);
-        print_survey(&c, eye, options.with_unlit);
+        print_survey(&c, eye, &options);
     }
     if (fflush(stdout) || ferror(stdout))
         return fail("cannot write", "standard output");

@@ -3,16 +3,17 @@
  *
  * A survey reads a scene (flat patches of numbered panels, kept in a tree of planes), checks it,
  * and says for each cell of a window which panel is the closest along that cell's sight line from
- * the eye. Everything is exact in whole numbers. One length unit is 5 mm; x is to the right, y
+ * the eye. It counts these cells by panel, and by patch, which tells the pieces of a panel that
+ * were seen. Everything is exact in whole numbers. One length unit is 5 mm; x is to the right, y
  * forward along the bore, z up. The camera may look any way: three vectors say how it is turned.
  *
  * Link with libsurvey.a:   cc -Iinclude console.c -Llib -lsurvey
  *
  * What is lent. The calls only use the memory for as long as they run and keep no pointer. Every
  * pointer must be good for the length given with it, which counts ELEMENTS and not bytes, and must
- * not be null; picture, counts, unlit and counter must not overlap one another or the scene.
- * Whatever the numbers, the scene's bytes and the lengths are, a call ends: with RING_DONE and a
- * full survey, or with one refusal and nothing changed.
+ * not be null, even where that length is 0; picture, counts, patch_counts, unlit and counter must
+ * not overlap one another or the scene. Whatever the numbers, the scene's bytes and the lengths
+ * are, a call ends: with RING_DONE and a full survey, or with one refusal and nothing changed.
  *
  * The stack. A call takes no memory but the caller's stack: a quarter of a megabyte, and half a
  * megabyte for a tree that is one chain of 1,024 nodes. Call from a thread that has a megabyte free.
@@ -42,11 +43,22 @@ extern "C" {
  */
 #define RING_LEVEL_VIEW  1, 0, 0, 0, 1, 0, 0, 0, 1
 
-/* The longest scene in bytes, and the highest panel number. */
+/* The longest scene in bytes, the highest panel number, and the most patches. */
 #define RING_SCENE_MAX   57376
 #define RING_PANEL_MAX   1024
+#define RING_PATCH_MAX   1024
 
-/* Lengths of the lent buffers, in elements. They must be exactly these. */
+/* The length of a scene's patch record, in bytes. */
+#define RING_PATCH_BYTES 6
+
+/*
+ * Lengths of the lent buffers, in elements. They must be exactly these. That of patch_counts is the
+ * number of the scene's patches: the length of its patch section, which is the u32 at byte 20 of
+ * the scene (least significant byte first), divided by RING_PATCH_BYTES. This is right for every
+ * scene that questions 1 to 9 let pass; any other, also one too short for these bytes, is refused
+ * before the lengths are looked at. So a table of RING_PATCH_MAX entries has room for every scene,
+ * and as many of them are lent as the scene has patches.
+ */
 #define RING_PICTURE_LEN(width, height)  ((size_t)(width) * (size_t)(height))
 #define RING_COUNTS_LEN                  ((size_t)1025)
 #define RING_UNLIT_ROW                   ((size_t)256)
@@ -86,7 +98,8 @@ enum ring_result {
     RING_BAD_AXES = 14,    /* a part of right, forward or up is outside -100 to 100, or
                               right . (forward x up) is not above 0: it is 0 where the three lie
                               in one plane, and below 0 where the picture would be mirrored */
-    RING_BAD_BUFFERS = 11, /* picture_len is not width x height, counts_len is not 1,025, or
+    RING_BAD_BUFFERS = 11, /* picture_len is not width x height, counts_len is not 1,025,
+                              patch_counts_len is not the number of the scene's patches, or
                               unlit_len is not height x 256 */
     RING_BAD_COUNTER = 12, /* the station counter stands at 4,294,967,295 and cannot rise */
     RING_BAD_STRETCHES = 13 /* a row would need more than 128 unlit stretches while it is painted.
@@ -110,6 +123,13 @@ enum ring_result {
  *                             picture[j * width + i]; a panel number, or 0 where none is met
  *   counts, counts_len        1,025 numbers. counts[p] is the number of cells that show panel p,
  *                             counts[0] of those that show none; together width x height
+ *   patch_counts,             one entry a patch; a scene without patches wants a length of 0 and
+ *   patch_counts_len          any pointer that is not null. patch_counts[k] is the number of cells
+ *                             whose closest patch is number k, counted from 0 as the patches stand
+ *                             in the scene's list. The closest is the one met at the least
+ *                             distance; of several there, the one of the lowest panel; of one
+ *                             panel, the earlier in the list. A patch that stands twice is two
+ *                             patches. A panel's count is the sum over its patches
  *   unlit, unlit_len          height x 256 numbers. Row j has the 256 from unlit + 256 * j: 128
  *                             pairs of offset and length, one for each stretch of cells that
  *                             show no panel, from left to right, with a lit cell between any
@@ -117,9 +137,9 @@ enum ring_result {
  *                             the first pair of length 0, or with the row when all 128 are used
  *   counter                   the station counter: raised by one when the result is RING_DONE
  *
- * Returns RING_DONE: picture, counts and unlit are written in full, whatever they held before,
- * and the counter is raised. Any other result is a refusal: picture, counts, unlit and counter
- * are just as they were.
+ * Returns RING_DONE: picture, counts, patch_counts and unlit are written in full, whatever they
+ * held before, and the counter is raised. Any other result is a refusal: picture, counts,
+ * patch_counts, unlit and counter are just as they were.
  */
 uint32_t ring_survey(const uint8_t *scene, size_t scene_len,
                      int16_t eye_x, int16_t eye_y, int16_t eye_z,
@@ -129,6 +149,7 @@ uint32_t ring_survey(const uint8_t *scene, size_t scene_len,
                      uint16_t width, uint16_t height, uint16_t lens,
                      uint16_t *picture, size_t picture_len,
                      uint32_t *counts, size_t counts_len,
+                     uint32_t *patch_counts, size_t patch_counts_len,
                      uint16_t *unlit, size_t unlit_len,
                      uint32_t *counter);
 
@@ -142,7 +163,8 @@ uint32_t ring_gate(const uint8_t *scene, size_t scene_len,
                    int16_t forward_x, int16_t forward_y, int16_t forward_z,
                    int16_t up_x, int16_t up_y, int16_t up_z,
                    uint16_t width, uint16_t height, uint16_t lens,
-                   size_t picture_len, size_t counts_len, size_t unlit_len,
+                   size_t picture_len, size_t counts_len, size_t patch_counts_len,
+                   size_t unlit_len,
                    uint32_t counter);
 
 #ifdef __cplusplus

@@ -1,5 +1,5 @@
 #!/bin/sh
-# Builds examples/console.c with the library and holds its bills against those of tools/rays.py.
+# Builds examples/console.c with the library and holds its bills and the cells of each patch against those of tools/rays.py.
 #   console.sh LIBDIR      the folder that holds libsurvey.a
 # Ends with 1 if anything differs.
 [ $# -eq 1 ] || { echo "usage: console.sh LIBDIR" >&2; exit 2; }
@@ -16,12 +16,14 @@ count() { # STATUS NAME
 
 tool() { tool_name=$1; shift; python3 "$root/tools/$tool_name" "$@"; }
 
-# gives OPTION...: the bills and the last picture wanted, with these options of console.
+# gives OPTION...: the bills and the last picture wanted, with these options of console, and with the patches beside them.
 gives() {
-    rm -f "$work/got.u16"
-    "$work/console" "$@" -o "$work/got.u16" "$scene" $window $words >"$work/got"
-    cmp "$work/wanted" "$work/got" && cmp "$work/wanted.u16" "$work/got.u16"
-    count $? "bills of ${scene##*/}, window $window $*"
+    for listed in '' -p; do
+        rm -f "$work/got.u16"
+        "$work/console" $listed "$@" -o "$work/got.u16" "$scene" $window $words >"$work/got"
+        cmp "$work/wanted$listed" "$work/got" && cmp "$work/wanted.u16" "$work/got.u16"
+        count $? "bills of ${scene##*/}, window $window $listed $*"
+    done
 }
 
 # turned AXES SCENE WINDOW STATION...: the bills of all stations in one run, and the last picture.
@@ -29,13 +31,14 @@ turned() {
     axes=$1 scene=$work/$2.scene window=$3
     shift 3
     rm -f "$work/wanted.u16"
-    : >"$work/wanted"
+    : >"$work/wanted-p"
     words=
     for station in "$@"; do
         tool scene.py view "$scene" "$work/in.view" $station $window
-        tool rays.py ${axes:+--axes $axes} "$work/in.view" "$work/wanted.u16" >>"$work/wanted"
+        tool rays.py --patches ${axes:+--axes $axes} "$work/in.view" "$work/wanted.u16" >>"$work/wanted-p"
         words="$words $station"
     done
+    grep -v '^patch ' "$work/wanted-p" >"$work/wanted"
     gives ${axes:+-a $axes}
 }
 
@@ -43,6 +46,22 @@ turned() {
 level() {
     turned "" "$@"
     gives -a 1 0 0 0 1 0 0 0 1
+}
+
+# made NAME LINE...: a scene from lines of text.
+made() {
+    name=$1
+    shift
+    printf '%s\n' "$@" | tool scene.py build - "$work/$name.scene"
+}
+
+# piece PANEL FORWARD LEFT RIGHT BOTTOM TOP: the line of a patch across the bore.
+piece() { echo "patch $1 $3,$2,$5 $4,$2,$5 $4,$2,$6 $3,$2,$6"; }
+
+# crowd COUNT: a scene in which one triangle stands this often.
+crowd() {
+    { echo "$node" && seq "$1" | sed 's/.*/patch 5 -50,100,-50 50,100,-50 0,100,50/'; } |
+        tool scene.py build - "$work/crowd.scene"
 }
 
 # prints EXPECTED WORD...: what console prints.
@@ -103,6 +122,48 @@ turned "1 0 -1 0 2 0 1 0 1" bars "9 7 8" "0 0 0"
 turned "-97 31 -12 25 100 -8 -9 14 -100" ring "64 32 40" "0 20 0" "300 1000 -200"
 turned "-4 3 0 -3 -4 1 0 1 6" ring "64 32 40" "300 1000 -200" "40 4700 -100"
 
+# Which piece of a panel was seen: a square that stands twice; its left half before and after the whole; pieces of two panels
+# that overlap; pieces of one panel one behind the other; a piece that is hidden; no patch, without a node and with one; the ring
+# with each patch twice.
+node='node 0,100,0 1,100,0 0,100,1' nearer='node 0,50,0 1,50,0 0,50,1'
+square=$(piece 5 100 -50 50 -50 50) half=$(piece 5 100 -50 0 -50 50)
+made twice "$node" "$square" "$square"
+made half_first "$node" "$half" "$square"
+made whole_first "$node" "$square" "$half"
+made overlap "$node" "$(piece 3 100 -50 0 -50 50)" "$(piece 3 100 -80 -20 -50 50)" "$(piece 5 100 -80 80 -80 80)" "$square"
+made behind "$node positive 1" "$square" "$nearer" "$(piece 5 50 -10 10 -10 10)"
+made hidden "$nearer negative 1" "$(piece 7 50 -20 0 -20 20)" "$node" "$(piece 5 100 -50 10 -50 50)" \
+    "$(piece 5 100 10 50 -50 50)"
+made none
+made bare "$node"
+tool scene.py show "$work/ring.scene" | awk '{ print } /^ *patch/ { print }' | tool scene.py build - "$work/doubled.scene"
+for name in twice half_first whole_first; do
+    level $name "4 4 4" "0 0 0" "0 75 0" "0 200 0" "0 0 0"
+done
+level overlap "8 4 4" "0 0 0" "-30 40 10"
+level behind "8 8 8" "0 0 0" "5 -30 5" "0 200 0"
+turned "-1 0 0 0 -1 0 0 0 1" behind "8 8 8" "0 200 0" "0 75 0"
+level hidden "8 4 8" "0 0 0" "40 0 0"
+level none "4 4 4" "0 0 0" "7 7 7"
+level bare "4 4 4" "0 0 0"
+level doubled "48 24 30" "0 20 0" "300 1000 -200"
+turned "-4 3 0 -3 -4 1 0 1 6" doubled "48 24 30" "40 4700 -100"
+prints "$(printf '%s\n' 'view 4 4 4' '5 4' 'nothing 12' 'total 16' 'patch 0: 5 2' 'patch 1: 5 2' 'refused 10' 'view 4 4 4' \
+    'nothing 16' 'total 16' 'patch 0: 5 0' 'patch 1: 5 0')" -p "$work/half_first.scene" 4 4 4 0 0 0 0 0 10001 0 200 0
+prints "$(printf '%s\n' 'view 1 1 4' '5 1' 'nothing 0' 'total 1' 'patch 0: 5 1' 'patch 1: 5 0')" \
+    -u -p "$work/twice.scene" 1 1 4 0 0 0
+prints "$(printf '%s\n' 'view 2 1 4' 'nothing 2' 'total 2' 'patch 0: 9 0' 'unlit 0: (0,2)')" \
+    -u -p "$work/wall.scene" 2 1 4 0 0 0
+prints "$(printf '%s\n' 'view 1 1 4' 'nothing 1' 'total 1')" -p "$work/none.scene" 1 1 4 0 0 0
+
+# The most patches, and one more; and a section of patches that is longer than any.
+crowd 1024
+level crowd "4 4 4" "0 0 0"
+crowd 1025
+prints 'refused 2' -p "$work/crowd.scene" 4 4 4 0 0 0
+made endless 'patches-at 58 4294967295' "$node" "$square"
+prints 'refused 2' -p "$work/endless.scene" 4 4 4 0 0 0
+
 prints 'refused 10' "$work/s.scene" 257 4 4 0 0 0
 prints 'refused 10' "$work/s.scene" 65535 65535 4 0 0 0
 prints 'refused 10' "$work/s.scene" 4 4 4 0 0 10001
@@ -118,12 +179,20 @@ prints 'refused 10' -a 1 0 101 0 1 0 0 0 1 "$work/s.scene" 4 4 0 0 0 0
 prints 'refused 14' -a 1 0 101 0 1 0 0 0 1 "$work/s.scene" 4 4 4 0 0 0
 misused -a 1 0 0 0 1 0 0 0 40000 "$work/s.scene" 4 4 4 0 0 0
 misused -a 1 0 0 0 1 0 0 0 "$work/s.scene" 4 4 4 0 0 0
+misused -p
+misused "$work/s.scene" 4 4 4 0 0 0 -p
 
 head -c 87 "$work/s.scene" >"$work/short.scene"
 prints 'refused 1' "$work/short.scene" 4 4 4 0 0 0
+prints 'refused 1' -p "$work/short.scene" 4 4 4 0 0 0
 prints 'refused 1' -a 0 0 0 0 0 0 0 0 0 "$work/short.scene" 4 4 4 0 0 0
 { echo 'length 57377' | tool scene.py build - -; head -c 60000 /dev/zero; } >"$work/long.scene"
 prints 'refused 1' "$work/long.scene" 4 4 4 0 0 0
+# Scenes that end before or within the length of their patch section.
+for length in 0 20 22; do
+    head -c $length "$work/ring.scene" >"$work/cut.scene"
+    prints 'refused 1' -p "$work/cut.scene" 4 4 4 0 0 0
+done
 prints "$(printf '%s\n' 'view 4 4 4' '5 4' 'nothing 12' 'total 16' 'unlit 0: (0,4)' \
     'unlit 1: (0,1) (3,1)' 'unlit 2: (0,1) (3,1)' 'unlit 3: (0,4)')" -u "$work/s.scene" 4 4 4 0 0 0
 prints "$(printf '%s\n' 'view 4 4 4' '9 4' 'nothing 12' 'total 16' 'unlit 0: (0,3)' 'unlit 1: (0,3)' \

@@ -49,8 +49,13 @@ IS_NINE(RING_LEVEL_VIEW, 1, 0, 0, 0, 1, 0, 0, 0, 1);
 IS(RING_SCENE_MAX, 57376);
 IS(RING_PANEL_MAX, 1024);
 
+/* Question 2: "at most 1,024 nodes, 1,024 patches and 4,096 corners". "Patch, 6 bytes". */
+IS(RING_PATCH_MAX, 1024);
+IS(RING_PATCH_BYTES, 6);
+
 /* Question 11: "the picture (u16) width × height cells, the counts (u32) 1,025, the unlit lists
- * (u16) height × 256"; "row j has the 256 numbers from 256 × j". */
+ * (u16) height × 256"; "row j has the 256 numbers from 256 × j". The table of "one entry a patch"
+ * has as many as the scene, which no number here can say. */
 IS(RING_PICTURE_LEN(256, 128), 32768);
 IS(RING_PICTURE_LEN(128, 256), 32768);
 IS(RING_PICTURE_LEN(2 + 3, 3 + 4), 35);
@@ -68,7 +73,8 @@ IS_SIZE(RING_UNLIT_LEN(1));
 
 /* The calls: the scene's bytes; the eye, three i16; "three vectors, right, forward and up", three
  * i16 each, so that -101 and 101 can arrive and be refused; width, height and lens, u16 each; what
- * is lent, with its lengths; the station counter, up to 4,294,967,295. */
+ * is lent, each with its length, after the counts the "further lent table (u32, one entry a
+ * patch)"; the station counter, up to 4,294,967,295. */
 uint32_t ring_survey(const uint8_t *scene, size_t scene_len,
                      int16_t eye_x, int16_t eye_y, int16_t eye_z,
                      int16_t right_x, int16_t right_y, int16_t right_z,
@@ -77,6 +83,7 @@ uint32_t ring_survey(const uint8_t *scene, size_t scene_len,
                      uint16_t width, uint16_t height, uint16_t lens,
                      uint16_t *picture, size_t picture_len,
                      uint32_t *counts, size_t counts_len,
+                     uint32_t *patch_counts, size_t patch_counts_len,
                      uint16_t *unlit, size_t unlit_len,
                      uint32_t *counter);
 uint32_t ring_gate(const uint8_t *scene, size_t scene_len,
@@ -85,7 +92,8 @@ uint32_t ring_gate(const uint8_t *scene, size_t scene_len,
                    int16_t forward_x, int16_t forward_y, int16_t forward_z,
                    int16_t up_x, int16_t up_y, int16_t up_z,
                    uint16_t width, uint16_t height, uint16_t lens,
-                   size_t picture_len, size_t counts_len, size_t unlit_len,
+                   size_t picture_len, size_t counts_len, size_t patch_counts_len,
+                   size_t unlit_len,
                    uint32_t counter);
 
 /* "A scene of 32 bytes with no node is legal and shows nothing." */
@@ -112,14 +120,18 @@ struct view {
     uint16_t picture[24];
 };
 
-/* Level; rolled by a quarter turn; upside down; and a view whose numbers all differ, so that no two
- * of them can change places without another picture or a refusal. */
+/* Level; rolled by a quarter turn; upside down; from aside, where no two of the four panels have as
+ * many cells, so that their counts cannot change places; and a view whose numbers all differ, so
+ * that no two of them can change places without another picture or a refusal. */
 static const struct view level = {
     {0, 0, 0, RING_LEVEL_VIEW, 4, 2, 4}, {1, 1, 2, 2, 3, 3, 4, 4}};
 static const struct view rolled = {
     {0, 0, 0, 0, 0, -1, 0, 1, 0, 1, 0, 0, 4, 2, 4}, {2, 2, 4, 4, 1, 1, 3, 3}};
 static const struct view upside_down = {
     {0, 0, 0, -1, 0, 0, 0, 1, 0, 0, 0, -1, 4, 2, 4}, {4, 4, 3, 3, 2, 2, 1, 1}};
+static const struct view aside = {
+    {-80, 0, -30, RING_LEVEL_VIEW, 6, 4, 5},
+    {0, 0, 0, 1, 1, 2, 0, 0, 0, 3, 3, 4, 0, 0, 0, 3, 3, 4, 0, 0, 0, 3, 3, 4}};
 static const struct view oblique = {
     {-19, -49, 26, 9, 2, -7, 3, 12, -4, 11, -1, 8, 6, 4, 5},
     {0, 2, 2, 0, 0, 0, 1, 1, 2, 4, 0, 0, 0, 1, 3, 4, 4, 0, 0, 0, 3, 3, 0, 0}};
@@ -132,31 +144,62 @@ static const int narrow[3][15] = {
     {-101, -102, -103, 1, 0, 0, -1, -1, 1, 2, -1, -1, 6, 4, 5},
     {-101, -102, -103, 1, 0, 2, 2, 1, 1, 1, 2, 0, 6, 4, 5}};
 
-/* A call's numbers, with those in two places exchanged, as by a library that takes them in another
- * order; and the lengths of what it lends, which stay. */
+/* What a call lends. Each has room for the longest, so that two lengths can change places too. */
+static uint16_t picture[1025], unlit[1025];
+static uint32_t counts[1025], patch_counts[1025];
+
+/* How many patches a scene has: "u16 version, 1; u16 zero; u32 whole length; then three pairs of
+ * u32 offset and length in bytes", of which the second pair is the patches'. */
+static size_t patches_in(const uint8_t *scene)
+{
+    uint32_t low = scene[20] | (uint32_t)scene[21] << 8;
+    return (low | (uint32_t)scene[22] << 16 | (uint32_t)scene[23] << 24) / RING_PATCH_BYTES;
+}
+
+/* A call's numbers in its order, those of a view and then the four lengths, with the numbers in two
+ * places exchanged, as by a library that takes them in another order. The lengths are those of the
+ * view as it was. */
 struct call {
-    int number[15];
-    size_t cells, pairs;
+    int number[19];
 };
 
-static struct call call_of(const int *number, int one, int other)
+/* Where the lengths begin, and where that of the patch table stands among them. */
+enum { LENGTHS = 15, TABLE = 17 };
+
+static struct call call_of(const int *view, int one, int other)
 {
-    struct call c = {{0}, RING_PICTURE_LEN(number[12], number[13]), RING_UNLIT_LEN(number[13])};
-    memcpy(c.number, number, sizeof c.number);
-    c.number[one] = number[other];
-    c.number[other] = number[one];
+    struct call c = {{0}};
+    memcpy(c.number, view, LENGTHS * sizeof *view);
+    c.number[LENGTHS] = (int)RING_PICTURE_LEN(view[12], view[13]);
+    c.number[LENGTHS + 1] = (int)RING_COUNTS_LEN;
+    c.number[TABLE] = (int)patches_in(quarters);
+    c.number[TABLE + 1] = (int)RING_UNLIT_LEN(view[13]);
+    int kept = c.number[one];
+    c.number[one] = c.number[other];
+    c.number[other] = kept;
     return c;
 }
 
 #define THREE(n) (int16_t)(n)[0], (int16_t)(n)[1], (int16_t)(n)[2]
-#define NUMBERS(n) THREE(n), THREE((n) + 3), THREE((n) + 6), THREE((n) + 9), \
-                   (uint16_t)(n)[12], (uint16_t)(n)[13], (uint16_t)(n)[14]
+#define VIEW(n) THREE(n), THREE((n) + 3), THREE((n) + 6), THREE((n) + 9), \
+                (uint16_t)(n)[12], (uint16_t)(n)[13], (uint16_t)(n)[14]
 
-static int passes(const int *number, int one, int other)
+static uint32_t gate(const int *n, uint32_t count)
 {
-    struct call c = call_of(number, one, other);
-    return ring_gate(quarters, sizeof quarters, NUMBERS(c.number), c.cells, 1025, c.pairs, 6) ==
-           RING_DONE;
+    return ring_gate(quarters, sizeof quarters, VIEW(n), (size_t)n[LENGTHS],
+                     (size_t)n[LENGTHS + 1], (size_t)n[TABLE], (size_t)n[TABLE + 1], count);
+}
+
+static uint32_t survey(const int *n, uint32_t *count)
+{
+    return ring_survey(quarters, sizeof quarters, VIEW(n), picture, (size_t)n[LENGTHS], counts,
+                       (size_t)n[LENGTHS + 1], patch_counts, (size_t)n[TABLE], unlit,
+                       (size_t)n[TABLE + 1], count);
+}
+
+static int passes(const int *view, int one, int other)
+{
+    return gate(call_of(view, one, other).number, 6) == RING_DONE;
 }
 
 static int all_pass(int one, int other)
@@ -165,23 +208,72 @@ static int all_pass(int one, int other)
            passes(narrow[2], one, other);
 }
 
-static int shows(struct view v, int one, int other)
+/* The table as no survey leaves it, also beyond what is lent of it. */
+static void spoil_table(void)
 {
-    static uint16_t picture[24], unlit[4 * 256];
-    static uint32_t counts[1025];
-    struct call c = call_of(v.number, one, other);
-    uint32_t counter = 6;
-    uint32_t survey = ring_survey(quarters, sizeof quarters, NUMBERS(c.number), picture, c.cells,
-                                  counts, 1025, unlit, c.pairs, &counter);
-    return survey == RING_DONE && counter == 7 &&
-           !memcmp(picture, v.picture, c.cells * sizeof *picture);
+    for (size_t k = 0; k < 1025; k++)
+        patch_counts[k] = 9;
 }
 
-/* The answer where all is level and fits but what is named. */
+static int is_spoilt(void)
+{
+    size_t k = 0;
+    while (k < 1025 && patch_counts[k] == 9)
+        k++;
+    return k == 1025;
+}
+
+/* Patch k of the quarters is the whole of panel k + 1: it has the cells that show this panel. What
+ * the table held before is gone, and beyond its four entries nothing is written. */
+static int counts_cells(const uint16_t *shown)
+{
+    uint32_t cells[6] = {[5] = 9};
+    for (size_t k = 0; k < 24; k++)
+        cells[shown[k]]++;
+    return !memcmp(counts + 1, cells + 1, 4 * sizeof *cells) &&
+           !memcmp(patch_counts, cells + 1, 5 * sizeof *cells);
+}
+
+static int shows(struct view v, int one, int other)
+{
+    struct call c = call_of(v.number, one, other);
+    uint32_t counter = 6;
+    spoil_table();
+    return survey(c.number, &counter) == RING_DONE && counter == 7 && counts_cells(v.picture) &&
+           !memcmp(picture, v.picture, (size_t)c.number[LENGTHS] * sizeof *picture);
+}
+
+/* The answer to a level view of the quarters with a table of this length, if the gate gives it too
+ * and a refusal leaves the table and the counter as they were. */
+static uint32_t answer_of_table(int patches, uint32_t count)
+{
+    struct call c = call_of(level.number, 0, 0);
+    uint32_t after = count;
+    c.number[TABLE] = patches;
+    spoil_table();
+    uint32_t answer = survey(c.number, &after);
+    int kept = is_spoilt() && after == count;
+    return gate(c.number, count) == answer && (answer == RING_DONE || kept) ? answer : UINT32_MAX;
+}
+
+/* "Question 11 covers the new table's length": one entry a patch, whatever the counts and the most
+ * patches are. Question 12 comes after it. */
+static int asks_table(void)
+{
+    return patches_in(quarters) == 4 && answer_of_table(4, 0) == RING_DONE &&
+           answer_of_table(3, 0) == RING_BAD_BUFFERS && answer_of_table(5, 0) == RING_BAD_BUFFERS &&
+           answer_of_table(0, 0) == RING_BAD_BUFFERS &&
+           answer_of_table(1024, 0) == RING_BAD_BUFFERS &&
+           answer_of_table(1025, 0) == RING_BAD_BUFFERS &&
+           answer_of_table(3, UINT32_MAX) == RING_BAD_BUFFERS &&
+           answer_of_table(4, UINT32_MAX) == RING_BAD_COUNTER;
+}
+
+/* The answer on the scene of nothing where all is level and fits but what is named. */
 static uint32_t answer(int16_t up_y, int16_t up_z, uint16_t lens, size_t cells, uint32_t counter)
 {
     return ring_gate(nothing, 32, 0, 0, 0, 1, 0, 0, 0, 1, 0, 0, up_y, up_z, 1, 1, lens, cells, 1025,
-                     256, counter);
+                     0, 256, counter);
 }
 
 /* "14 when a part is out of range or right . (forward x up) is not above 0, put right after
@@ -196,16 +288,21 @@ static int asks_axes(void)
            answer(0, 1, 1, 2, UINT32_MAX) == RING_BAD_BUFFERS;
 }
 
-/* The calls are there and answer; what is lent is written in full. */
+/* The calls are there and answer; what is lent is written in full. A scene without patches takes a
+ * table of length 0, of which nothing is written, and no other. */
 static int shows_nothing(void)
 {
-    uint16_t picture[1] = {9}, unlit[256] = {9, 9, 9};
-    uint32_t counts[1025] = {9, 9}, counter = 6;
-    uint32_t survey = ring_survey(nothing, 32, 0, 0, 0, RING_LEVEL_VIEW, 1, 1, 1, picture, 1,
-                                  counts, 1025, unlit, 256, &counter);
-    return answer(0, 1, 1, 1, 6) == RING_DONE && survey == RING_DONE && counter == 7 &&
-           picture[0] == 0 && counts[0] == 1 && counts[1] == 0 && unlit[0] == 0 && unlit[1] == 1 &&
-           unlit[2] == 0;
+    uint16_t cell[1] = {9}, row[256] = {9, 9, 9};
+    uint32_t counted[1025] = {9, 9}, table[1] = {9}, counter = 6;
+    uint32_t refused = ring_survey(nothing, 32, 0, 0, 0, RING_LEVEL_VIEW, 1, 1, 1, cell, 1,
+                                   counted, 1025, table, 1, row, 256, &counter);
+    int left = counter == 6 && cell[0] == 9 && counted[0] == 9 && row[0] == 9;
+    uint32_t done = ring_survey(nothing, 32, 0, 0, 0, RING_LEVEL_VIEW, 1, 1, 1, cell, 1,
+                                counted, 1025, table, 0, row, 256, &counter);
+    return patches_in(nothing) == 0 && refused == RING_BAD_BUFFERS && left &&
+           answer(0, 1, 1, 1, 6) == RING_DONE && done == RING_DONE && counter == 7 &&
+           cell[0] == 0 && counted[0] == 1 && counted[1] == 0 && table[0] == 9 && row[0] == 0 &&
+           row[1] == 1 && row[2] == 0;
 }
 
 static int holds(struct view v)
@@ -214,7 +311,7 @@ static int holds(struct view v)
 }
 
 /* header                  holds the library to all of this
- * header survey ONE OTHER is the oblique view's picture still shown with two numbers exchanged?
+ * header survey ONE OTHER is the oblique view still shown with two numbers exchanged?
  * header gate ONE OTHER   do the narrow views all pass with two numbers exchanged? */
 int main(int argc, char **argv)
 {
@@ -222,6 +319,6 @@ int main(int argc, char **argv)
         int one = atoi(argv[2]), other = atoi(argv[3]);
         return !(strcmp(argv[1], "gate") ? shows(oblique, one, other) : all_pass(one, other));
     }
-    return !(shows_nothing() && asks_axes() && all_pass(0, 0) && holds(level) && holds(rolled) &&
-             holds(upside_down) && holds(oblique));
+    return !(shows_nothing() && asks_axes() && asks_table() && all_pass(0, 0) && holds(level) &&
+             holds(rolled) && holds(upside_down) && holds(aside) && holds(oblique));
 }

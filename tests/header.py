@@ -3,10 +3,10 @@
     header.py LIBDIR      the folder that holds libsurvey.a
 
 tests/header.c compiles with the header, links with the archive and runs; it speaks of every name of the header, lists the
-results in the header's order and declares the calls word for word; the archive exports these calls and nothing else. That
-all this can fail: of the header's numbers and types each is changed alone, and none of these headers compiles; any two
-numbers of a call are exchanged, and the call paints another picture or is refused. Each case is counted; a case that fails
-is named.
+results in the header's order and declares the calls word for word; the archive exports these calls and nothing else. The
+numbers in the header's words are those of the papers, written here a second time. That all this can fail: of the header's
+numbers and types each is changed alone, and none of these headers compiles; any two numbers of a call's view, or any two of
+its lengths, are exchanged, and the call paints another picture or is refused. Each case is counted; a case that fails is named.
 """
 
 import collections
@@ -20,6 +20,7 @@ import tempfile
 ROOT = os.path.dirname(os.path.dirname(os.path.abspath(__file__)))
 CHECK = os.path.join(ROOT, "tests", "header.c")
 CC = ["cc", "-std=c11", "-Wall", "-Wextra", "-Werror"]
+COMMENT = re.compile(r"/\*.*?\*/", flags=re.DOTALL)
 
 # What is changed in turn, and what is put in its place.
 CHANGES = (("number", r"\b\d+\b", lambda found: str(int(found) + 1)),
@@ -27,8 +28,30 @@ CHANGES = (("number", r"\b\d+\b", lambda found: str(int(found) + 1)),
            ("const", r"\bconst\b", lambda found: ""),
            ("pointer", r"\*(?=\w)", lambda found: ""))
 
-# Numbers of a call, eye, right, forward, up and window; the first of them are the eye's, of which the gate asks the same.
-NUMBERS, EYE = 15, 3
+# Numbers of a call's view, eye, right, forward, up and window, and the lengths of what it lends, by their places in a call. The
+# first of them are the eye's, of which the gate asks the same.
+NUMBERS, LENGTHS, EYE = range(15), range(15, 19), 3
+
+# The numbers in the header's words, by the name that a comment is about: those of each question, and where something else is
+# quoted or meant, that.
+SAID = {
+    "RING_H": "5 0 1024",                           # "One length unit is 5 mm"; a length of 0; "at most 1,024 nodes"
+    "RING_LEVEL_VIEW": "1 0 0 0 1 0 0 0 1 0 20 0 256 128 160",  # "(1,0,0), (0,1,0), (0,0,1)", and the numbers of a call
+    "RING_PICTURE_LEN": "20 1 9",                   # after 8 bytes three pairs of "u32 offset and length": the second's length
+    "ring_result": "0 14 10",                       # "put right after question 10"
+    "RING_BAD_HEADER": "32 57376 1 0",
+    "RING_BAD_SECTIONS": "26 6 6 1024 1024 4096",
+    "RING_BAD_RANGE": "10000 10000",
+    "RING_BAD_TREE": "65535",
+    "RING_BAD_RUNS": "3 8",
+    "RING_BAD_PANEL": "1 1024",
+    "RING_BAD_VIEW": "10000 10000 1 256 1 128 1 4096",
+    "RING_BAD_AXES": "100 100 0 0 0",
+    "RING_BAD_BUFFERS": "1025 256",
+    "RING_BAD_COUNTER": "4294967295",
+    "RING_BAD_STRETCHES": "128 256",
+    "ring_survey": "0 0 1 1 1 1 0 1025 0 0 0 256 256 256 128 0 0 0 128",  # columns, rows, directions; what is lent, in order
+}
 
 tally = collections.Counter()
 
@@ -39,10 +62,24 @@ def check(name, held):
         print("FAILED: " + name)
 
 
-def plain(name):
-    """The text of a C file without its comments."""
+def content(name):
     with open(name, encoding="utf-8") as file:
-        return re.sub(r"/\*.*?\*/", "", file.read(), flags=re.DOTALL)
+        return file.read()
+
+
+def plain(text):
+    """A C text without its comments."""
+    return COMMENT.sub("", text)
+
+
+def said(text):
+    """The numbers in the comments of a header, by the result that a comment stands behind, or else by the name that follows."""
+    found = collections.defaultdict(list)
+    for comment in COMMENT.finditer(text):
+        behind = re.search(r"(RING_\w+) = \d+,? *$", text[:comment.start()])
+        name = behind or re.search(r"(?i)\b(ring_\w+)", plain(text[comment.end():]))
+        found[name.group(1)] += re.findall(r"(?<![\w.])\d+(?:,\d{3})*(?!\w)", comment.group())
+    return {name: " ".join(numbers).replace(",", "") for name, numbers in found.items() if numbers}
 
 
 def succeeds(command, quiet=False):
@@ -74,7 +111,8 @@ def agrees(library, folder):
     build = CC + ["-I", os.path.join(ROOT, "include"), CHECK, "-L", library, "-lsurvey", "-o", program]
     built = succeeds(build)
     check("header.c builds and runs", built and succeeds([program]))
-    for call, (one, other) in itertools.product(("survey", "gate"), itertools.combinations(range(NUMBERS), 2)):
+    pairs = [*itertools.combinations(NUMBERS, 2), *itertools.combinations(LENGTHS, 2)]
+    for call, (one, other) in itertools.product(("survey", "gate"), pairs):
         if call == "survey" or other >= EYE:
             shows = built and not succeeds([program, call, str(one), str(other)])
             check("it shows when numbers %d and %d of ring_%s are exchanged" % (one, other, call), shows)
@@ -88,6 +126,13 @@ def names(header, body, archive):
     check("header.c lists the results in the header's order", [name for name in stated if name in results] == results)
     check("header.c declares the calls of the header", calls(body) == calls(header))
     check("the archive exports the calls of the header", exported(archive) == set(calls(header)))
+
+
+def words(text):
+    got = said(text)
+    for name in sorted({*SAID, *got}):
+        wanted, found = SAID.get(name), got.get(name)
+        check("the numbers in the words on %s are %s, not %s" % (name, wanted, found), found == wanted)
 
 
 def can_fail(header, folder):
@@ -104,7 +149,9 @@ def can_fail(header, folder):
 def main():
     if len(sys.argv) != 2:
         sys.exit("usage: header.py LIBDIR")
-    header, body = plain(os.path.join(ROOT, "include", "ring.h")), plain(CHECK)
+    text = content(os.path.join(ROOT, "include", "ring.h"))
+    header, body = plain(text), plain(content(CHECK))
+    words(text)
     with tempfile.TemporaryDirectory() as folder:
         agrees(sys.argv[1], folder)
         names(header, body, os.path.join(sys.argv[1], "libsurvey.a"))

@@ -1,5 +1,5 @@
-"""Tests of tools/: worked scenes, turned cameras, round trips, the gate, sample rings, pictures,
-the commands.
+"""Tests of tools/: worked scenes, turned cameras, cells by patch, round trips, the gate, sample
+rings, pictures, the commands.
 
 Run by tools.sh. Each case is counted; a case that fails is named.
 """
@@ -114,6 +114,7 @@ def rows_of(digits):
 
 
 LEVEL = "1 0 0  0 1 0  0 0 1"
+BACK = "-1 0 0  0 -1 0  0 0 1"
 SKEWED = "9 2 -7  3 12 -4  11 -1 8"
 EMPTY = "0000 0000 0000 0000"
 BARS_LEVEL = "000000000 000000000 004400000 000000000 000003300 000000000 000000000"
@@ -152,7 +153,7 @@ def test_turned_stations():
     for name, axes, digits in TURNED:
         check("%s along %s" % (name, axes), seen_along(built(name), axes_of(axes)), rows_of(digits))
     behind = built("t", (0, 200, 0, 4, 4, 4))
-    check("t, looking back", seen_along(behind, axes_of("-1 0 0  0 -1 0  0 0 1")), middle(5))
+    check("t, looking back", seen_along(behind, axes_of(BACK)), middle(5))
     check("t, from there forward", seen_along(behind, axes_of(LEVEL)), middle(0))
 
 
@@ -223,6 +224,124 @@ def test_moved_scenes():
             check("moved along %s" % (axes,), seen_along(moved(data, axes), axes), level)
 
 
+# --- cells by patch ------------------------------------------------------------------------------
+
+def piece(panel, forward, left, right, bottom, top):
+    """The line of a patch across the bore."""
+    corners = (left, bottom), (right, bottom), (right, top), (left, top)
+    return "patch %d " % panel + " ".join("%d,%d,%d" % (x, forward, z) for x, z in corners)
+
+
+HALF = piece(5, 100, -50, 0, -50, 50)
+MIDDLE = "0000 0550 0550 0000"
+AMID = "00000000 00000000" + " 00555500" * 4 + " 00000000 00000000"
+
+# The lines of a scene, a window, what it shows, and the cells of each patch of the list.
+PIECES = (("a square twice", (NODE, FIVE, FIVE), "4 4 4", MIDDLE, [4, 0]),
+          ("half before the whole", (NODE, HALF, FIVE), "4 4 4", MIDDLE, [2, 2]),
+          ("the whole before half", (NODE, FIVE, HALF), "4 4 4", MIDDLE, [4, 0]),
+          ("pieces of two panels that overlap",
+           (NODE, piece(3, 100, -50, 0, -50, 50), piece(3, 100, -80, -20, -50, 50),
+            piece(5, 100, -80, 80, -80, 80), FIVE),
+           "8 4 4", "00555500 00335500 00335500 00555500", [2, 2, 12, 0]),
+          ("the nearer of one panel's pieces second in the list",
+           (NODE + " negative 1", FIVE, FRONT, piece(5, 50, -10, 10, -10, 10)),
+           "8 8 8", AMID, [12, 4]),
+          ("a piece behind another panel",
+           (FRONT + " positive 1", piece(7, 50, -20, 0, -20, 20),
+            NODE, piece(5, 100, -50, 10, -50, 50), piece(5, 100, 10, 50, -50, 50)),
+           "8 4 8", "00775500 " * 4, [8, 0, 8]),
+          ("S", (NODE, FIVE), "4 4 4", MIDDLE, [4]),
+          ("T", (FRONT + " positive 1", SEVEN, NODE, FIVE),
+           "4 4 4", MIDDLE.replace("5", "7"), [4, 0]),
+          ("T, the far one first in the list", (NODE + " negative 1", FIVE, FRONT, SEVEN),
+           "4 4 4", MIDDLE.replace("5", "7"), [0, 4]),
+          ("panels 3 and 5 on one square", (NODE, "patch 3 " + square(50, 100), FIVE),
+           "4 4 4", MIDDLE.replace("5", "3"), [4, 0]),
+          ("no patches", (), "4 4 4", EMPTY, []))
+
+
+def booked(view, whole, axes=scene.LEVEL):
+    """The picture, and the cells of each patch."""
+    numbers = rays.closest_patches(view, whole, axes)
+    return rays.panels_of(whole, numbers), rays.patch_cells(whole, numbers)
+
+
+def input_of(lines, window):
+    return scene.build(text_of("view 0,0,0 " + window, *lines))
+
+
+def test_pieces():
+    for name, lines, window, digits, cells in PIECES:
+        found = booked(*gate.check_input(input_of(lines, window)))
+        check("pieces: " + name, found, (rows_of(digits), cells))
+    view, both = gate.check_input(input_of((FRONT + " positive 1", SEVEN, NODE, FIVE), "4 4 4"))
+    check("pieces: T, looking back", booked((0, 200, 0) + view[3:], both, axes_of(BACK)),
+          (middle(5), [0, 4]))
+
+
+def check_sums(name, view, whole, axes=scene.LEVEL):
+    """A panel's count is the sum over its patches."""
+    rows, cells = booked(view, whole, axes)
+    shown = collections.Counter(panel for row in rows for panel in row)
+    for patch, count in zip(whole.patches, cells):
+        shown[patch.panel] -= count
+    nothing = view[3] * view[4] - sum(cells)
+    check("sums: " + name, {panel: left for panel, left in shown.items() if left},
+          {0: nothing} if nothing else {})
+
+
+def test_panel_sums():
+    for name, lines, window, _, _ in PIECES:
+        check_sums(name, *gate.check_input(input_of(lines, window)))
+    for options in ("", "--tree halves --seed 7", "--tree walls --bend 0 --drop 40 --seed 8"):
+        check_sums("ring " + options, SMALL_WINDOW, made(options))
+        check_sums("turned ring " + options, SMALL_WINDOW, made(options), axes_of(SKEWED))
+
+
+def shows_before(ray, one, other):
+    """The rule for two patches that are met: the nearer, the lower panel, the earlier."""
+    if one.distance(ray) != other.distance(ray):
+        return one.distance(ray) < other.distance(ray)
+    if one.panel != other.panel:
+        return one.panel < other.panel
+    return one.number < other.number
+
+
+def random_pieces(draws):
+    """Overlapping pieces in two planes, with edges that rays run along. Some stand twice; panels
+    may fall, which no accepted scene has, but the rule is for any list.
+    """
+    lines = []
+    for _ in range(draws.randint(2, 10)):
+        left, bottom = draws.randint(-4, 2), draws.randint(-4, 2)
+        right, top = draws.randint(left + 1, 4), draws.randint(bottom + 1, 4)
+        sizes = (25 * side for side in (left, right, bottom, top))
+        line = piece(draws.randint(1, 3), draws.choice((50, 100, 100)), *sizes)
+        lines += [line] * draws.choice((1, 1, 2))
+    return lines
+
+
+def first_shown(ray, patches):
+    """The numbers of the met patches that show before every other one."""
+    met = [patch for patch in patches if patch.is_met(ray)]
+    return [one.number for one in met
+            if all(shows_before(ray, one, other) for other in met if other is not one)]
+
+
+def test_rule_by_twos():
+    """A cell's patch is the one that shows before every other."""
+    draws, view = random.Random(5), (0, 0, 0, 4, 4, 4)
+    for trial in range(40):
+        whole = scene.unpack(scene.build(text_of(*random_pieces(draws))))
+        patches = rays.seen_from(view[:3], whole)
+        found = [[[] if cell is None else [cell] for cell in row]
+                 for row in rays.closest_patches(view, whole)]
+        wanted = [[first_shown(rays.ray_of(view[3:], scene.LEVEL, column, row), patches)
+                   for column in range(4)] for row in range(4)]
+        check("pieces by twos, %d" % trial, found, wanted)
+
+
 # --- round trips ---------------------------------------------------------------------------------
 
 def comes_back(data, with_view=False):
@@ -245,6 +364,9 @@ def test_round_trips():
     check("empty file", comes_back(b""))
     check("empty scene", comes_back(scene.pack(scene.Scene())))
     check("patches without a node", comes_back(scene.build(text_of(FIVE, SEVEN))))
+    repeated = scene.build(text_of(NODE, FIVE, FIVE, HALF))
+    check("a patch that stands twice", comes_back(repeated))
+    check("its numbers", scene.show(repeated).count("# patch"), 3)
     draws = random.Random(1)
     whole = scene.build(stored("samples/t.txt").decode())[12:]
     bad = [data for data in (damaged(whole, draws) for _ in range(1500)) if not comes_back(data)]
@@ -450,6 +572,13 @@ def test_rings_refused():
         check("no ring: %s (%s)" % (options, words), words in fault(made, options))
 
 
+def pieces_seen(made_scene):
+    """The picture, and the patches with their cells in an order of their own."""
+    rows, cells = booked(SMALL_WINDOW, made_scene)
+    return rows, sorted((patch.panel, made_scene.corners_of(patch), count)
+                        for patch, count in zip(made_scene.patches, cells))
+
+
 def test_trees():
     """Other trees of the same patches: other bytes, the same picture."""
     for one, other in (("--seed 1", "--tree halves --seed 1"),
@@ -458,8 +587,7 @@ def test_trees():
         first, second = made(one), made(other)
         check("other tree: " + other, scene.pack(first) != scene.pack(second))
         check("same patches: " + other, patches(first) == patches(second))
-        check("same picture: " + other,
-              rays.survey(SMALL_WINDOW, first) == rays.survey(SMALL_WINDOW, second))
+        check("same picture and pieces: " + other, pieces_seen(first) == pieces_seen(second))
 
 
 def less(gone):
@@ -490,11 +618,12 @@ def test_stored_ring():
 def test_row_bound():
     """Leaving patches out of a row by its plane changes nothing."""
     view, whole = SMALL_WINDOW[:3] + (16, 8, 10), made("--facets 1")
-    all_seen = [rays.Seen(view[:3], p.panel, whole.corners_of(p)) for p in whole.patches]
+    all_seen = rays.seen_from(view[:3], whole)
     for axes in (scene.LEVEL, axes_of(SKEWED)):
-        plain = [[rays.closest_panel(rays.ray_of(view[3:], axes, i, j), all_seen)
+        plain = [[rays.closest_patch(rays.ray_of(view[3:], axes, i, j), all_seen)
                   for i in range(16)] for j in range(8)]
-        check("rows without the bound along %s" % (axes,), rays.survey(view, whole, axes), plain)
+        check("rows without the bound along %s" % (axes,),
+              rays.closest_patches(view, whole, axes), plain)
 
 
 # --- pictures ------------------------------------------------------------------------------------
@@ -602,6 +731,28 @@ def test_axes_commands():
           command("draw.py", "--raw", "4", "4", "-", "-", *bad, data=bytes(32)), (1, b""))
 
 
+def test_patch_commands():
+    lines = (NODE, piece(3, 100, -80, 0, -20, 80), HALF, FIVE)
+    data = input_of(lines, "4 4 4")
+    bill = b"view 4 4 4\n3 4\n5 3\nnothing 9\ntotal 16\n"
+    by_patch = bill + b"patch 0: 3 4\npatch 1: 5 1\npatch 2: 5 2\n"
+    check("rays.py, no patches", command("rays.py", "-", data=data), (0, bill))
+    check("rays.py --patches", command("rays.py", "--patches", "-", data=data), (0, by_patch))
+    check("rays.py, patches last", command("rays.py", "-", "--patches", data=data), (0, by_patch))
+    bill = b"view 4 4 4\n9 4\nnothing 12\ntotal 16\npatch 0: 9 4\n"
+    check("rays.py --patches --axes",
+          command("rays.py", "--patches", "--axes", *"0 -1 0 1 0 0 0 0 1".split(), "-",
+                  data=built("wall")), (0, bill))
+    check("rays.py --patches, refused", command("rays.py", "--patches", "-", data=data[:-1]),
+          (0, b"refused 1\n"))
+    check("rays.py --patches, none",
+          command("rays.py", "--patches", "-", data=input_of((), "1 1 1")),
+          (0, b"view 1 1 1\nnothing 1\ntotal 1\n"))
+    for words in (["rays.py", "--patches"], ["rays.py", "--patches", "--patches", "-"],
+                  ["gate.py", "--patches", "-"], ["draw.py", "--patches", "-", "-", "1"]):
+        check("misused: " + " ".join(words), command(*words, data=data), (1, b""))
+
+
 def test_draw_axes():
     """draw.py turns the camera as rays.py does."""
     data = built("quarters", OBLIQUE[:3] + OBLIQUE[12:])
@@ -620,6 +771,9 @@ def test_file_commands():
         check("scene.py of the text", command("scene.py", "build", at("a.txt"), at("b.view"))[0], 0)
         check("text and bytes agree", stored(at("a.view")) == stored(at("b.view")))
         check("rays.py, picture", command("rays.py", at("a.view"), at("a.u16"))[0], 0)
+        check("rays.py --patches, picture",
+              command("rays.py", "--patches", at("a.view"), at("b.u16"))[0], 0)
+        check("the same picture", stored(at("a.u16")) == stored(at("b.u16")))
         check("draw.py", command("draw.py", at("a.view"), at("a.png"), "2")[0], 0)
         check("draw.py --raw",
               command("draw.py", "--raw", "48", "24", at("a.u16"), at("b.png"), "2")[0], 0)

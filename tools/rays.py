@@ -1,12 +1,13 @@
 #!/usr/bin/env python3
 """A survey computed ray by ray in exact whole numbers: slow, without a tree, without the library.
 
-    rays.py [--axes RX RY RZ FX FY FZ UX UY UZ] IN.view [PICTURE.u16]
+    rays.py [--patches] [--axes RX RY RZ FX FY FZ UX UY UZ] IN.view [PICTURE.u16]
 
 Reads a view and a scene as `ringbill` does, prints the bill as `ringbill` does (or `refused N`),
-and writes the picture, if asked, as raw little-endian u16, row after row from the top. --axes
-turns the camera: its vectors right, forward and up; without it the view is level, (1,0,0),
-(0,1,0), (0,0,1). Examples:
+and writes the picture, if asked, as raw little-endian u16, row after row from the top. --patches
+prints after the bill each patch of the scene: its number, its panel and its cells. --axes turns
+the camera: its vectors right, forward and up; without it the view is level, (1,0,0), (0,1,0),
+(0,0,1). Examples:
 
     $ scene.py build samples/s.txt - | rays.py -
     view 4 4 4
@@ -18,8 +19,16 @@ turns the camera: its vectors right, forward and up; without it the view is leve
     5 2
     nothing 14
     total 16
+    $ scene.py build samples/t.txt - | rays.py --patches -
+    view 4 4 4
+    7 4
+    nothing 12
+    total 16
+    patch 0: 7 4
+    patch 1: 5 0
 """
 
+import collections
 import struct
 import sys
 from fractions import Fraction
@@ -33,7 +42,8 @@ from gate import cross, dot, minus, normal  # noqa: E402
 class Seen:
     """A patch as seen from one eye: what does not change from ray to ray."""
 
-    def __init__(self, eye, panel, corners):
+    def __init__(self, eye, number, panel, corners):
+        self.number = number
         self.panel = panel
         self.normal = normal(*corners[:3])
         self.from_eye = [minus(corner, eye) for corner in corners]
@@ -57,14 +67,14 @@ class Seen:
         return min(sides) <= 0 <= max(sides)
 
 
-def closest_panel(ray, patches):
-    """The panel met at the least distance, the lowest where several are level, 0 for none."""
-    best = None
-    for patch in patches:
-        if patch.is_met(ray):
-            key = (patch.distance(ray), patch.panel)
-            best = key if best is None else min(best, key)
-    return 0 if best is None else best[1]
+def closest_patch(ray, patches):
+    """The number of the patch met at the least distance, of the lowest panel where several are
+    level. "Where two patches of one panel overlap in a plane, the earlier in the list has the
+    cell." None where no patch is met.
+    """
+    met = [(patch.distance(ray), patch.panel, patch.number)
+           for patch in patches if patch.is_met(ray)]
+    return min(met)[2] if met else None
 
 
 def ray_of(window, axes, column, row):
@@ -81,17 +91,33 @@ def row_plane(window, axes, row):
     return cross(axes[0], ray_of(window, axes, 0, row))
 
 
-def survey(view, scene, axes=scenes.LEVEL):
-    """The rows of the picture of an accepted view and scene, lists of panel numbers."""
-    eye, window = view[:3], view[3:]
-    patches = [Seen(eye, patch.panel, scene.corners_of(patch)) for patch in scene.patches]
+def seen_from(eye, scene):
+    """The scene's patches, each with its number in the list."""
+    return [Seen(eye, number, patch.panel, scene.corners_of(patch))
+            for number, patch in enumerate(scene.patches)]
+
+
+def closest_patches(view, scene, axes=scenes.LEVEL):
+    """For each cell of an accepted view and scene, row after row, its closest patch's number."""
+    window, patches = view[3:], seen_from(view[:3], scene)
     rows = []
     for row in range(window[1]):
         plane = row_plane(window, axes, row)
         near = [patch for patch in patches if patch.may_meet(plane)]
-        rows.append([closest_panel(ray_of(window, axes, column, row), near)
+        rows.append([closest_patch(ray_of(window, axes, column, row), near)
                      for column in range(window[0])])
     return rows
+
+
+def panels_of(scene, numbers):
+    """The rows of the picture that shows these patches: panel numbers, 0 for none."""
+    return [[0 if number is None else scene.patches[number].panel for number in row]
+            for row in numbers]
+
+
+def survey(view, scene, axes=scenes.LEVEL):
+    """The rows of the picture of an accepted view and scene, lists of panel numbers."""
+    return panels_of(scene, closest_patches(view, scene, axes))
 
 
 def survey_input(data, axes):
@@ -108,19 +134,42 @@ def bill(view, rows):
     return lines + ["nothing %d" % cells.count(0), "total %d" % len(cells)]
 
 
+def patch_cells(scene, numbers):
+    """Each patch's cells, one entry a patch."""
+    cells = collections.Counter(number for row in numbers for number in row)
+    return [cells[number] for number in range(len(scene.patches))]
+
+
+def patch_lines(scene, numbers):
+    """A line for each patch: its number, its panel and its cells."""
+    cells = patch_cells(scene, numbers)
+    return ["patch %d: %d %d" % (number, patch.panel, cells[number])
+            for number, patch in enumerate(scene.patches)]
+
+
 def pack_picture(rows):
     cells = [panel for row in rows for panel in row]
     return struct.pack("<%dH" % len(cells), *cells)
 
 
+def take_word(words, word):
+    """Take an option of one word out of a command's words: does it stand there?"""
+    given = word in words
+    if given:
+        words.remove(word)
+    return given
+
+
 def run(words):
-    axes = scenes.take_axes(words)
+    axes, with_patches = scenes.take_axes(words), take_word(words, "--patches")
     if len(words) not in (1, 2):
-        sys.exit("usage: rays.py %s IN.view [PICTURE.u16]" % scenes.AXES)
-    view, rows = survey_input(scenes.read_file(words[0]), axes)
+        sys.exit("usage: rays.py [--patches] %s IN.view [PICTURE.u16]" % scenes.AXES)
+    view, scene = gate.check_input(scenes.read_file(words[0]), axes)
+    numbers = closest_patches(view, scene, axes)
+    rows = panels_of(scene, numbers)
     if len(words) == 2:
         scenes.write_file(words[1], pack_picture(rows))
-    print("\n".join(bill(view, rows)))
+    print("\n".join(bill(view, rows) + (patch_lines(scene, numbers) if with_patches else [])))
 
 
 def main():

@@ -6,7 +6,8 @@ use outside::differential::{case, put, Tally};
 use outside::generate::SMALL;
 use outside::random::Random;
 
-/// Library and peers agree on a call that is timed: picture, counts, lists.
+/// Library and peers agree on a call that is timed: picture, counts, patch
+/// counts, lists.
 pub fn same(library: &dyn Library, call: &Call, name: &str) {
     let noise = |seed| Lent::noise(call, &mut Random::new(seed, 0));
     let mut wanted = noise(0);
@@ -31,7 +32,11 @@ pub fn random(cases: u64) {
             assert!(differences.is_empty(), "{what}: {differences:?}");
         }
     }
-    // A peer that only knows the level view would pass without them.
-    let seen = tally.turned.lit > 0 && tally.answers.contains_key(&14);
-    assert!(cases < 100 || seen, "turned views are among the cases");
+    // Without them a peer would pass that only knows the level view, and one that
+    // books by panel, or the later of two level patches.
+    let turned = tally.turned.lit > 0 && tally.answers.contains_key(&14);
+    let pieces = tally.pieces.told().iter().all(|piece| piece.0 > 0);
+    for (enough, seen, what) in [(100, turned, "turned views"), (500, pieces, "pieces")] {
+        assert!(cases < enough || seen, "{what} are among the cases");
+    }
 }

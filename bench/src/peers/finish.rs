@@ -1,31 +1,69 @@
-//! Counts and unlit lists from a picture, run by run.
+//! The rest of the results from a picture of shapes, run by run. Cells hold the
+//! numbers of shapes until then, so that patches of one panel are told apart
+//! without a second buffer.
 
-use outside::call::{Lent, View, ROW};
+use super::shapes::{Shapes, NOTHING};
+use outside::call::{Lent, ROW};
 
-pub fn count_and_list(view: &View, lent: &mut Lent) {
-    lent.counts.fill(0);
-    let rows = lent.picture.chunks_exact(usize::from(view.width));
+pub fn finish(shapes: &Shapes, lent: &mut Lent) {
+    let mut seen = Seen::none(shapes);
+    let width = usize::from(shapes.camera.view.width);
+    let rows = lent.picture.chunks_exact_mut(width);
     for (cells, list) in rows.zip(lent.unlit.chunks_exact_mut(ROW)) {
-        let used = count_row(cells, list, &mut lent.counts);
+        let used = seen.finish_row(cells, list);
         list[used..].fill(0);
     }
+    seen.count(shapes, lent);
 }
 
-/// Gives the part of the list that is used.
-fn count_row(cells: &[u16], list: &mut [u16], counts: &mut [u32]) -> usize {
-    let (mut used, mut i) = (0, 0);
-    while i < cells.len() {
-        let panel = cells[i];
-        let start = i;
-        while i < cells.len() && cells[i] == panel {
-            i += 1;
+/// By number, that of nothing too: the panel, and how many cells show it.
+struct Seen {
+    panels: Vec<u16>,
+    cells: Vec<u32>,
+}
+
+impl Seen {
+    fn none(shapes: &Shapes) -> Seen {
+        let mut panels = vec![0; shapes.shapes.len() + 1];
+        for (number, shape) in shapes.numbered() {
+            panels[usize::from(number)] = shape.panel;
         }
-        counts[usize::from(panel)] += (i - start) as u32;
-        if panel == 0 {
-            list[used] = start as u16;
-            list[used + 1] = (i - start) as u16;
-            used += 2;
+        Seen {
+            cells: vec![0; panels.len()],
+            panels,
         }
     }
-    used
+
+    /// Gives the part of the list that is used.
+    fn finish_row(&mut self, cells: &mut [u16], list: &mut [u16]) -> usize {
+        let (mut used, mut i) = (0, 0);
+        while i < cells.len() {
+            let number = cells[i];
+            let panel = self.panels[usize::from(number)];
+            let start = i;
+            while i < cells.len() && cells[i] == number {
+                cells[i] = panel;
+                i += 1;
+            }
+            self.cells[usize::from(number)] += (i - start) as u32;
+            if number == NOTHING {
+                list[used] = start as u16;
+                list[used + 1] = (i - start) as u16;
+                used += 2;
+            }
+        }
+        used
+    }
+
+    /// A panel's count is the sum over its patches.
+    fn count(&self, shapes: &Shapes, lent: &mut Lent) {
+        lent.counts.fill(0);
+        lent.counts[0] = self.cells[usize::from(NOTHING)];
+        lent.patch_counts.fill(0);
+        for (number, shape) in shapes.numbered() {
+            let cells = self.cells[usize::from(number)];
+            lent.patch_counts[usize::from(shape.patch)] = cells;
+            lent.counts[usize::from(shape.panel)] += cells;
+        }
+    }
 }

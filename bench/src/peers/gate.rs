@@ -22,7 +22,7 @@ pub fn judge(call: &Call) -> Result<Tables, u32> {
     yes(planes_divide(&tables), 9)?;
     yes(view_fits(call), 10)?;
     yes(axes_proper(call), 14)?;
-    yes(lengths_fit(call), 11)?;
+    yes(lengths_fit(call, &tables), 11)?;
     yes(call.counter < u32::MAX, 12)?;
     Ok(tables)
 }
@@ -126,8 +126,9 @@ fn axes_proper(call: &Call) -> bool {
     axes.iter().all(|axis| within(axis, 100)) && dot(right, cross(forward, up)) > 0
 }
 
-fn lengths_fit(call: &Call) -> bool {
+fn lengths_fit(call: &Call, tables: &Tables) -> bool {
     call.picture_len == call.view.cells()
         && call.counts_len == COUNTS
+        && call.patch_counts_len == tables.patches.len()
         && call.unlit_len == usize::from(call.view.height) * ROW
 }

@@ -1,9 +1,9 @@
 //! Ray by ray: each cell asks the patches of its row, front to back, and takes
 //! the first that it meets. What a row's cells share is worked out once a row.
 
-use super::finish::count_and_list;
+use super::finish::finish;
 use super::order::front_to_back;
-use super::shapes::Shapes;
+use super::shapes::{Shapes, NOTHING};
 use super::tables::{wide, Tables};
 use outside::call::{Call, Lent};
 
@@ -14,11 +14,11 @@ struct RowEdge {
     start: f64,
 }
 
-/// The patches that reach a row, with the ends of their edges.
+/// The numbers of the shapes that reach a row, with the ends of their edges.
 #[derive(Default)]
 struct Row {
     edges: Vec<RowEdge>,
-    patches: Vec<(u16, u32)>,
+    shapes: Vec<(u16, u32)>,
 }
 
 pub fn paint(tables: &Tables, call: &Call, lent: &mut Lent) {
@@ -32,14 +32,14 @@ pub fn paint(tables: &Tables, call: &Call, lent: &mut Lent) {
             *cell = row.first_met(i as f64);
         }
     }
-    count_and_list(&call.view, lent);
+    finish(&shapes, lent);
 }
 
 impl Row {
     fn gather(&mut self, shapes: &Shapes, j: usize) {
         self.edges.clear();
-        self.patches.clear();
-        for shape in &shapes.shapes {
+        self.shapes.clear();
+        for (number, shape) in shapes.numbered() {
             if j < usize::from(shape.low) || j >= usize::from(shape.high) {
                 continue;
             }
@@ -48,20 +48,20 @@ impl Row {
                 start: edge.ramp.at_row(j),
             });
             self.edges.extend(edges);
-            self.patches.push((shape.panel, self.edges.len() as u32));
+            self.shapes.push((number, self.edges.len() as u32));
         }
     }
 
     #[inline]
     fn first_met(&self, column: f64) -> u16 {
         let mut first = 0;
-        for &(panel, end) in &self.patches {
+        for &(number, end) in &self.shapes {
             let edges = &self.edges[first..end as usize];
             if edges.iter().all(|e| e.slope * column + e.start > 0.0) {
-                return panel;
+                return number;
             }
             first = end as usize;
         }
-        0
+        NOTHING
     }
 }

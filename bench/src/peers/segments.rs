@@ -1,5 +1,5 @@
 //! Front to back: spans are laid on the unlit stretches of their rows, and the
-//! cells are counted as they are painted.
+//! cells are counted as they are painted, patch by patch.
 
 use super::order::front_to_back;
 use super::shapes::{Shape, Shapes};
@@ -11,13 +11,12 @@ pub fn paint(tables: &Tables, call: &Call, lent: &mut Lent) {
     let mut canvas = Canvas::blank(call, lent);
     let shapes = Shapes::of(tables, &call.view, order.into_iter());
     for shape in &shapes.shapes {
-        canvas.lay(&shapes, shape);
+        let painted = canvas.lay(&shapes, shape);
+        canvas.book(shape, painted);
         if canvas.open == 0 {
             break;
         }
     }
-    let lit: u32 = lent.counts[1..].iter().sum();
-    lent.counts[0] = call.view.cells() as u32 - lit;
 }
 
 struct Canvas<'a> {
@@ -33,6 +32,8 @@ impl Canvas<'_> {
     fn blank<'a>(call: &Call, lent: &'a mut Lent) -> Canvas<'a> {
         lent.picture.fill(0);
         lent.counts.fill(0);
+        lent.counts[0] = call.view.cells() as u32;
+        lent.patch_counts.fill(0);
         lent.unlit.fill(0);
         for row in lent.unlit.chunks_exact_mut(ROW) {
             row[1] = call.view.width;
@@ -45,20 +46,31 @@ impl Canvas<'_> {
         }
     }
 
-    fn lay(&mut self, shapes: &Shapes, shape: &Shape) {
+    /// Gives the number of cells painted.
+    fn lay(&mut self, shapes: &Shapes, shape: &Shape) -> u32 {
         let below = u128::MAX >> (128 - u32::from(shape.high));
         let mut rows = self.open & below & (u128::MAX << shape.low);
+        let mut painted = 0;
         while rows != 0 {
             let row = rows.trailing_zeros() as usize;
             rows &= rows - 1;
             let (first, end) = shapes.span(shape, row);
             if first < end {
-                self.lay_span(row, first as u16, end as u16, shape.panel);
+                painted += self.lay_span(row, first as u16, end as u16, shape.panel);
             }
         }
+        painted
     }
 
-    fn lay_span(&mut self, row: usize, first: u16, end: u16, panel: u16) {
+    /// A patch is laid once, so that its cells are booked once for all its rows.
+    fn book(&mut self, shape: &Shape, painted: u32) {
+        self.lent.patch_counts[usize::from(shape.patch)] = painted;
+        self.lent.counts[usize::from(shape.panel)] += painted;
+        self.lent.counts[0] -= painted;
+    }
+
+    /// Gives the number of cells painted.
+    fn lay_span(&mut self, row: usize, first: u16, end: u16, panel: u16) -> u32 {
         let list = &mut self.lent.unlit[row * ROW..][..ROW];
         let cells = &mut self.lent.picture[row * self.width..][..self.width];
         let mut used = usize::from(self.used[row]);
@@ -71,11 +83,11 @@ impl Canvas<'_> {
             painted += u32::from(to - from);
             k = keep(list, k, &mut used, [min, from, to, max]);
         }
-        self.lent.counts[usize::from(panel)] += painted;
         self.used[row] = used as u16;
         if used == 0 {
             self.open &= !(1 << row);
         }
+        painted
     }
 }
 

@@ -25,6 +25,8 @@ impl Edge {
 
 pub struct Shape {
     pub panel: u16,
+    /// The patch's number in the scene.
+    pub patch: u16,
     /// Rows from low up to below high.
     pub low: u8,
     pub high: u8,
@@ -37,11 +39,12 @@ pub struct Shape {
 /// that bound a span on the left, then those on the right.
 pub struct Shapes {
     pub shapes: Vec<Shape>,
-    /// The patch of each shape.
-    pub patches: Vec<u16>,
     edges: Vec<Edge>,
     pub camera: Camera,
 }
+
+/// What a cell holds that shows no shape; the shapes' numbers follow.
+pub const NOTHING: u16 = 0;
 
 /// Below the least distance, 2^-39, of a quotient from a whole number that it
 /// is not, and above the rounding of a quotient up to 256, 2^-43.
@@ -51,7 +54,6 @@ impl Shapes {
     pub fn of(tables: &Tables, view: &View, order: impl Iterator<Item = u16>) -> Shapes {
         let mut all = Shapes {
             shapes: Vec::with_capacity(tables.patches.len()),
-            patches: Vec::with_capacity(tables.patches.len()),
             edges: Vec::with_capacity(tables.corners.len()),
             camera: Camera::of(view),
         };
@@ -81,9 +83,9 @@ impl Shapes {
             self.edges.truncate(first);
             return;
         };
-        self.patches.push(k);
         self.shapes.push(Shape {
             panel: patch.panel,
+            patch: k,
             low: rows.0 as u8,
             high: rows.1 as u8,
             lefts: lefts as u8,
@@ -124,6 +126,11 @@ impl Shapes {
             }
         }
         (rows.0 < rows.1).then_some((rows, left))
+    }
+
+    /// The shapes with their numbers.
+    pub fn numbered(&self) -> impl Iterator<Item = (u16, &Shape)> {
+        (NOTHING + 1..).zip(&self.shapes)
     }
 
     pub fn edges(&self, shape: &Shape) -> &[Edge] {

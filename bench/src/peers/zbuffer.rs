@@ -2,9 +2,9 @@
 //! compared in f64, and exactly where f64 cannot tell.
 
 use super::camera::{Camera, Ramp};
-use super::finish::count_and_list;
+use super::finish::finish;
 use super::plane::{minus, Plane};
-use super::shapes::{Shape, Shapes};
+use super::shapes::{Shape, Shapes, NOTHING};
 use super::tables::{wide, Tables};
 use outside::call::{Call, Lent};
 use std::ops::Range;
@@ -22,47 +22,35 @@ struct Depth {
     panel: u16,
 }
 
-/// Each cell's greatest nearness, 0 for none, and the depth that it is from.
-struct Buffer {
+/// Each cell's greatest nearness, 0 for none, and the shape that it is from.
+struct Buffer<'a> {
     width: usize,
+    /// A depth for each shape.
     depths: Vec<Depth>,
     near: Vec<f64>,
-    from: Vec<u16>,
+    from: &'a mut [u16],
 }
 
 pub fn paint(tables: &Tables, call: &Call, lent: &mut Lent) {
     let view = &call.view;
     let stored = 0..tables.patches.len() as u16;
     let shapes = Shapes::of(tables, view, stored);
-    let depths = shapes
-        .patches
-        .iter()
-        .map(|&k| depth(tables, &shapes.camera, k));
+    let all = shapes.shapes.iter();
+    lent.picture.fill(NOTHING);
     let mut buffer = Buffer {
         width: usize::from(view.width),
-        depths: depths.collect(),
+        depths: all.map(|s| depth(tables, &shapes.camera, s)).collect(),
         near: vec![0.0; view.cells()],
-        from: vec![0; view.cells()],
+        from: &mut lent.picture,
     };
-    for (k, shape) in shapes.shapes.iter().enumerate() {
-        buffer.convert(&shapes, k, shape);
+    for (number, shape) in shapes.numbered() {
+        buffer.convert(&shapes, number, shape);
     }
-    for (cell, (near, &from)) in lent
-        .picture
-        .iter_mut()
-        .zip(buffer.near.iter().zip(&buffer.from))
-    {
-        *cell = match *near > 0.0 {
-            true => buffer.depths[usize::from(from)].panel,
-            false => 0,
-        };
-    }
-    count_and_list(view, lent);
+    finish(&shapes, lent);
 }
 
-fn depth(tables: &Tables, camera: &Camera, k: u16) -> Depth {
-    let patch = &tables.patches[usize::from(k)];
-    let corners = tables.corners_of(patch);
+fn depth(tables: &Tables, camera: &Camera, shape: &Shape) -> Depth {
+    let corners = tables.corners_of(&tables.patches[usize::from(shape.patch)]);
     let eye = wide(camera.view.eye);
     let [a, b, c] = [0, 1, 2].map(|n| minus(wide(corners[n]), eye));
     let plane = Plane::through(a, b, c);
@@ -71,22 +59,22 @@ fn depth(tables: &Tables, camera: &Camera, k: u16) -> Depth {
         ramp: camera.ramp(plane.normal.map(|n| n as f64), plane.level < 0),
         over,
         inverse: 1.0 / over,
-        panel: patch.panel,
+        panel: shape.panel,
     }
 }
 
-impl Buffer {
-    fn convert(&mut self, shapes: &Shapes, k: usize, shape: &Shape) {
+impl Buffer<'_> {
+    fn convert(&mut self, shapes: &Shapes, number: u16, shape: &Shape) {
         for row in usize::from(shape.low)..usize::from(shape.high) {
             let (first, end) = shapes.span(shape, row);
             if first < end {
-                self.convert_row(k, row, first..end);
+                self.convert_row(number, row, first..end);
             }
         }
     }
 
-    fn convert_row(&mut self, k: usize, row: usize, span: Range<usize>) {
-        let depth = &self.depths[k];
+    fn convert_row(&mut self, number: u16, row: usize, span: Range<usize>) {
+        let depth = &self.depths[usize::from(number - 1)];
         let start = depth.ramp.at_row(row);
         let slope = depth.ramp.slope;
         let best = &mut self.near[row * self.width..][span.clone()];
@@ -96,17 +84,18 @@ impl Buffer {
             if near <= *best * (1.0 - DOUBT) {
                 continue;
             }
-            let old = &self.depths[usize::from(*from)];
+            // Level with a shape and never with nothing, as nearness is above 0.
             let level = near <= *best * (1.0 + DOUBT);
-            if !level || wins(depth, old, i, row) {
+            if !level || wins(depth, &self.depths[usize::from(*from - 1)], i, row) {
                 *best = near;
-                *from = k as u16;
+                *from = number;
             }
         }
     }
 }
 
-/// The exact comparison of two depths in one cell.
+/// The exact comparison of two depths in one cell. Of two level patches of one
+/// panel the earlier in the list keeps it, as patches come in stored order.
 #[cold]
 fn wins(new: &Depth, old: &Depth, column: usize, row: usize) -> bool {
     let scaled = |n: &Depth, over: f64| n.ramp.at(column, row) as i128 * over as i128;

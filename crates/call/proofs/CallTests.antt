@@ -35,9 +35,9 @@ module _ (a b c d r : Bool) (first : r ≡ a) where
       pub fourth-decides : (u : Bool) → u ≡ d → r ≡ true → s ≡ true → t ≡ true → u ≡ (a && b && c && d)
       fourth-decides u fourth e f g = simp (← first, ← second, ← third, ← fourth, e, f, g)
 
-module _ (area height picture counts unlit : ℕ) where
+module _ (area height patches picture counts patchCounts unlit : ℕ) where
   abbrev fit : Bool
-  fit = eqb picture area && eqb counts countEntries && eqb unlit (height * rowLength)
+  fit = eqb picture area && eqb counts countEntries && eqb patchCounts patches && eqb unlit (height * rowLength)
 
   pub picture-differs : (n : ℕ) → n ≡ area → (picture ≡ n → ⊥) → false ≡ fit
   picture-differs n e f = simp (ne-eqb picture area (λ p. f (p ∙ sym e)))
@@ -45,8 +45,13 @@ module _ (area height picture counts unlit : ℕ) where
   pub counts-differ : (counts ≡ 1025 → ⊥) → false ≡ fit
   counts-differ f = simp (ne-eqb counts 1025 f, and-false)
 
-  pub unlit-decides : (n : ℕ) → n ≡ area → picture ≡ n → counts ≡ 1025 → eqb unlit (height * 256) ≡ fit
-  unlit-decides n e p q = simp (eq-eqb picture area (p ∙ e), eq-eqb counts 1025 q)
+  pub patch-counts-differ : (patchCounts ≡ patches → ⊥) → false ≡ fit
+  patch-counts-differ f = simp (ne-eqb patchCounts patches f, and-false)
+
+  pub unlit-decides :
+      (n : ℕ) → n ≡ area → picture ≡ n → counts ≡ 1025 → patchCounts ≡ patches → eqb unlit (height * 256) ≡ fit
+  unlit-decides n e p q b =
+      simp (eq-eqb picture area (p ∙ e), eq-eqb counts 1025 q, eq-eqb patchCounts patches b)
 
 -- the product of two numbers of 16 bits has room in 64
 pub area-fits : {a b : ℕ} → Fits w16 a → Fits w16 b → Fits w64 (a * b)

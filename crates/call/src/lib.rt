@@ -58,14 +58,24 @@ pub fn area(width: u16, height: u16) -> usize
     (width as usize) * (height as usize)
 }
 
-// question 11
-pub fn lengths_fit(camera: Camera, picture: usize, counts: usize, unlit: usize) -> bool
-    ensures { λ r. ⌜ r ≡ lengthsFit (cameraOf camera) (record { picture = picture; counts = counts; unlit = unlit }) ⌝ }
+// question 11, of a scene with this many patches
+pub fn lengths_fit(
+    camera: Camera,
+    patches: usize,
+    picture: usize,
+    counts: usize,
+    patch_counts: usize,
+    unlit: usize,
+) -> bool
+    ensures { λ r. ⌜ r ≡ lengthsFit (cameraOf camera) patches (record { picture = picture; counts = counts; patchCounts = «patch_counts»; unlit = unlit }) ⌝ }
 {
     if picture != area(camera.width, camera.height) {
         return false;
     }
     if counts != 1025 {
+        return false;
+    }
+    if patch_counts != patches {
         return false;
     }
     unlit == (camera.height as usize) * 256

@@ -30,19 +30,21 @@ pub fn survey_pair(
     lens: u16,
     picture1: &mut [u16],
     counts1: &mut [u32],
+    patch_counts1: &mut [u32],
     unlit1: &mut [u16],
     counter1: &mut u32,
     picture2: &mut [u16],
     counts2: &mut [u32],
+    patch_counts2: &mut [u32],
     unlit2: &mut [u16],
     counter2: &mut u32,
 ) -> Results
     ensures { λ r. ⌜ PairSurveyed (now (first .entry)) (now (second .entry)) (viewFrom (vec «eye_x» «eye_y» «eye_z»)
         (cameraBy (axesBy (vec «right_x» «right_y» «right_z») (vec «forward_x» «forward_y» «forward_z») (vec «up_x» «up_y» «up_z»)) width height lens))
-        (lentOf (now (picture1 .entry)) (now (counts1 .entry)) (now (unlit1 .entry)) (now (counter1 .entry)))
-        (lentOf (now (picture1 .exit)) (now (counts1 .exit)) (now (unlit1 .exit)) (now (counter1 .exit)))
-        (lentOf (now (picture2 .entry)) (now (counts2 .entry)) (now (unlit2 .entry)) (now (counter2 .entry)))
-        (lentOf (now (picture2 .exit)) (now (counts2 .exit)) (now (unlit2 .exit)) (now (counter2 .exit)))
+        (lentOf (now (picture1 .entry)) (now (counts1 .entry)) (now («patch_counts1» .entry)) (now (unlit1 .entry)) (now (counter1 .entry)))
+        (lentOf (now (picture1 .exit)) (now (counts1 .exit)) (now («patch_counts1» .exit)) (now (unlit1 .exit)) (now (counter1 .exit)))
+        (lentOf (now (picture2 .entry)) (now (counts2 .entry)) (now («patch_counts2» .entry)) (now (unlit2 .entry)) (now (counter2 .entry)))
+        (lentOf (now (picture2 .exit)) (now (counts2 .exit)) (now («patch_counts2» .exit)) (now (unlit2 .exit)) (now (counter2 .exit)))
         (r .first) (r .second) ⌝ }
 {
     let a = ring_survey(
@@ -64,6 +66,7 @@ pub fn survey_pair(
         lens,
         picture1,
         counts1,
+        patch_counts1,
         unlit1,
         counter1,
     );
@@ -86,6 +89,7 @@ pub fn survey_pair(
         lens,
         picture2,
         counts2,
+        patch_counts2,
         unlit2,
         counter2,
     );

@@ -7,7 +7,7 @@ use Rattle.model.specs.View.{Axes, Camera, View}
 use Rattle.model.specs.Lent.{Lent, Lengths, lengthsOf}
 use Rattle.model.specs.Call.{Call}
 use Rattle.model.specs.Questions.{surveyAnswer}
-use Rattle.model.specs.Survey.{callPicture, callCounts, callUnlit, callCounter}
+use Rattle.model.specs.Survey.{callPicture, callCounts, callPatchCells, callUnlit, callCounter}
 
 -- axes by their three vectors
 abbrev pub axesBy : Vec → Vec → Vec → Axes
@@ -21,13 +21,13 @@ cameraBy a w h l = record { axes = a; window = record { width = w; height = h; l
 abbrev pub viewFrom : Vec → Camera → View
 viewFrom e c = record { eye = e; camera = c }
 
--- the three buffers and the counter
-abbrev pub lentOf : List ℕ → List ℕ → List ℕ → ℕ → Lent
-lentOf p n u k = record { picture = p; counts = n; unlit = u; counter = k }
+-- the four buffers and the counter
+abbrev pub lentOf : List ℕ → List ℕ → List ℕ → List ℕ → ℕ → Lent
+lentOf p n b u k = record { picture = p; counts = n; patchCounts = b; unlit = u; counter = k }
 
--- the lengths of the three buffers
-abbrev pub lengthsBy : ℕ → ℕ → ℕ → Lengths
-lengthsBy p n u = record { picture = p; counts = n; unlit = u }
+-- the lengths of the four buffers
+abbrev pub lengthsBy : ℕ → ℕ → ℕ → ℕ → Lengths
+lengthsBy p n b u = record { picture = p; counts = n; patchCounts = b; unlit = u }
 
 -- the call on a scene with a view, with buffers of these lengths and this counter
 abbrev pub gateCall : List ℕ → View → Lengths → ℕ → Call
@@ -40,7 +40,13 @@ callOn bytes v lent = gateCall bytes v (lengthsOf lent) (lent .counter)
 -- what an accepted call leaves
 abbrev pub results : Call → Lent
 results c =
-    record { picture = callPicture c; counts = callCounts c; unlit = callUnlit c; counter = callCounter c }
+    record {
+      picture = callPicture c;
+      counts = callCounts c;
+      patchCounts = callPatchCells c;
+      unlit = callUnlit c;
+      counter = callCounter c;
+    }
 
 -- the results where the answer is 0, and what was there before where it is a refusal: "nothing lent is altered"
 abbrev pub leftBy : ℕ → Lent → Lent → Lent

@@ -13,6 +13,7 @@ use lib.Seq.{ext-getD, getD-set-same, getD-set-other, take-suc, take-all}
 use Rattle.model.specs.Lists.{range, addIf, occurrences}
 use Rattle.model.specs.Picture.{counts, countEntries}
 use Rattle.model.proofs.Ranges.{range-length}
+use Rattle.model.proofs.Totals.{tally-most}
 use Rattle.model.proofs.Counts.{counts-at}
 use Rattle.counting.specs.Counting.{Countable, Alike, laneSum, CountedTo, Summed}
 
@@ -25,14 +26,6 @@ one-more n x (y ∷ xs) = go (eqb y n) (eqb x n) (one-more n x xs)
     go true true e = ap suc e
     go true false e = ap suc e
     go false b e = e
-
-at-most : (n : ℕ) (xs : List ℕ) → occurrences n xs ≤ length xs
-at-most n [] = omega arith
-at-most n (x ∷ xs) = go (eqb x n) (at-most n xs)
-  where
-    go : (b : Bool) → occurrences n xs ≤ length xs → addIf b (occurrences n xs) ≤ suc (length xs)
-    go true h = omega arith
-    go false h = omega arith
 
 counts-length : (xs : List ℕ) → length (counts xs) ≡ countEntries
 unfolding counts
@@ -127,7 +120,7 @@ module _ {cells : List ℕ} {k : ℕ} {lanes : List ℕ} (inv : CountedTo cells 
     pub lane-fits : getD lanes lane 0 + m ≤ 32768
     lane-fits =
         omega
-        (arith, lane-below lanes lane cell m j four refl, inv .sums cell has-entry, at-most cell (take k cells), length-take k cells)
+        (arith, lane-below lanes lane cell m j four refl, inv .sums cell has-entry, tally-most (λ (k : ℕ). eqb k cell) (take k cells), length-take k cells)
 
     pub lanes-go : CountedTo cells (k + m) (set lanes lane (getD lanes lane 0 + m))
     lanes-go =
@@ -166,7 +159,7 @@ module _ {cells lanes : List ℕ} (inv : CountedTo cells (length cells) lanes) w
 
   -- a count of some cells is at most the number of all cells
   pub lanes-few : (n : ℕ) → n < countEntries → laneSum lanes n ≤ 32768
-  lanes-few n l = omega (arith, all-counted n l, at-most n cells)
+  lanes-few n l = omega (arith, all-counted n l, tally-most (λ (k : ℕ). eqb k n) cells)
 
   pub lanes-counted : {totals : List ℕ} → Summed lanes totals countEntries → totals ≡ counts cells
   lanes-counted {totals} s =

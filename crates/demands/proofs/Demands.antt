@@ -1,13 +1,14 @@
 -- Demands 1, 2 and 3, from the survey's contract alone.
 use mathlib.Core.Path.{_≡_, sym, _∙_, ap, subst}
-use mathlib.Core.Bool.{Bool, not}
+use mathlib.Core.Bool.{Bool, not, cond}
 use mathlib.Core.Logic.{_↔_}
-use mathlib.Core.List.{List, [], _∷_}
-use Prim.Native.Nat.{ℕ, _*_, _<_}
+use mathlib.Core.List.{List, [], _∷_, map, sum}
+use Prim.Native.Nat.{ℕ, _+_, _*_, _≤_, _<_}
 use native.Mathlib.Nat.{zero-add, mul-comm}
 use lib.Dec.{T, T-not, eqb}
-use lib.ListN.{take, drop, length-map}
+use lib.ListN.{length, getD, take, drop, length-map}
 use Rattle.model.specs.Lists.{every, range, occurrences}
+use Rattle.model.specs.Patch.{numbered}
 use Rattle.model.specs.Ray.{IsClosest, closest}
 use Rattle.model.specs.View.{View, viewWidth, viewHeight, viewDirection}
 use Rattle.model.specs.Lent.{Lent}
@@ -15,20 +16,24 @@ use Rattle.model.specs.Format.{decode}
 use Rattle.model.specs.Row.{rowOf, rowLength}
 use Rattle.model.specs.Picture.{counts, countEntries, unlitLists}
 use Rattle.model.specs.Questions.{Question, answer, sceneQuestions, callQuestions, questions, surveyAnswer}
-use Rattle.model.specs.Survey.{callPicture, callCounts, callUnlit}
+use Rattle.model.specs.Booking.{cellsWhere}
+use Rattle.model.specs.Survey.{callPicture, callCounts, callPatchCells, callUnlit}
 use Rattle.model.specs.Removal.{kept, TakenAway}
 use Rattle.model.proofs.Tests.{both}
-use Rattle.model.proofs.Ranges.{range-length, rows-part, rows-length}
+use Rattle.model.proofs.Ranges.{range-length, rows-part, rows-length, in-range}
+use Rattle.model.proofs.Totals.{total, total-cong}
 use Rattle.model.proofs.Answers.{AcceptedCall, accepted-call, all-yes, answer-yes, answer-done}
 use Rattle.model.proofs.Closest.{closest-right}
 use Rattle.model.proofs.Counts.{counts-at}
 use Rattle.model.proofs.Pictures.{picture-length, picture-at, picture-total}
+use Rattle.model.proofs.Booked.{booked-once, booked-panel}
+use Rattle.model.proofs.PanelSums.{patch-entries, patch-entry, panel-sum}
 use Rattle.model.proofs.Removal.{pictures-counts, cell-differs, cell-shows}
 use Rattle.segments.proofs.Rows.{row-length, row-congr}
 use Rattle.contract.proofs.Refusal.{left-old}
 use Rattle.model.proofs.PanelNumbers.{panel-bounded}
 use Rattle.contract.specs.Contract.{callOn, results, leftBy, Surveyed}
-use Rattle.demands.specs.Demands.{patchesIn, cell, RefusesRightly, ClosestPanels, ChosenTakenAway, DemandThree, PairSurveyed}
+use Rattle.demands.specs.Demands.{patchesIn, cell, patchHas, RefusesRightly, ClosestPanels, ChosenTakenAway, DemandThree, PairSurveyed}
 
 -- an accepted call leaves the results
 pub accepted-leaves :
@@ -84,8 +89,34 @@ module _ (bytes : List ℕ) (v : View) (before : Lent) (accepted : AcceptedCall 
       ∙ row-congr (viewWidth v) _ _
       (λ i k. ap (λ (n : ℕ). eqb n 0) (sym (picture-at (v .eye) (viewWidth v) (viewHeight v) (viewDirection v) (patchesIn bytes) i j k h)))
 
+  -- the cells of patch k, and its entry in the table; and such a number where the patch is of panel n
+  abbrev cellsOf : ℕ → ℕ
+  cellsOf k = cellsWhere (viewWidth v) (viewHeight v) (λ (i j : ℕ). patchHas bytes v i j k)
+
+  abbrev entryOf : ℕ → ℕ
+  entryOf k = getD (callPatchCells (callOn bytes v before)) k 0
+
+  abbrev ofPanel : ℕ → (ℕ → ℕ) → ℕ → ℕ
+  ofPanel n f k = cond (eqb (numbered (patchesIn bytes) k .panel) n) (f k) 0
+
+  entry : (k : ℕ) → k < length (patchesIn bytes) → entryOf k ≡ cellsOf k
+  unfolding callPatchCells
+  entry = patch-entry (v .eye) (viewWidth v) (viewHeight v) (viewDirection v) (patchesIn bytes)
+
+  -- a panel's occurrences are the sum over the table's entries of its patches
+  entries-sum :
+      (n : ℕ) → 1 ≤ n →
+      occurrences n (callPicture (callOn bytes v before)) ≡ sum _+_ 0 (map (ofPanel n entryOf) (range 0 (length (patchesIn bytes))))
+  unfolding callPicture total
+  entries-sum n h =
+      panel-sum (v .eye) (viewWidth v) (viewHeight v) (viewDirection v) (patchesIn bytes) n h
+      ∙ total-cong (ofPanel n cellsOf) (ofPanel n entryOf) (range 0 (length (patchesIn bytes)))
+      (λ k m.
+      ap (λ (x : ℕ). cond (eqb (numbered (patchesIn bytes) k .panel) n) x 0)
+      (sym (entry k (rw zero-add at (in-range 0 (length (patchesIn bytes)) k .0 m .1)))))
+
   results-closest : ClosestPanels bytes v (results (callOn bytes v before))
-  unfolding callPicture callCounts callUnlit unlitLists counts
+  unfolding callPicture callCounts callPatchCells callUnlit unlitLists counts
   results-closest =
       record {
         cells =
@@ -100,6 +131,14 @@ module _ (bytes : List ℕ) (v : View) (before : Lent) (accepted : AcceptedCall 
             ∙ range-length 0 countEntries;
         summed = picture-total (v .eye) (viewWidth v) (viewHeight v) (viewDirection v) (patchesIn bytes)
             (panel-bounded (decode bytes) (accepted .scene .panels));
+        booked = entry;
+        patchEntries = patch-entries (v .eye) (viewWidth v) (viewHeight v) (viewDirection v) (patchesIn bytes);
+        bookedOnce = λ i j. booked-once (v .eye) (viewDirection v i j) (patchesIn bytes);
+        bookedPanel =
+            λ i j k hi hj hk t.
+            picture-at (v .eye) (viewWidth v) (viewHeight v) (viewDirection v) (patchesIn bytes) i j hi hj
+            ∙ booked-panel (v .eye) (viewDirection v i j) (patchesIn bytes) k hk t;
+        panelSum = λ n one h. counts-at (callPicture (callOn bytes v before)) n h ∙ entries-sum n one;
         rows = unlit-row;
         rowCount = rows-length rowLength cellRow (λ k. row-length (viewWidth v) _) 0 (viewHeight v) ∙ mul-comm rowLength (viewHeight v);
       }

@@ -1,19 +1,20 @@
 -- Demands 1 to 3 as statements about calls.
 use mathlib.Core.Path.{_≡_}
-use mathlib.Core.Bool.{Bool}
+use mathlib.Core.Bool.{Bool, cond}
 use mathlib.Core.Logic.{_↔_}
-use mathlib.Core.List.{List, sum}
-use Prim.Native.Nat.{ℕ, _+_, _*_, _<_}
+use mathlib.Core.List.{List, map, sum}
+use Prim.Native.Nat.{ℕ, _+_, _*_, _≤_, _<_}
 use lib.Dec.{T, eqb}
 use lib.ListN.{length, getD, take, drop}
-use Rattle.model.specs.Lists.{every, occurrences}
-use Rattle.model.specs.Patch.{Patch}
+use Rattle.model.specs.Lists.{every, range, occurrences}
+use Rattle.model.specs.Patch.{Patch, numbered}
 use Rattle.model.specs.Ray.{IsClosest}
 use Rattle.model.specs.View.{View, viewWidth, viewHeight, viewDirection}
 use Rattle.model.specs.Lent.{Lent}
 use Rattle.model.specs.Format.{decode, patchTable}
 use Rattle.model.specs.Row.{rowOf, rowLength}
 use Rattle.model.specs.Picture.{countEntries}
+use Rattle.model.specs.Booking.{hasCell, cellsWhere}
 use Rattle.model.specs.Call.{Call}
 use Rattle.model.specs.Questions.{Question, questions, surveyAnswer}
 use Rattle.model.specs.Removal.{isChosen, kept, TakenAway}
@@ -27,8 +28,12 @@ patchesIn bytes = patchTable (decode bytes)
 abbrev pub cell : View → List ℕ → ℕ → ℕ → ℕ
 cell v picture i j = getD picture (j * viewWidth v + i) 0
 
+-- patch k of a scene has cell (i, j) of a view
+abbrev pub patchHas : List ℕ → View → ℕ → ℕ → ℕ → Bool
+patchHas bytes v i j k = hasCell (v .eye) (viewDirection v i j) (patchesIn bytes) k
+
 -- Demand 1: "every call ends with a full picture or with the one numbered refusal that document 01 gives, a scene is accepted exactly if it keeps the rules there,
--- and a refusal leaves picture, counts, unlit lists and station counter untouched."
+-- and a refusal leaves picture, counts, unlit lists and station counter untouched." So it leaves everything lent, the table of the patches' cells too.
 pub record RefusesRightly (bytes : List ℕ) (v : View) (before after : Lent) (result : ℕ) : Type 0 where
   pub exactly : (result ≡ 0) ↔ T (every (λ (q : Question Call). q .test (callOn bytes v before)) questions)
   pub numbered : result ≡ surveyAnswer (callOn bytes v before)
@@ -38,7 +43,8 @@ pub record RefusesRightly (bytes : List ℕ) (v : View) (before after : Lent) (r
 -- Demand 2, of an accepted call: "Each cell of an accepted scene's picture holds the panel that Fuchs, Kedem and Naylor define: the polygon closest to the eye along
 -- that cell's sight line. A polygon is met only strictly inside its edges; at one and the same nearest point the lowest panel number shows; where none is met the
 -- cell holds 0. All of it is exact in whole numbers, and each count is the number of such cells." The counts "add up to width × height"; the unlit lists are the
--- rows of the cells that hold 0.
+-- rows of the cells that hold 0. Document 02, F-2: "A further lent table (u32, one entry a patch) receives each patch's cells. A panel's count is the sum over its
+-- patches." No cell is booked for two patches, and the patch that has it is of the panel that it shows.
 pub record ClosestPanels (bytes : List ℕ) (v : View) (after : Lent) : Type 0 where
   pub cells :
       (i j : ℕ) → i < viewWidth v → j < viewHeight v →
@@ -47,6 +53,22 @@ pub record ClosestPanels (bytes : List ℕ) (v : View) (after : Lent) : Type 0 w
   pub counted : (n : ℕ) → n < countEntries → getD (after .counts) n 0 ≡ occurrences n (after .picture)
   pub entries : length (after .counts) ≡ countEntries
   pub summed : sum _+_ 0 (after .counts) ≡ viewWidth v * viewHeight v
+  pub booked :
+      (k : ℕ) → k < length (patchesIn bytes) →
+      getD (after .patchCounts) k 0 ≡ cellsWhere (viewWidth v) (viewHeight v) (λ (i j : ℕ). patchHas bytes v i j k)
+  pub patchEntries : length (after .patchCounts) ≡ length (patchesIn bytes)
+  pub bookedOnce :
+      (i j k m : ℕ) → k < length (patchesIn bytes) → m < length (patchesIn bytes) →
+      T (patchHas bytes v i j k) → T (patchHas bytes v i j m) → k ≡ m
+  pub bookedPanel :
+      (i j k : ℕ) → i < viewWidth v → j < viewHeight v → k < length (patchesIn bytes) → T (patchHas bytes v i j k) →
+      cell v (after .picture) i j ≡ numbered (patchesIn bytes) k .panel
+  pub panelSum :
+      (n : ℕ) → 1 ≤ n → n < countEntries →
+      getD (after .counts) n 0
+      ≡ sum _+_ 0
+      (map (λ (k : ℕ). cond (eqb (numbered (patchesIn bytes) k .panel) n) (getD (after .patchCounts) k 0) 0)
+      (range 0 (length (patchesIn bytes))))
   pub rows :
       (j : ℕ) → j < viewHeight v →
       take rowLength (drop (j * rowLength) (after .unlit))

@@ -12,13 +12,13 @@ use mir.ValLaws.{toZ-ofZ}
 use Rattle.model.specs.Vector.{Vec, vec}
 use Rattle.model.specs.View.{levelAxes}
 use Rattle.model.specs.Call.{Call}
-use Rattle.model.specs.Format.{u16At, i16At}
-use Rattle.model.specs.Questions.{surveyAnswer}
+use Rattle.model.specs.Format.{u16At, i16At, decode}
+use Rattle.model.specs.Questions.{sceneAnswer, surveyAnswer}
 use Rattle.model.specs.Survey.{callPicture, callCounts}
 use Rattle.model.specs.Lent.{Lent}
 use Rattle.contract.specs.Contract.{lentOf, cameraBy, viewFrom, results, leftBy, Surveyed}
 use Rattle.input.specs.Input.{inputCall, countsBy, inputCounts}
-use Rattle.input.proofs.Caps.{lending, capped-answer}
+use Rattle.input.proofs.Caps.{lending, asked, capped-answer}
 
 -- the counts of what is left
 counts-left : (n : ℕ) (new old : Lent) → leftBy n new old .counts ≡ countsBy n (new .counts) (old .counts)
@@ -35,28 +35,28 @@ rest n xs = ap (λ (k : ℕ). take k (drop n xs)) (sym (length-drop n xs)) ∙ t
 
 -- a survey with the numbers that stand in the input is the one that the input asks for
 pub surveyed-input :
-    (input : List ℕ) {bytes picture counts unlit : List ℕ} {eye : Vec} {w h l r : ℕ} {after : Lent} →
-    Surveyed bytes (viewFrom eye (cameraBy levelAxes w h l)) (lentOf picture counts unlit 0) after r →
+    (input : List ℕ) {bytes picture counts booked unlit : List ℕ} {eye : Vec} {w h l r : ℕ} {after : Lent} →
+    Surveyed bytes (viewFrom eye (cameraBy levelAxes w h l)) (lentOf picture counts booked unlit 0) after r →
     bytes ≡ drop 12 input →
     eye ≡ vec (i16At input 0) (i16At input 2) (i16At input 4) →
     w ≡ u16At input 6 →
     h ≡ u16At input 8 →
     l ≡ u16At input 10 →
     length picture ≡ min (w * h) 32768 →
+    (sceneAnswer bytes ≡ 0 → length booked ≡ length (decode bytes .patches)) →
     length unlit ≡ min (h * 256) 32768 →
     (r ≡ surveyAnswer (inputCall input (length counts))) × (after .counts ≡ inputCounts input counts)
 unfolding inputCall inputCounts callCounts callPicture
-surveyed-input input {bytes} {picture} {counts} {unlit} {eye} {w} {h} {l} s scene eyes width height lens cells rows =
-    let lent : ℕ → ℕ → Call = lending bytes eye w h l (length counts) in
-    let call : Call = lent (length picture) (length unlit) in
-    let asked : lent (w * h) (h * 256) ≡ inputCall input (length counts) =
-    λ i.
-    lending (scene i) (eyes i) (width i) (height i) (lens i) (length counts) (width i * height i) (height i * 256) in
-    let answered : surveyAnswer call ≡ surveyAnswer (lent (w * h) (h * 256)) =
-    (λ i. surveyAnswer (lent (cells i) (rows i))) ∙ capped-answer bytes eye w h l (length counts) in (
-      s .answered ∙ answered ∙ ap surveyAnswer asked,
+surveyed-input input {bytes} {picture} {counts} {booked} {unlit} {eye} {w} {h} {l} s scene eyes width height lens cells told rows =
+    let lent : ℕ → ℕ → ℕ → Call = lending bytes eye w h l (length counts) in
+    let call : Call = lent (length picture) (length booked) (length unlit) in
+    let same : asked bytes eye w h l (length counts) ≡ inputCall input (length counts) =
+    λ i. asked (scene i) (eyes i) (width i) (height i) (lens i) (length counts) in
+    let answered : surveyAnswer call ≡ surveyAnswer (asked bytes eye w h l (length counts)) =
+    (λ i. surveyAnswer (lent (cells i) (length booked) (rows i))) ∙ capped-answer bytes eye w h l (length counts) (length booked) told in (
+      s .answered ∙ answered ∙ ap surveyAnswer same,
       ap (λ (x : Lent). x .counts) (s .left)
-          ∙ counts-left (surveyAnswer call) (results call) (lentOf picture counts unlit 0)
+          ∙ counts-left (surveyAnswer call) (results call) (lentOf picture counts booked unlit 0)
           ∙ ap (λ (n : ℕ). countsBy n (callCounts call) counts) answered
-          ∙ ap (λ (c : Call). countsBy (surveyAnswer c) (callCounts c) counts) asked,
+          ∙ ap (λ (c : Call). countsBy (surveyAnswer c) (callCounts c) counts) same,
     )

@@ -1,3 +1,4 @@
 -- Laws that the proofs of this crate cite.
 mod Caps
+mod Told
 mod Inputs

@@ -1,12 +1,16 @@
 // The survey that an input asks for: an eye and a window (12 bytes), and a scene.
 use call::area;
+use header::read_header;
+use header::sizes::HEADER_SIZE;
+use header::sizes::MOST_PATCHES;
+use header::sizes::PATCH_SIZE;
 use little_endian::i16_at;
 use little_endian::u16_at;
 ghost use mathlib.Core.Path.{_≡_};
 ghost use Prim.Native.Nat.{_+_, _≤_, min};
 ghost use lib.ListN.{length};
-ghost use Rattle.model.specs.Format.{u16At};
-ghost use Rattle.model.specs.Questions.{surveyAnswer};
+ghost use Rattle.model.specs.Format.{u16At, decode};
+ghost use Rattle.model.specs.Questions.{sceneAnswer, surveyAnswer};
 ghost use Rattle.input.specs.Input.{inputCall, inputCounts};
 
 // a field of two bytes
@@ -17,12 +21,24 @@ pub fn word(bytes: &[u8], at: usize) -> u16
     u16_at(bytes, at) as u16
 }
 
-// What is wanted of a buffer, as far as it goes: where that is less, question 10 has said no.
-fn capped(wanted: usize) -> usize
-    ensures { λ r. ⌜ r ≡ min wanted 32768 ⌝ }
-    ensures { λ r. ⌜ r ≤ 32768 ⌝ }
+// What is wanted of a buffer, as far as it goes: where that is less, a question before 11 has said no.
+fn capped(wanted: usize, room: usize) -> usize
+    ensures { λ r. ⌜ r ≡ min wanted room ⌝ }
+    ensures { λ r. ⌜ r ≤ room ⌝ }
 {
-    if wanted < 32768 { wanted } else { 32768 }
+    if wanted < room { wanted } else { room }
+}
+
+// How many patches the scene's header tells of, as far as there is room. A scene without a header is refused, so any number will do.
+fn patches_told(scene: &[u8]) -> usize
+    ensures { λ r. ⌜ (sceneAnswer (now (scene .entry)) ≡ 0 → r ≡ length (decode (now (scene .entry)) .patches)) ⌝ }
+    ensures { λ r. ⌜ r ≤ 1024 ⌝ }
+{
+    if scene.len() < HEADER_SIZE {
+        return 0;
+    }
+    let h = read_header(scene);
+    capped(h.patches.size / PATCH_SIZE, MOST_PATCHES)
 }
 
 // Room for the largest picture, and for the unlit lists of its rows. The contract gives the length, which lending a part needs.
@@ -30,6 +46,13 @@ fn buffer() -> [u16; 32768]
     ensures { λ r. ⌜ 32768 ≡ length r ⌝ }
 {
     [0; 32768]
+}
+
+// Room for the cells of the most patches.
+fn table() -> [u32; 1024]
+    ensures { λ r. ⌜ 1024 ≡ length r ⌝ }
+{
+    [0; 1024]
 }
 
 // The survey of an input of an eye, a window and a scene, seen by a level camera, with the station counter at 0: the answer, and the counts.
@@ -42,10 +65,12 @@ pub fn survey_input(input: &[u8], counts: &mut [u32]) -> u32
     let height = word(input, 8);
     let lens = word(input, 10);
     let mut picture = buffer();
+    let mut patch_counts = table();
     let mut unlit = buffer();
     let mut counter = 0u32;
-    let cells = capped(area(width, height));
-    let rows = capped(area(height, 256));
+    let cells = capped(area(width, height), 32768);
+    let patches = patches_told(&input[12..]);
+    let rows = capped(area(height, 256), 32768);
     survey::ring_survey(
         &input[12..],
         i16_at(input, 0),
@@ -65,6 +90,7 @@ pub fn survey_input(input: &[u8], counts: &mut [u32]) -> u32
         lens,
         &mut picture[..cells],
         counts,
+        &mut patch_counts[..patches],
         &mut unlit[..rows],
         &mut counter,
     )

@@ -6,6 +6,8 @@ use mathlib.Core.List.{List, [], _∷_, _++_, map}
 use Prim.Native.Nat.{ℕ, zero, suc}
 use native.Mathlib.Omega.{arith}
 use lib.Dec.{T}
+use lib.ListN.{length}
+use Rattle.model.specs.Format.{decode}
 use Rattle.model.specs.Call.{Call, callView}
 use Rattle.model.specs.Accepted.{AcceptedScene}
 use Rattle.model.specs.Questions.{Question, answer, sceneQuestions, sceneAnswer, viewInRange, axesProper, lengthsFit, counterBelowEnd, rowsFit, callQuestions, onScene, questions, surveyAnswer}
@@ -152,7 +154,7 @@ pub record AcceptedCall (c : Call) : Type 0 where
   pub scene : AcceptedScene (c .scene)
   pub view : T (viewInRange (callView c))
   pub axes : T (axesProper (c .camera .axes))
-  pub lengths : T (lengthsFit (c .camera) (c .lengths))
+  pub lengths : T (lengthsFit (c .camera) (length (decode (c .scene) .patches)) (c .lengths))
   pub counter : T (counterBelowEnd (c .counter))
   pub rows : T (rowsFit c)
 

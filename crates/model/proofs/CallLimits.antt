@@ -68,19 +68,25 @@ axes-bounded a t =
     }
 
 -- each buffer has the length that it is to have: one more buffer is one more line in each of these
-pub record LengthsRight (a : Camera) (l : Lengths) : Type 0 where
+pub record LengthsRight (a : Camera) (patches : ℕ) (l : Lengths) : Type 0 where
   pub cells : l .picture ≡ a .window .width * a .window .height
   pub entries : l .counts ≡ countEntries
+  pub booked : l .patchCounts ≡ patches
   pub rows : l .unlit ≡ a .window .height * rowLength
 
-pub lengths-right : (a : Camera) (l : Lengths) → T (lengthsFit a l) → LengthsRight a l
+pub lengths-right : (a : Camera) (patches : ℕ) (l : Lengths) → T (lengthsFit a patches l) → LengthsRight a patches l
 unfolding lengthsFit
-lengths-right a l t =
+lengths-right a patches l t =
     let w = a .window in
-    let p = both (eqb (l .picture) (w .width * w .height) && eqb (l .counts) countEntries) (eqb (l .unlit) (w .height * rowLength)) .0 t in
-    let q = both (eqb (l .picture) (w .width * w .height)) (eqb (l .counts) countEntries) .0 (p .0) in
+    let c : Bool = eqb (l .picture) (w .width * w .height) in
+    let n : Bool = eqb (l .counts) countEntries in
+    let b : Bool = eqb (l .patchCounts) patches in
+    let p = both (c && n && b) (eqb (l .unlit) (w .height * rowLength)) .0 t in
+    let q = both (c && n) b .0 (p .0) in
+    let r = both c n .0 (q .0) in
     record {
-      cells = eqb→eq (l .picture) (w .width * w .height) (q .0);
-      entries = eqb→eq (l .counts) countEntries (q .1);
+      cells = eqb→eq (l .picture) (w .width * w .height) (r .0);
+      entries = eqb→eq (l .counts) countEntries (r .1);
+      booked = eqb→eq (l .patchCounts) patches (q .1);
       rows = eqb→eq (l .unlit) (w .height * rowLength) (p .1);
     }

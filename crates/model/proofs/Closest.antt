@@ -32,7 +32,7 @@ parted {x} {y} (a ∷ before) after (b ∷ before′) after′ e =
 
 module _ (eye d : Vec) where
   -- no patch of the list is met
-  abbrev NoneMet : List Patch → Type 0
+  abbrev pub NoneMet : List Patch → Type 0
   NoneMet ps = (q : Patch) → List·Memᴰ q ps → T (met eye d q) → ⊥
 
   -- what the relations say of an answer, a patch or none

@@ -31,8 +31,14 @@ pub mod Visibility
 -- pictures, counts, and chosen panels taken away
 pub mod Ranges
 pub mod Runs
+pub mod Totals
 pub mod Cells
 pub mod Counts
 pub mod Pictures
 pub mod Kept
 pub mod Removal
+-- cells booked patch by patch
+pub mod Leads
+pub mod Booked
+pub mod Labels
+pub mod PanelSums

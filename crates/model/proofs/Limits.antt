@@ -162,12 +162,12 @@ axesLimits =
 
 -- ---- questions 10 to 13, of a call
 
--- a camera with a window of 4 by 3 cells, and lengths
+-- a camera with a window of 4 by 3 cells, and lengths for it and a scene of five patches
 abbrev fourByThree : Camera
 fourByThree = record { axes = levelAxes; window = record { width = 4; height = 3; lens = 4 } }
 
-abbrev lengths : ℕ → ℕ → ℕ → Lengths
-lengths p n u = record { picture = p; counts = n; unlit = u }
+abbrev lengths : ℕ → ℕ → ℕ → ℕ → Lengths
+lengths p n b u = record { picture = p; counts = n; patchCounts = b; unlit = u }
 
 -- every other column shows a square, so that n columns need half as many segments
 abbrev everyOther : ℕ → Vec
@@ -178,9 +178,12 @@ callLimits =
     limit (λ n. viewInRange (callView (fittingCall [] origin n 4 4))) (1 ∷ 256 ∷ []) (0 ∷ 257 ∷ [])
     ∷ limit (λ n. viewInRange (callView (fittingCall [] origin 4 n 4))) (1 ∷ 128 ∷ []) (0 ∷ 129 ∷ [])
     ∷ limit (λ n. viewInRange (callView (fittingCall [] origin 4 4 n))) (1 ∷ 4096 ∷ []) (0 ∷ 4097 ∷ [])
-    ∷ limit (λ n. lengthsFit fourByThree (lengths n 1025 768)) (12 ∷ []) (11 ∷ 13 ∷ [])
-    ∷ limit (λ n. lengthsFit fourByThree (lengths 12 n 768)) (1025 ∷ []) (1024 ∷ 1026 ∷ [])
-    ∷ limit (λ n. lengthsFit fourByThree (lengths 12 1025 n)) (768 ∷ []) (767 ∷ 769 ∷ [])
+    ∷ limit (λ n. lengthsFit fourByThree 5 (lengths n 1025 5 768)) (12 ∷ []) (11 ∷ 13 ∷ [])
+    ∷ limit (λ n. lengthsFit fourByThree 5 (lengths 12 n 5 768)) (1025 ∷ []) (1024 ∷ 1026 ∷ [])
+    ∷ limit (λ n. lengthsFit fourByThree 5 (lengths 12 1025 n 768)) (5 ∷ []) (4 ∷ 6 ∷ [])
+    -- a scene without patches has a table without entries
+    ∷ limit (λ n. lengthsFit fourByThree 0 (lengths 12 1025 n 768)) (0 ∷ []) (1 ∷ [])
+    ∷ limit (λ n. lengthsFit fourByThree 5 (lengths 12 1025 5 n)) (768 ∷ []) (767 ∷ 769 ∷ [])
     ∷ limit counterBelowEnd (0 ∷ 4294967294 ∷ []) (4294967295 ∷ [])
     -- 128 segments, and 129
     ∷ limit

@@ -1,9 +1,11 @@
 -- The scenes of document 01's stations.
 use mathlib.Core.List.{List, [], _∷_, _++_}
 use Prim.Native.Nat.{ℕ, _*_}
+use lib.ListN.{length}
 use lib.IntN.{ℤ, pos, negℤ}
 use Rattle.model.specs.Vector.{Vec, Plane, vec, origin}
 use Rattle.model.specs.View.{Axes, levelAxes}
+use Rattle.model.specs.Format.{decode}
 use Rattle.model.specs.Call.{Call}
 use Rattle.model.proofs.Encode.{NodeLine, PatchLine, sceneBytes}
 
@@ -64,19 +66,37 @@ scene3and5 =
     (patchLine 3 0 4 ∷ patchLine 5 4 4 ∷ [])
     (square (pos 100) (pos 50) ++ square (pos 100) (pos 50))
 
--- four panels on one plane: 1 and 2 above, 3 and 4 below, the odd ones to the left
-abbrev quarter : ℤ → ℤ → ℤ → ℤ → List Vec
-quarter left right low high =
+-- the corners of an upright piece at forward 100
+abbrev piece : ℤ → ℤ → ℤ → ℤ → List Vec
+piece left right low high =
     vec left (pos 100) low ∷ vec right (pos 100) low ∷ vec right (pos 100) high ∷ vec left (pos 100) high ∷ []
 
+-- four panels on one plane: 1 and 2 above, 3 and 4 below, the odd ones to the left
 abbrev pub sceneQuarters : List ℕ
 sceneQuarters =
     sceneBytes (nodeLine (upright (pos 100) (pos 100)) none none 0 4 ∷ [])
     (patchLine 1 0 4 ∷ patchLine 2 4 4 ∷ patchLine 3 8 4 ∷ patchLine 4 12 4 ∷ [])
-    (quarter (negℤ (pos 100)) (pos 0) (pos 0) (pos 100)
-    ++ (quarter (pos 0) (pos 100) (pos 0) (pos 100)
-    ++ (quarter (negℤ (pos 100)) (pos 0) (negℤ (pos 100)) (pos 0)
-    ++ quarter (pos 0) (pos 100) (negℤ (pos 100)) (pos 0))))
+    (piece (negℤ (pos 100)) (pos 0) (pos 0) (pos 100)
+    ++ (piece (pos 0) (pos 100) (pos 0) (pos 100)
+    ++ (piece (negℤ (pos 100)) (pos 0) (negℤ (pos 100)) (pos 0)
+    ++ piece (pos 0) (pos 100) (negℤ (pos 100)) (pos 0))))
+
+-- S's square twice
+abbrev pub sceneTwice : List ℕ
+sceneTwice =
+    sceneBytes (nodeLine (upright (pos 100) (pos 50)) none none 0 2 ∷ [])
+    (patchLine 5 0 4 ∷ patchLine 5 4 4 ∷ [])
+    (square (pos 100) (pos 50) ++ square (pos 100) (pos 50))
+
+-- two overlapping pieces of panel 3 and, on the same plane, panel 5 as a large square and a small one
+abbrev pub scenePieces : List ℕ
+scenePieces =
+    sceneBytes (nodeLine (upright (pos 100) (pos 50)) none none 0 4 ∷ [])
+    (patchLine 3 0 4 ∷ patchLine 3 4 4 ∷ patchLine 5 8 4 ∷ patchLine 5 12 4 ∷ [])
+    (piece (negℤ (pos 50)) (pos 0) (negℤ (pos 50)) (pos 50)
+    ++ (piece (negℤ (pos 80)) (negℤ (pos 20)) (negℤ (pos 50)) (pos 50)
+    ++ (square (pos 100) (pos 80)
+    ++ square (pos 100) (pos 50))))
 
 -- "A scene of 32 bytes with no node is legal and shows nothing."
 abbrev pub noNodes : List ℕ
@@ -103,7 +123,7 @@ turnedCall a bytes e w h l =
       scene = bytes;
       eye = e;
       camera = record { axes = a; window = record { width = w; height = h; lens = l } };
-      lengths = record { picture = w * h; counts = 1025; unlit = h * 256 };
+      lengths = record { picture = w * h; counts = 1025; patchCounts = length (decode bytes .patches); unlit = h * 256 };
       counter = 0;
     }
 

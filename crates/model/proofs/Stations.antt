@@ -1,17 +1,21 @@
--- Document 01's starred stations, over scene bytes: one list under one statement; and stations of turned cameras under another.
+-- Document 01's starred stations, over scene bytes: one list under one statement; stations of turned cameras under another; and two of booked cells.
 use mathlib.Core.Path.{_≡_, refl}
-use mathlib.Core.List.{List, [], _∷_, map}
-use Prim.Native.Nat.{ℕ}
+use mathlib.Core.Bool.{cond}
+use mathlib.Core.List.{List, [], _∷_, map, sum}
+use Prim.Native.Nat.{ℕ, _+_}
+use lib.Dec.{eqb}
 use lib.IntN.{pos, negsuc}
-use lib.ListN.{getD, replicate}
+use lib.ListN.{length, getD, replicate}
+use Rattle.model.specs.Lists.{range}
 use Rattle.model.specs.Vector.{vec, origin}
+use Rattle.model.specs.Patch.{numbered}
 use Rattle.model.specs.View.{Axes}
 use Rattle.model.specs.Row.{usedPart}
 use Rattle.model.specs.Call.{Call}
 use Rattle.model.specs.Questions.{surveyAnswer}
-use Rattle.model.specs.Survey.{callPicture, callCounts, callUnlit}
+use Rattle.model.specs.Survey.{callPatches, callPicture, callCounts, callPatchCells, callUnlit}
 use Rattle.model.proofs.Computing.{everything}
-use Rattle.model.proofs.Scenes.{sceneS, sceneT, sceneTless5, sceneTless7, scene3and5, sceneQuarters, sceneWall, noNodes, sOfHalfWidth, turnedCall, fittingCall, usual}
+use Rattle.model.proofs.Scenes.{sceneS, sceneT, sceneTless5, sceneTless7, scene3and5, sceneQuarters, sceneWall, sceneTwice, scenePieces, noNodes, sOfHalfWidth, turnedCall, fittingCall, usual}
 
 -- what is seen of a call: its answer (0 is "done"), its picture, the used pairs of some rows, and the counts of some panels (of "nothing" at 0)
 pub record Outcome : Type 0 where
@@ -122,6 +126,29 @@ turned =
     ∷ shows (usual sceneWall) blank [] [] [] []
     ∷ []
 
+-- ---- cells booked patch by patch
+
+-- what is seen of a call's patches: its answer and picture, the cells of each patch and, of some panels, the counts and the sums over their patches
+pub record Bookings : Type 0 where
+  pub result : ℕ
+  pub shown : List ℕ
+  pub each : List ℕ
+  pub counted : List ℕ
+  pub added : List ℕ
+
+unfoldable pub booked : Call → List ℕ → Bookings
+booked c panels =
+    record {
+      result = surveyAnswer c;
+      shown = callPicture c;
+      each = callPatchCells c;
+      counted = map (λ (n : ℕ). getD (callCounts c) n 0) panels;
+      added = map (λ (n : ℕ). sum _+_ 0 (map (ofPanel n) (range 0 (length (callPatches c))))) panels;
+    }
+  where
+    ofPanel : ℕ → ℕ → ℕ
+    ofPanel n k = cond (eqb (numbered (callPatches c) k .panel) n) (getD (callPatchCells c) k 0) 0
+
 -- What the definitions say of each starred station is what document 01 says of it.
 pub starred-stations : map seen stations ≡ map (λ (s : Station). s .said) stations
 unfolding everything seen
@@ -135,3 +162,24 @@ rows-from-the-top = refl
 pub turned-stations : map seen turned ≡ map (λ (s : Station). s .said) turned
 unfolding everything seen
 turned-stations = refl
+
+-- S's square twice: the earlier patch has all cells.
+pub square-twice :
+    booked (usual sceneTwice) (5 ∷ []) ≡
+    record { result = 0; shown = middle 5; each = 4 ∷ 0 ∷ []; counted = 4 ∷ []; added = 4 ∷ [] }
+unfolding everything booked
+square-twice = refl
+
+-- Overlapping pieces of two panels on one plane: the lower panel has a cell before the other, the earlier patch before the later of its panel.
+pub pieces-overlap :
+    booked (fittingCall scenePieces origin 8 4 4) (3 ∷ 5 ∷ []) ≡
+    record {
+      result = 0;
+      shown =
+          0 ∷ 0 ∷ 5 ∷ 5 ∷ 5 ∷ 5 ∷ 0 ∷ 0 ∷ 0 ∷ 0 ∷ 3 ∷ 3 ∷ 5 ∷ 5 ∷ 0 ∷ 0 ∷ 0 ∷ 0 ∷ 3 ∷ 3 ∷ 5 ∷ 5 ∷ 0 ∷ 0 ∷ 0 ∷ 0 ∷ 5 ∷ 5 ∷ 5 ∷ 5 ∷ 0 ∷ 0 ∷ [];
+      each = 2 ∷ 2 ∷ 12 ∷ 0 ∷ [];
+      counted = 4 ∷ 12 ∷ [];
+      added = 4 ∷ 12 ∷ [];
+    }
+unfolding everything booked
+pieces-overlap = refl

@@ -1,13 +1,13 @@
 -- The byte format of a scene, and what a scene's bytes say.
 use mathlib.Core.Bool.{true, false, cond}
-use mathlib.Core.List.{List, [], map}
+use mathlib.Core.List.{List, map}
 use Prim.Native.Nat.{ℕ, zero, suc, _+_, _*_, _/_}
 use lib.Dec.{ltb}
 use lib.IntN.{ℤ, pos, _-ℤ_}
 use lib.ListN.{length, getD, take, drop}
 use Rattle.model.specs.Lists.{range}
 use Rattle.model.specs.Vector.{Vec, Plane, vec, origin}
-use Rattle.model.specs.Patch.{Patch}
+use Rattle.model.specs.Patch.{Patch, numbered}
 use Rattle.model.specs.Tree.{Tree, leaf, node, mapTree}
 
 -- "Every field has its least significant byte first." A byte past the end reads 0.
@@ -156,13 +156,9 @@ patchOf corners r = record { panel = r .panel; corners = inRun (r .cornerRun) co
 unfoldable pub patchTable : Scene → List Patch
 patchTable s = map (patchOf (s .corners)) (s .patches)
 
-emptyPatch : Patch
-emptyPatch = record { panel = 0; corners = [] }
-
 -- a patch by its number
 unfoldable pub patchNumbered : Scene → ℕ → Patch
-unfolding emptyPatch
-patchNumbered s k = getD (patchTable s) k emptyPatch
+patchNumbered s k = numbered (patchTable s) k
 
 -- what a number that no node has reads as
 unfoldable pub emptyNode : NodeRecord

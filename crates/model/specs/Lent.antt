@@ -7,6 +7,7 @@ use lib.ListN.{length}
 pub record Lent : Type 0 where
   pub picture : List ℕ
   pub counts : List ℕ
+  pub patchCounts : List ℕ
   pub unlit : List ℕ
   pub counter : ℕ
 
@@ -14,9 +15,15 @@ pub record Lent : Type 0 where
 pub record Lengths : Type 0 where
   pub picture : ℕ
   pub counts : ℕ
+  pub patchCounts : ℕ
   pub unlit : ℕ
 
 -- those of what is lent
 abbrev pub lengthsOf : Lent → Lengths
 lengthsOf l =
-    record { picture = length (l .picture); counts = length (l .counts); unlit = length (l .unlit) }
+    record {
+      picture = length (l .picture);
+      counts = length (l .counts);
+      patchCounts = length (l .patchCounts);
+      unlit = length (l .unlit);
+    }

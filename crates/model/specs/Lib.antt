@@ -11,6 +11,7 @@ pub mod Lent
 pub mod Call
 pub mod Row
 pub mod Picture
+pub mod Booking
 pub mod Questions
 pub mod Accepted
 pub mod Survey

@@ -14,6 +14,10 @@ pub record Patch : Type 0 where
   pub panel : ℕ
   pub corners : List Vec
 
+-- a patch by its number, its place in a list (a number past the end reads as a patch without corners)
+abbrev pub numbered : List Patch → ℕ → Patch
+numbered ps k = getD ps k (record { panel = 0; corners = [] })
+
 abbrev pub corner : Patch → ℕ → Vec
 corner p k = getD (p .corners) k origin
 

@@ -197,11 +197,13 @@ axesProper a =
     && partsUpTo 100 (a .up)
     && ltZ (pos 0) (dot (a .right) (cross (a .forward) (a .up)))
 
--- 11. "Has the picture (u16) width × height cells, the counts (u32) 1,025, the unlit lists (u16) height × 256?"
-unfoldable pub lengthsFit : Camera → Lengths → Bool
-lengthsFit a l =
+-- 11. "Has the picture (u16) width × height cells, the counts (u32) 1,025, the unlit lists (u16) height × 256?" Document 02, F-2: "A further lent table (u32, one
+-- entry a patch)"; "Question 11 covers the new table's length." `patches` is how many the scene has, which has passed 1 to 9 by then.
+unfoldable pub lengthsFit : Camera → ℕ → Lengths → Bool
+lengthsFit a patches l =
     eqb (l .picture) (a .window .width * a .window .height)
     && eqb (l .counts) countEntries
+    && eqb (l .patchCounts) patches
     && eqb (l .unlit) (a .window .height * rowLength)
 
 -- 12. "Is the station counter below 4,294,967,295?"
@@ -231,7 +233,7 @@ unfoldable pub callQuestions : List (Question Call)
 callQuestions =
     record { number = 10; test = λ c. viewInRange (callView c) }
     ∷ record { number = 14; test = λ c. axesProper (c .camera .axes) }
-    ∷ record { number = 11; test = λ c. lengthsFit (c .camera) (c .lengths) }
+    ∷ record { number = 11; test = λ c. lengthsFit (c .camera) (length (decode (c .scene) .patches)) (c .lengths) }
     ∷ record { number = 12; test = λ c. counterBelowEnd (c .counter) }
     ∷ record { number = 13; test = rowsFit }
     ∷ []

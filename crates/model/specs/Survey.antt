@@ -4,6 +4,7 @@ use Prim.Native.Nat.{ℕ}
 use Rattle.model.specs.Patch.{Patch}
 use Rattle.model.specs.Format.{decode, patchTable}
 use Rattle.model.specs.Picture.{picture, cellPanel, counts, unlitLists, nextCounter}
+use Rattle.model.specs.Booking.{patchCells}
 use Rattle.model.specs.Call.{Call, callDirection}
 
 -- the scene's patches, in the order of its patch records
@@ -15,6 +16,10 @@ callPicture c = picture (c .eye) (c .camera .window .width) (c .camera .window .
 
 unfoldable pub callCounts : Call → List ℕ
 callCounts c = counts (callPicture c)
+
+unfoldable pub callPatchCells : Call → List ℕ
+callPatchCells c =
+    patchCells (c .eye) (c .camera .window .width) (c .camera .window .height) (callDirection c) (callPatches c)
 
 unfoldable pub callUnlit : Call → List ℕ
 callUnlit c =

@@ -2,7 +2,7 @@
 use mathlib.Core.Path.{_≡_, refl, sym, _∙_, ap, subst}
 use mathlib.Core.Bool.{Bool, true, false, not, _&&_, true≢false}
 use mathlib.Core.List.{List, [], _++_, map-append, append-nil}
-use Prim.Native.Nat.{ℕ, _+_, _≤_, _<_}
+use Prim.Native.Nat.{ℕ, _+_, _*_, _≤_, _<_}
 use native.Mathlib.Omega.{arith}
 use lib.ListN.{length}
 use Rattle.model.specs.Vector.{Vec}
@@ -19,9 +19,12 @@ use Rattle.painting.specs.declared.Band.{Band}
 use Rattle.scanline.specs.Shown.{shownAfter}
 use Rattle.scanline.specs.Laying.{walkOf}
 use Rattle.placing.specs.Framing.{Framed, withRow, RowPlaced, RowDone, RowsUpTo}
-use Rattle.painting.specs.Bands.{BandPainted}
+use Rattle.placing.specs.Booked.{rowCells, AtMost, RowBooked}
+use Rattle.painting.specs.Bands.{BandPainted, BandBooked}
 use Rattle.scanline.proofs.FirstShown.{unlit-stays, shown-stays}
 use Rattle.placing.proofs.RowsPlaced.{still-framed, rows-go, rows-stay}
+use Rattle.placing.proofs.FirstBooked.{row-stays}
+use Rattle.placing.proofs.RowsBooked.{booked-as, book-go, row-adds}
 
 -- a full row is what the whole walk leaves
 full-placed :
@@ -65,46 +68,90 @@ module _
             (full-placed (walkOf bytes order) (walkOf bytes rest) (says refl) (done .placed))
         go false false e none says = absurd (true≢false e)
 
--- of a band that begins with row `from`, the rows before row j are in their places
+-- the same of the cells booked
+module _
+    {eye : Vec} {ray : ℕ → Vec} (bytes : List ℕ) (order : List ℕ) {width j : ℕ} {picture unlit picture′ unlit′ booked booked′ : List ℕ} {whole full : Bool}
+    (done : RowDone eye ray (walkOf bytes order) width j picture unlit picture′ unlit′ full)
+    (added : RowBooked eye ray (patchNumbered (decode bytes)) order width booked booked′)
+  where
+    booked-all :
+        (not whole && not full) ≡ false → (rest : List ℕ) → (whole ≡ true → rest ≡ []) →
+        RowBooked eye ray (patchNumbered (decode bytes)) (order ++ rest) width booked booked′
+    booked-all e rest none = booked-as (λ n. go n whole full e none (done .full-says)) added
+      where
+        cellsBy : ℕ → List ℕ → ℕ
+        cellsBy n ns = rowCells eye ray (patchNumbered (decode bytes)) ns width n
+
+        go :
+            (n : ℕ) (w f : Bool) → (not w && not f) ≡ false → (w ≡ true → rest ≡ []) →
+            (f ≡ true → (i : ℕ) → i < width → unlitAfter eye ray (walkOf bytes order) i ≡ false) →
+            cellsBy n order ≡ cellsBy n (order ++ rest)
+        go n true f e none says = ap (cellsBy n) (sym (ap (order ++_) (none refl) ∙ append-nil order))
+        go n false true e none says = sym (row-stays eye ray (patchNumbered (decode bytes)) width n order rest (says refl))
+        go n false false e none says = absurd (true≢false e)
+
+-- of a band that begins with row `from`, the rows before row j are in their places, and their cells are booked
 pub record BandUpTo
-    (bytes : List ℕ) (s : Sight) (order : List ℕ) (band : Band) (picture unlit picture′ unlit′ : List ℕ) (j : ℕ) : Type 0 where
+    (bytes order : List ℕ) (band : Band) (picture unlit picture′ unlit′ booked booked′ : List ℕ) (j : ℕ) : Type 0 where
   pub above : band .from ≤ j
   pub below : j ≤ band .to
   pub same-cells : length picture′ ≡ length picture
   pub same-unlit : length unlit′ ≡ length unlit
+  pub same-entries : length booked′ ≡ length booked
   pub rows :
       (rest : List ℕ) → (band .whole ≡ true → rest ≡ []) →
-      RowsUpTo (vecOf (s .eye)) (rayAt (s .raster)) (walkOf bytes (order ++ rest)) (s .raster .width) (s .raster .height) picture unlit (band .from) →
-      RowsUpTo (vecOf (s .eye)) (rayAt (s .raster)) (walkOf bytes (order ++ rest)) (s .raster .width) (s .raster .height) picture′ unlit′ j
+      RowsUpTo (vecOf (band .sight .eye)) (rayAt (band .sight .raster)) (walkOf bytes (order ++ rest)) (band .sight .raster .width) (band .sight .raster .height)
+      picture unlit (band .from) →
+      RowsUpTo (vecOf (band .sight .eye)) (rayAt (band .sight .raster)) (walkOf bytes (order ++ rest)) (band .sight .raster .width) (band .sight .raster .height)
+      picture′ unlit′ j
+  pub counted : BandBooked bytes order band booked booked′ j
 
-module _ {bytes : List ℕ} {s : Sight} {order : List ℕ} {band : Band} {picture unlit : List ℕ} where
-  pub band-start : band .from ≤ band .to → BandUpTo bytes s order band picture unlit picture unlit (band .from)
-  band-start h = record { above = omega arith; below = h; same-cells = refl; same-unlit = refl; rows = λ rest none inv. inv }
+module _ {bytes order : List ℕ} {band : Band} {picture unlit booked : List ℕ} where
+  pub band-start :
+      band .from ≤ band .to → AtMost booked (256 * band .from) →
+      BandUpTo bytes order band picture unlit picture unlit booked booked (band .from)
+  band-start h low =
+      record {
+        above = omega arith;
+        below = h;
+        same-cells = refl;
+        same-unlit = refl;
+        same-entries = refl;
+        rows = λ rest none inv. inv;
+        counted = record { low = low; rows = λ rest none inv. inv };
+      }
 
   module _
-      {picture′ unlit′ picture″ unlit″ : List ℕ} {j : ℕ} {full : Bool} (b : BandUpTo bytes s order band picture unlit picture′ unlit′ j)
-      (framed : Framed (s .raster .width) (s .raster .height) picture unlit) (h : j < s .raster .height)
+      {picture′ unlit′ picture″ unlit″ booked′ : List ℕ} {j : ℕ} {full : Bool} (b : BandUpTo bytes order band picture unlit picture′ unlit′ booked booked′ j)
+      (framed : Framed (band .sight .raster .width) (band .sight .raster .height) picture unlit) (h : j < band .sight .raster .height)
       (done :
-      RowDone (vecOf (s .eye)) (λ (i : ℕ). rayAt (s .raster) i j) (walkOf bytes order) (s .raster .width) j picture′ unlit′ picture″ unlit″ full)
+      RowDone (vecOf (band .sight .eye)) (λ (i : ℕ). rayAt (band .sight .raster) i j) (walkOf bytes order) (band .sight .raster .width) j picture′ unlit′ picture″ unlit″ full)
     where
-      abbrev now-framed : Framed (s .raster .width) (s .raster .height) picture′ unlit′
+      abbrev now-framed : Framed (band .sight .raster .width) (band .sight .raster .height) picture′ unlit′
       now-framed = still-framed (b .same-cells) (b .same-unlit) framed
 
       pub band-go :
-          {waits : Bool} → waits ≡ (not (band .whole) && not full) → waits ≡ false → j < band .to →
+          {booked″ : List ℕ} {waits : Bool} → waits ≡ (not (band .whole) && not full) → waits ≡ false → j < band .to →
           length picture″ ≡ length picture′ → length unlit″ ≡ length unlit′ →
-          BandUpTo bytes s order band picture unlit picture″ unlit″ (j + 1)
-      band-go e f k p u =
+          RowBooked (vecOf (band .sight .eye)) (λ (i : ℕ). rayAt (band .sight .raster) i j) (patchNumbered (decode bytes)) order (band .sight .raster .width) booked′ booked″ →
+          BandUpTo bytes order band picture unlit picture″ unlit″ booked booked″ (j + 1)
+      band-go e f k p u added =
           record {
             above = omega (arith, b .above);
             below = omega arith;
             same-cells = p ∙ b .same-cells;
             same-unlit = u ∙ b .same-unlit;
-            rows = λ rest none inv. rows-go (b .rows rest none inv) now-framed h (placed-all bytes s order done (sym e ∙ f) rest none);
+            same-entries = added .same ∙ b .same-entries;
+            rows = λ rest none inv. rows-go (b .rows rest none inv) now-framed h (placed-all bytes (band .sight) order done (sym e ∙ f) rest none);
+            counted =
+                record {
+                  low = row-adds j (framed .narrow) added (b .counted .low);
+                  rows = λ rest none inv. book-go (b .counted .rows rest none inv) (booked-all bytes order done added (sym e ∙ f) rest none);
+                };
           }
 
       -- row j waits for more of the walk
-      pub band-waits : {waits : Bool} → waits ≡ (not (band .whole) && not full) → waits ≡ true → BandPainted bytes s order band picture unlit picture″ unlit″ j
+      pub band-waits : {waits : Bool} → waits ≡ (not (band .whole) && not full) → waits ≡ true → BandPainted bytes order band picture unlit picture″ unlit″ j
       band-waits e f =
           record {
             above = b .above;
@@ -114,6 +161,6 @@ module _ {bytes : List ℕ} {s : Sight} {order : List ℕ} {band : Band} {pictur
           }
 
   pub band-end :
-      {picture′ unlit′ : List ℕ} {j : ℕ} → BandUpTo bytes s order band picture unlit picture′ unlit′ j → band .to ≤ j →
-      BandPainted bytes s order band picture unlit picture′ unlit′ j
+      {picture′ unlit′ booked′ : List ℕ} {j : ℕ} → BandUpTo bytes order band picture unlit picture′ unlit′ booked booked′ j → band .to ≤ j →
+      BandPainted bytes order band picture unlit picture′ unlit′ j
   band-end b h = record { above = b .above; below = b .below; all = λ t. omega (arith, b .below); rows = b .rows }

@@ -9,11 +9,12 @@ use lib.IntN.{ℤ}
 use lib.ListN.{length, getD, take}
 use lib.Seq.{length-take-le}
 use borrow.Author.Tests.{ltb-false}
-use lib.Dec.{ltb, ltb→lt}
+use lib.Dec.{eqb, ltb, ltb→lt}
 use Rattle.model.specs.Lists.{any}
 use Rattle.model.specs.Vector.{Vec}
 use Rattle.model.specs.Patch.{Patch}
 use Rattle.model.specs.Ray.{met, panelOf, firstMet}
+use Rattle.model.specs.Booking.{firstIs}
 use Rattle.model.specs.Format.{decode, patchNumbered}
 use Rattle.model.specs.Row.{rowLength}
 use Rattle.model.specs.Questions.{unlitAfter}
@@ -22,11 +23,13 @@ use Rattle.geometry.specs.Raster.{rayAt}
 use Rattle.format.specs.declared.layout.Layout.{Layout}
 use Rattle.format.proofs.Tables.{same-table}
 use Rattle.segments.proofs.Rows.{row-congr}
+use Rattle.segments.proofs.Tallies.{tally-congr}
 use Rattle.selection.specs.Selection.{spanAt, reached, reaching, passing, Selected}
 use Rattle.edges.specs.declared.Sight.{Sight}
 use Rattle.scanline.specs.Shown.{shownAfter}
 use Rattle.scanline.specs.Laying.{PatchDrawable, Drawable, walkOf}
 use Rattle.placing.specs.Framing.{withRow, RowDone}
+use Rattle.placing.specs.Booked.{rowCells}
 use Rattle.model.proofs.Tests.{is-true, both-true}
 use Rattle.readiness.specs.Ready.{InSight, Drawn, ReachKnown, Reached}
 
@@ -71,6 +74,16 @@ module _ (eye d : Vec) (patch : ℕ → Patch) (test : ℕ → Bool) where
       go : firstMet eye d (map patch (passing test ns)) ≡ firstMet eye d (map patch ns) → (b : Bool) → test n ≡ b →
           firstMet eye d (map patch (cond b (n ∷ passing test ns) (passing test ns))) ≡ cond (met eye d (patch n)) (some (patch n)) (firstMet eye d (map patch ns))
       go rest true e = ap (cond (met eye d (patch n)) (some (patch n))) rest
+      go rest false e = rw (f 0 (omega arith) e) rest
+
+  passing-is : (m : ℕ) (ns : List ℕ) → Unmet eye d patch test ns → firstIs eye d patch (passing test ns) m ≡ firstIs eye d patch ns m
+  unfolding passing firstIs
+  passing-is m [] f = refl
+  passing-is m (n ∷ ns) f = go (passing-is m ns (λ k h. f (suc k) (omega arith))) (test n) refl
+    where
+      go : firstIs eye d patch (passing test ns) m ≡ firstIs eye d patch ns m → (b : Bool) → test n ≡ b →
+          firstIs eye d patch (cond b (n ∷ passing test ns) (passing test ns)) m ≡ cond (met eye d (patch n)) (eqb n m) (firstIs eye d patch ns m)
+      go rest true e = ap (cond (met eye d (patch n)) (eqb n m)) rest
       go rest false e = rw (f 0 (omega arith) e) rest
 
   passing-any : (ns : List ℕ) → Unmet eye d patch test ns → any (met eye d) (map patch (passing test ns)) ≡ any (met eye d) (map patch ns)
@@ -157,6 +170,15 @@ module _ {rows order near : List ℕ} {from to n : ℕ} (s : Selected rows from 
                 };
             full-says = λ t i b. sym (unlit-same i) ∙ done .full-says t i b;
           }
+
+      -- and books its cells to the same patches
+      pub near-cells :
+          (width m : ℕ) →
+          rowCells eye ray (patchNumbered (decode bytes)) (take n near) width m ≡ rowCells eye ray (patchNumbered (decode bytes)) order width m
+      unfolding rowCells
+      near-cells width m =
+          tally-congr _ _ width
+          (λ i b. rw (s .front) (passing-is eye (ray i) (patchNumbered (decode bytes)) (reaching rows from to) m order (unmet i)))
 
 -- The patches that reach one row have some row, so that their edge functions stand in the table.
 pub row-drawable :

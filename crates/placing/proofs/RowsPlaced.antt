@@ -18,10 +18,11 @@ use Rattle.model.specs.Questions.{unlitAfter}
 use Rattle.format.proofs.Tables.{length-table}
 use Rattle.segments.proofs.Rows.{row-length}
 use Rattle.segments.proofs.Full.{first-length}
-use Rattle.scanline.specs.Shown.{RowPainted}
+use Rattle.scanline.specs.Shown.{RowPainted, RowLit}
 use Rattle.placing.specs.Framing.{RowsPainted, Framed, withRow, RowPlaced, RowDone, cellsOf, unlitOf, RowsUpTo}
 use Rattle.scanline.proofs.Columns.{each-lit}
 use Rattle.scanline.proofs.WalkPainted.{as-long}
+use Rattle.scanline.proofs.Counted.{lit-as-long}
 
 -- ---- one row
 
@@ -64,6 +65,12 @@ module _ {width height j : ℕ} {picture unlit : List ℕ} (framed : Framed widt
     where
       right : RowPainted eye ray walk width cells row
       right = as-long part-long painted
+
+  pub row-lit :
+      {eye : Vec} {ray : ℕ → Vec} {patch : ℕ → Patch} {order lits : List ℕ} {laid : ℕ} →
+      RowLit eye ray patch order (length (take (j * width + width - j * width) (drop (j * width) picture))) lits laid →
+      RowLit eye ray patch order width lits laid
+  row-lit = lit-as-long part-long
 
 -- ---- all rows
 

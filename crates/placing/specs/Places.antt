@@ -6,21 +6,12 @@ use lib.ListN.{length}
 use Rattle.format.specs.declared.layout.Layout.{Layout}
 use Rattle.edges.specs.declared.Sight.{Sight}
 use Rattle.scanline.specs.Laying.{Drawable}
-use Rattle.readiness.specs.Ready.{Drawn, Reached}
 use Rattle.placing.specs.Framing.{Framed}
 
 -- what painting a row in its places asks
 pub record RowAsked
-    (bytes : List ℕ) (l : Layout) (s : Sight) (edges : List ℤ) (order picture unlit : List ℕ) (j : ℕ) : Type 0 where
+    (bytes : List ℕ) (l : Layout) (s : Sight) (edges : List ℤ) (order picture unlit lits : List ℕ) (j : ℕ) : Type 0 where
   pub drawable : Drawable bytes l s edges order
-  pub framed : Framed (s .raster .width) (s .raster .height) picture unlit
-  pub inside : j < s .raster .height
-
--- and what it asks where the patches that do not reach the row are passed over
-pub record NearAsked
-    (bytes : List ℕ) (l : Layout) (s : Sight) (edges : List ℤ) (rows order picture unlit : List ℕ) (j : ℕ) : Type 0 where
-  pub drawn : Drawn bytes l s edges rows order
-  pub reached : Reached bytes s rows order
-  pub few : length order ≤ 1024
+  pub places : length order ≤ length lits
   pub framed : Framed (s .raster .width) (s .raster .height) picture unlit
   pub inside : j < s .raster .height

@@ -3,8 +3,10 @@ use mathlib.Core.Path.{_≡_, sym, _∙_, ap, subst, fun-ext}
 use mathlib.Core.Bool.{Bool}
 use mathlib.Core.List.{List, map, flatten, List·Memᴰ}
 use Prim.Native.Nat.{ℕ, _<_, _≤_}
+use native.Mathlib.Omega.{arith}
 use lib.Dec.{eqb}
-use lib.ListN.{length-map}
+use lib.ListN.{length, length-map}
+use lib.Seq.{ext-getD}
 use Rattle.model.specs.Lists.{range}
 use Rattle.model.specs.Vector.{Vec}
 use Rattle.model.specs.Patch.{Patch}
@@ -13,14 +15,18 @@ use Rattle.model.specs.Tree.{order}
 use Rattle.model.specs.Format.{Scene, decode, patchTable, patchOf, patchNumbered, numberTree}
 use Rattle.model.specs.Row.{rowOf}
 use Rattle.model.specs.Picture.{cells, picture, cellPanel, unlitLists}
+use Rattle.model.specs.Booking.{cellsWhere, patchCells}
 use Rattle.model.specs.Questions.{patchRunsFollow, cornerRunsFollow, runsProper, unlitAfter}
 use Rattle.model.proofs.Tests.{both}
 use Rattle.model.proofs.Ranges.{of-map, getD-member}
 use Rattle.model.specs.Accepted.{AcceptedScene}
 use Rattle.walk.proofs.Whole.{walk-numbers}
 use Rattle.walk.proofs.Seen.{accepted, first-met-closest}
+use Rattle.walk.proofs.Numbered.{first-has}
 use Rattle.scanline.specs.Shown.{shownAfter}
 use Rattle.placing.specs.Framing.{RowsPainted}
+use Rattle.placing.specs.Booked.{BookedUpTo}
+use Rattle.model.proofs.PanelSums.{patch-entries, patch-entry}
 use Rattle.model.proofs.PanelNumbers.{panel-positive}
 use Rattle.scanline.proofs.FirstShown.{unlit-shows-0}
 
@@ -75,3 +81,20 @@ module _
         ∙ ap
         (λ (f : ℕ → ℕ → Bool). flatten (map (λ (j : ℕ). rowOf width (f j)) (range 0 height)))
         (fun-ext (λ j. fun-ext (λ i. unlit-closest bytes h eye (λ (k : ℕ). ray k j) i)))
+
+-- The cells booked to the first patch met are those of the patch that has them.
+pub painted-booked :
+    {bytes : List ℕ} → AcceptedScene bytes → (eye : Vec) (ray : ℕ → ℕ → Vec) {width height : ℕ} {booked : List ℕ} →
+    length booked ≡ length (decode bytes .patches) →
+    BookedUpTo eye ray (patchNumbered (decode bytes)) (order eye (numberTree (decode bytes))) width booked height →
+    booked ≡ patchCells eye width height ray (patchTable (decode bytes))
+unfolding patchTable
+painted-booked {bytes} h eye ray {width} {height} {booked} e cells =
+    let s : Scene = decode bytes in
+    let many : length (patchTable s) ≡ length (s .patches) = length-map (s .patches) (patchOf (s .corners)) in
+    ext-getD 0 _ _ (e ∙ sym (patch-entries eye width height ray (patchTable s) ∙ many))
+    (λ n l.
+    let k : n < length (s .patches) = omega (arith, e) in
+    cells .each n l
+    ∙ ap (cellsWhere width height) (fun-ext (λ i. fun-ext (λ j. first-has s (accepted h) eye (ray i j) n k)))
+    ∙ sym (patch-entry eye width height ray (patchTable s) n (omega (arith, many))))

@@ -2,9 +2,11 @@
 use mathlib.Core.Path.{_≡_}
 use mathlib.Core.List.{List}
 use Prim.Native.Nat.{ℕ}
+use lib.ListN.{length}
 use Rattle.model.specs.View.{View, viewWidth, viewHeight, viewDirection}
 use Rattle.model.specs.Format.{decode, patchTable}
 use Rattle.model.specs.Picture.{picture, cellPanel, unlitLists}
+use Rattle.model.specs.Booking.{patchCells}
 use Rattle.model.specs.Accepted.{AcceptedScene}
 use Rattle.geometry.specs.declared.Vector.{Vector}
 use Rattle.geometry.specs.Machine.{Bounded}
@@ -12,16 +14,19 @@ use Rattle.camera.specs.declared.Camera.{Camera}
 use Rattle.camera.specs.Machine.{CameraBounded}
 use Rattle.placing.specs.Framing.{Framed}
 
--- a scene that passed the questions, an eye and a camera in range, and buffers of the window's size
-pub record PaintingAsked (bytes : List ℕ) (eye : Vector) (camera : Camera) (picture unlit : List ℕ) : Type 0 where
+-- a scene that passed the questions, an eye and a camera in range, buffers of the window's size, and a table with one entry a patch
+pub record PaintingAsked (bytes : List ℕ) (eye : Vector) (camera : Camera) (picture unlit booked : List ℕ) : Type 0 where
   pub accepted : AcceptedScene bytes
   pub near : Bounded 10000 eye
   pub aimed : CameraBounded camera
   pub framed : Framed (camera .width) (camera .height) picture unlit
+  pub entries : length booked ≡ length (decode bytes .patches)
 
--- the picture and the unlit lists of a view, from the closest panels
-pub record Painted (bytes : List ℕ) (v : View) (cells unlit : List ℕ) : Type 0 where
+-- the picture and the unlit lists of a view, from the closest panels, and the cells of each patch
+pub record Painted (bytes : List ℕ) (v : View) (cells unlit booked : List ℕ) : Type 0 where
   pub cells-are :
       cells ≡ picture (v .eye) (viewWidth v) (viewHeight v) (viewDirection v) (patchTable (decode bytes))
   pub unlit-are :
       unlit ≡ unlitLists (viewWidth v) (viewHeight v) (cellPanel (v .eye) (viewDirection v) (patchTable (decode bytes)))
+  pub booked-are :
+      booked ≡ patchCells (v .eye) (viewWidth v) (viewHeight v) (viewDirection v) (patchTable (decode bytes))

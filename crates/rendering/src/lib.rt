@@ -1,4 +1,4 @@
-// The picture and the unlit lists of an accepted scene, as a camera at an eye sees it.
+// The picture, the unlit lists and the patches' cells of an accepted scene, as a camera at an eye sees it.
 use camera::Camera;
 use camera::camera_raster;
 use edges::Sight;
@@ -10,9 +10,16 @@ ghost use Rattle.camera.specs.Machine.{viewOf};
 ghost use Rattle.rendering.specs.Painted.{PaintingAsked, Painted};
 
 // The tables have room for the edge functions of all corners and the rows of all patches; the painting fills them as far as it needs them.
-pub fn paint(scene: &[u8], eye: Vector, camera: Camera, picture: &mut [u16], unlit: &mut [u16])
-    requires { ⌜ PaintingAsked (now scene) eye camera (now picture) (now unlit) ⌝ }
-    ensures { λ r. ⌜ Painted (now (scene .entry)) (viewOf eye camera) (now (picture .exit)) (now (unlit .exit)) ⌝ }
+pub fn paint(
+    scene: &[u8],
+    eye: Vector,
+    camera: Camera,
+    picture: &mut [u16],
+    unlit: &mut [u16],
+    booked: &mut [u32],
+)
+    requires { ⌜ PaintingAsked (now scene) eye camera (now picture) (now unlit) (now booked) ⌝ }
+    ensures { λ r. ⌜ Painted (now (scene .entry)) (viewOf eye camera) (now (picture .exit)) (now (unlit .exit)) (now (booked .exit)) ⌝ }
 {
     let l = read_layout(scene);
     let mut order = [0u16; 1024];
@@ -32,5 +39,6 @@ pub fn paint(scene: &[u8], eye: Vector, camera: Camera, picture: &mut [u16], unl
         &mut rows,
         picture,
         unlit,
+        booked,
     );
 }

@@ -1,4 +1,4 @@
--- A span laid on one segment: the row, the cells, the next segment.
+-- A span laid on one segment: the row, the cells, the next segment, the columns that were lit.
 use mathlib.Core.Path.{_≡_, refl, sym, ap, subst, subst⁻¹, _∙_}
 use mathlib.Core.Logic.{_⊎_, inl, inr, ⊎-elim}
 use mathlib.Core.Bool.{Bool, true, false, cond, _&&_}
@@ -9,6 +9,7 @@ use native.Mathlib.Omega.{arith}
 use lib.Dec.{T, leb, ltb, leb→le, le→leb}
 use lib.ListN.{length}
 use borrow.Author.Tests.{leb-false}
+use Rattle.model.specs.Lists.{range, tally}
 use Rattle.model.specs.Row.{Segment}
 use Rattle.model.proofs.Tests.{same-test, both}
 use Rattle.segments.specs.Columns.{inSpan, painted, piece, remainsBefore, remains}
@@ -18,6 +19,7 @@ use Rattle.rows.specs.Step.{Overlaps, Keeps, Reached, Steps}
 use Rattle.segments.proofs.Tests.{same-le, failed, and-failed}
 use Rattle.segments.proofs.Segments.{column-bounds, bounds-column}
 use Rattle.segments.proofs.Painting.{painted-congr, painted-none}
+use Rattle.segments.proofs.Tallies.{tally-congr, tally-clear, tally-span}
 use Rattle.pairs.proofs.Moves.{read-segment}
 use Rattle.rows.proofs.Keeping.{held-segment, before-none, before-all, after-none, after-all}
 
@@ -77,6 +79,10 @@ none-shared first last s i d =
 -- the cells with the panel in the columns that the segment and the span share
 abbrev over : ℕ → ℕ → ℕ → List ℕ → Segment → List ℕ
 over first last panel cells s = painted (λ (i : ℕ). inSegment s i && inSpan first last i) panel cells
+
+-- how many columns of a set are below the width and in the span
+abbrev pub spanned : ℕ → ℕ → ℕ → (ℕ → Bool) → ℕ
+spanned first last width columns = tally (λ (i : ℕ). columns i && inSpan first last i) (range 0 width)
 
 module _
     {k first last offset count : ℕ} {row cells : List ℕ} {paint before after next : Bool}
@@ -141,23 +147,29 @@ module _
 
     -- the columns that the segment and the span share were painted
     pub steps-met :
-        {panel from to : ℕ} {row′ cells′ : List ℕ} → from ≡ max first offset → to ≡ min last (offset + (count - 1)) →
+        {panel from to : ℕ} {row′ cells′ : List ℕ} → from ≡ max first offset → to ≡ min last (offset + (count - 1)) → paint ≡ true →
         cells′ ≡ painted (inSpan from to) panel cells → Keeps k first last row row′ →
-        Steps k first last panel row cells row′ cells′ next-k next
-    steps-met {panel} {from} {to} f t p kp =
+        Steps k first last panel row cells row′ cells′ next-k next (to - from + 1)
+    steps-met {panel} {from} {to} f t e p kp =
+        let run = run-placed f t e in
+        let same : (i : ℕ) → inSpan from to i ≡ (inSegment s i && inSpan first last i) =
+        λ i. rw (f, t) (shared first last s i (placed .filled)) in
         record {
           row-is = kp;
           cells-are =
               p
-              ∙ painted-congr (inSpan from to) (λ (i : ℕ). inSegment s i && inSpan first last i) panel cells
-              (λ i h. rw (f, t) (shared first last s i (placed .filled)))
+              ∙ painted-congr (inSpan from to) (λ (i : ℕ). inSegment s i && inSpan first last i) panel cells (λ i h. same i)
               ∙ ap (over first last panel cells) (sym (read-segment r));
           next-is = next-segment;
           go-is = goes;
+          lit-is =
+              sym (tally-span from to (length cells) (run .0) (run .1))
+              ∙ tally-congr (inSpan from to) (λ (i : ℕ). inSegment s i && inSpan first last i) (length cells) (λ i h. same i)
+              ∙ ap (λ (x : Segment). spanned first last (length cells) (inSegment x)) (sym (read-segment r));
         }
 
     -- they share none
-    pub steps-missed : {panel : ℕ} → paint ≡ false → Steps k first last panel row cells row cells next-k next
+    pub steps-missed : {panel : ℕ} → paint ≡ false → Steps k first last panel row cells row cells next-k next 0
     steps-missed {panel} e =
         record {
           row-is = record {
@@ -173,4 +185,7 @@ module _
               ∙ ap (over first last panel cells) (sym (read-segment r));
           next-is = next-segment;
           go-is = goes;
+          lit-is =
+              sym (tally-clear _ (length cells) (λ i h. none-shared first last s i (missed e)))
+              ∙ ap (λ (x : Segment). spanned first last (length cells) (inSegment x)) (sym (read-segment r));
         }

@@ -4,6 +4,7 @@ use mathlib.Core.Bool.{Bool, _&&_}
 use mathlib.Core.List.{List}
 use Prim.Native.Nat.{ℕ, _≤_}
 use lib.ListN.{length}
+use Rattle.model.specs.Lists.{range, tally}
 use Rattle.model.specs.Row.{rowOf, afterSpan}
 use Rattle.segments.specs.Columns.{inSpan, painted, allLit}
 
@@ -19,6 +20,7 @@ pub record Lays (unlit : ℕ → Bool) (first last panel : ℕ) (cells row′ ce
   pub row-is : row′ ≡ rowOf (length cells) (afterSpan unlit first last)
   pub cells-are : cells′ ≡ painted (λ (i : ℕ). unlit i && inSpan first last i) panel cells
 
--- what it reports: whether no column is unlit any more
-pub record Reports (unlit : ℕ → Bool) (first last width : ℕ) (full : Bool) : Type 0 where
+-- what it reports: whether no column is unlit any more, and how many it newly lit, those that were unlit and lie in the span
+pub record Reports (unlit : ℕ → Bool) (first last width : ℕ) (full : Bool) (lit : ℕ) : Type 0 where
   pub full-is : full ≡ allLit width (afterSpan unlit first last)
+  pub lit-is : lit ≡ tally (λ (i : ℕ). unlit i && inSpan first last i) (range 0 width)

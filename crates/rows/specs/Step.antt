@@ -5,6 +5,7 @@ use mathlib.Core.List.{List, _∷_, _++_}
 use Prim.Native.Nat.{ℕ, suc, _+_, _≤_, _<_}
 use lib.Dec.{leb, ltb}
 use lib.ListN.{length}
+use Rattle.model.specs.Lists.{range, tally}
 use Rattle.model.specs.Row.{Segment}
 use Rattle.segments.specs.Columns.{inSpan, painted, remainsBefore, remains}
 use Rattle.segments.specs.Segments.{inSegment, Placed, rowFrom, segmentAt, Holds}
@@ -31,9 +32,11 @@ pub record Reached (k first last : ℕ) (row cells : List ℕ) : Type 0 where
   pub placed : Placed (length cells) 0 (segmentAt row k)
   pub fits : length cells ≤ 256
 
--- a span is laid on segment k: `next` is the number of the segment after it, and `go` says that the segment ends before the span does
-pub record Steps (k first last panel : ℕ) (row cells row′ cells′ : List ℕ) (next : ℕ) (go : Bool) : Type 0 where
+-- A span is laid on segment k: `next` is the number of the segment after it, `go` says that the segment ends before the span does,
+-- and `lit` is the number of the row's columns that lie in both.
+pub record Steps (k first last panel : ℕ) (row cells row′ cells′ : List ℕ) (next : ℕ) (go : Bool) (lit : ℕ) : Type 0 where
   pub row-is : Keeps k first last row row′
   pub cells-are : cells′ ≡ painted (λ (i : ℕ). inSegment (segmentAt row k) i && inSpan first last i) panel cells
   pub next-is : next ≡ k + length (remainsBefore first (segmentAt row k))
   pub go-is : go ≡ leb (segmentAt row k .offset + segmentAt row k .count) last
+  pub lit-is : lit ≡ tally (λ (i : ℕ). inSegment (segmentAt row k) i && inSpan first last i) (range 0 (length cells))

@@ -7,18 +7,27 @@ use pairs::set_pair;
 use positions::Action;
 use positions::action_for;
 ghost use mathlib.Core.Path.{_≡_};
-ghost use mathlib.Core.Bool.{Bool, cond};
+ghost use mathlib.Core.Bool.{Bool, cond, _&&_};
 ghost use Prim.Native.Nat.{ℕ, _+_, _≤_, _<_, min, max};
 ghost use lib.ListN.{length};
 ghost use Rattle.rows.specs.Span.{Row, Lays};
+ghost use Rattle.model.specs.Lists.{range, tally};
 ghost use Rattle.model.specs.Row.{rowOf};
+ghost use Rattle.segments.specs.Columns.{inSpan};
 ghost use Rattle.segments.specs.Segments.{segmentAt};
 ghost use Rattle.rows.specs.Step.{Overlaps, Keeps, Reached, Steps};
 
-// The next segment to look at, and whether the span may meet it.
+// The next segment to look at, whether the span may meet it, and how many cells of this one the span lit.
 pub struct Step {
     pub next: usize,
     pub go: bool,
+    pub lit: u16,
+}
+
+// What a sweep counts.
+pub struct Swept {
+    // The cells that it newly lit.
+    pub lit: u16,
 }
 
 fn larger(a: u16, b: u16) -> u16
@@ -76,41 +85,56 @@ pub fn lay_on(
 ) -> Step
     requires { ⌜ Reached k first last (now row) (now cells) ⌝ }
     ensures { λ r. ⌜ Steps k first last panel (now (row .entry)) (now (cells .entry))
-        (now (row .exit)) (now (cells .exit)) (r .next) (r .go) ⌝ }
+        (now (row .exit)) (now (cells .exit)) (r .next) (r .go) (r .lit) ⌝ }
 {
     let p = pair_at(row, k);
     let max = p.offset + (p.count - 1);
     let a = action_for(first, last, p.offset, max);
-    let s = Step {
-        next: advanced(k, a.before),
-        go: a.next,
-    };
+    let next = advanced(k, a.before);
     if a.paint {
-        paint(cells, larger(first, p.offset), smaller(last, max), panel);
+        let from = larger(first, p.offset);
+        let to = smaller(last, max);
+        let lit = to - from + 1;
+        paint(cells, from, to, panel);
         keep(row, k, first, last, a);
+        return Step {
+            next,
+            go: a.next,
+            lit,
+        };
     }
-    s
+    Step {
+        next,
+        go: a.next,
+        lit: 0,
+    }
 }
 
-// The segments are looked at in order, up to the first that ends at or after the span's end. There are at most 128.
-pub fn sweep(row: &mut [u16; 256], cells: &mut [u16], first: u16, last: u16, panel: u16)
+// The segments are looked at in order, up to the first that ends at or after the span's end. There are at most 128. The cells
+// that the span lights are counted segment by segment, so that no column is looked at for it.
+pub fn sweep(row: &mut [u16; 256], cells: &mut [u16], first: u16, last: u16, panel: u16) -> Swept
     requires { ⌜ (first ≤ last) × Row (length (now cells)) (now row) ⌝ }
-    ensures { λ r. ⌜ ((unlit : ℕ → Bool) → now (row .entry) ≡ rowOf (length (now (cells .entry))) unlit →
+    ensures laid { λ r. ⌜ ((unlit : ℕ → Bool) → now (row .entry) ≡ rowOf (length (now (cells .entry))) unlit →
         Lays unlit first last panel (now (cells .entry)) (now (row .exit)) (now (cells .exit))) ⌝ }
+    ensures counted { λ r. ⌜ ((unlit : ℕ → Bool) → now (row .entry) ≡ rowOf (length (now (cells .entry))) unlit →
+        r .lit ≡ tally (λ (i : ℕ). unlit i && inSpan first last i) (range 0 (length (now (cells .entry))))) ⌝ }
 {
     let mut k: usize = 0;
     let mut looked: usize = 0;
+    let mut lit: u16 = 0;
     while looked < 128 {
         let p = pair_at(row, k);
         if p.count == 0 {
-            return;
+            return Swept { lit };
         }
         let s = lay_on(row, cells, k, first, last, panel);
+        lit += s.lit;
         if s.go {
             k = s.next;
             looked += 1;
         } else {
-            return;
+            return Swept { lit };
         }
     }
+    Swept { lit }
 }

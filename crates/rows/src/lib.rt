@@ -14,6 +14,8 @@ ghost use Rattle.rows.specs.Span.{Row, Lays, Reports};
 pub struct Laid {
     // No column of the row is unlit any more.
     pub full: bool,
+    // How many cells it newly lit: the columns of the span that were unlit.
+    pub lit: u16,
 }
 
 // A row whose columns are all unlit.
@@ -34,15 +36,21 @@ pub fn lay(row: &mut [u16; 256], cells: &mut [u16], first: u16, last: u16, panel
     ensures laid { λ r. ⌜ ((unlit : ℕ → Bool) → now (row .entry) ≡ rowOf (length (now (cells .entry))) unlit →
         Lays unlit first last panel (now (cells .entry)) (now (row .exit)) (now (cells .exit))) ⌝ }
     ensures reported { λ r. ⌜ ((unlit : ℕ → Bool) → now (row .entry) ≡ rowOf (length (now (cells .entry))) unlit →
-        Reports unlit first last (length (now (cells .entry))) (r .full)) ⌝ }
+        Reports unlit first last (length (now (cells .entry))) (r .full) (r .lit)) ⌝ }
 {
     if first <= last {
-        sweep(row, cells, first, last, panel);
+        let swept = sweep(row, cells, first, last, panel);
         let count = row[1];
-        return Laid { full: count == 0 };
+        return Laid {
+            full: count == 0,
+            lit: swept.lit,
+        };
     }
     let count = row[1];
-    Laid { full: count == 0 }
+    Laid {
+        full: count == 0,
+        lit: 0,
+    }
 }
 
 // The used pairs of a row of the unlit lists, as that part of them; the empty part where the row is not wholly inside.

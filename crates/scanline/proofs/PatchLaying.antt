@@ -15,6 +15,7 @@ use Rattle.format.specs.declared.layout.Layout.{Layout}
 use Rattle.format.specs.declared.records.PatchRecord.{PatchRecord}
 use Rattle.format.specs.Machine.{runOf}
 use Rattle.checked.specs.Checked.{PatchRecordIs}
+use Rattle.rows.specs.declared.Laid.{Laid}
 use Rattle.spans.specs.declared.Span.{Span}
 use Rattle.spans.specs.Span.{covers}
 use Rattle.tables.specs.Functions.{functionsIn, FunctionRun}
@@ -37,15 +38,15 @@ module _
 
     -- what laying its span leaves is what laying the patch leaves, if the span was sought among all unlit columns
     pub patch-laid :
-        (j : ℕ) {row cells row′ cells′ : List ℕ} {full : Bool} {hull r : Span} →
+        (j : ℕ) {row cells row′ cells′ : List ℕ} {found : Laid} {hull r : Span} →
         UnlitHull (length cells) row hull →
         RowSpan (functionsIn table (p .corners .first) (p .corners .count)) j hull r →
-        ColumnsLaid (covers r) (p .panel) row cells row′ cells′ full →
-        PatchLaid (vecOf (s .eye)) (λ (i : ℕ). rayAt (s .raster) i j) (patchNumbered (decode bytes) k) row cells row′ cells′ full
-    patch-laid j {row} {cells} {row′} {cells′} {full} {hull} {r} u h laid =
+        ColumnsLaid (covers r) (p .panel) row cells row′ cells′ found →
+        PatchLaid (vecOf (s .eye)) (λ (i : ℕ). rayAt (s .raster) i j) (patchNumbered (decode bytes) k) row cells row′ cells′ found
+    patch-laid j {row} {cells} {row′} {cells′} {found} {hull} {r} u h laid =
         subst
         (λ (n : ℕ).
-        ColumnsLaid (λ (i : ℕ). met (vecOf (s .eye)) (rayAt (s .raster) i j) (patchNumbered (decode bytes) k)) n row cells row′ cells′ full)
+        ColumnsLaid (λ (i : ℕ). met (vecOf (s .eye)) (rayAt (s .raster) i j) (patchNumbered (decode bytes) k)) n row cells row′ cells′ found)
         (is .panel-is) (columns-congr columns laid)
       where
         columns :

@@ -14,9 +14,10 @@ use Rattle.model.specs.Row.{rowOf}
 use Rattle.model.specs.Questions.{unlitAfter}
 use Rattle.format.proofs.Tables.{length-table, table-at, same-table}
 use Rattle.rows.specs.Span.{Row}
+use Rattle.rows.specs.declared.Laid.{Laid}
 use Rattle.segments.proofs.Rows.{row-congr}
 use Rattle.segments.proofs.Painting.{painted-length, painted-at}
-use Rattle.scanline.specs.Shown.{shownAfter, RowPainted}
+use Rattle.scanline.specs.Shown.{shownAfter, RowPainted, newlyLit}
 use Rattle.scanline.specs.Laying.{ColumnsPainted, PatchLaid}
 use Rattle.scanline.proofs.Clearing.{zero-table}
 use Rattle.scanline.proofs.FirstShown.{unlit-first, shown-first, unlit-next, shown-next, unlit-stays, shown-stays}
@@ -30,9 +31,9 @@ module _ (eye : Vec) (ray : ℕ → Vec) (width : ℕ) where
         row-is = f ∙ row-congr width _ _ (λ i h. sym (unlit-first eye ray i));
       }
 
-  module _ (done : List Patch) (p : Patch) {cells row cells′ row′ : List ℕ} {full : Bool} where
+  module _ (done : List Patch) (p : Patch) {cells row cells′ row′ : List ℕ} {full : Bool} {lit : ℕ} where
     one-more :
-        ColumnsPainted (λ (i : ℕ). met eye (ray i) p) (p .panel) (unlitAfter eye ray done) cells row′ cells′ full →
+        ColumnsPainted (λ (i : ℕ). met eye (ray i) p) (p .panel) (unlitAfter eye ray done) cells row′ cells′ full lit →
         RowPainted eye ray done width cells row → length cells ≡ width →
         RowPainted eye ray (done ++ p ∷ []) width cells′ row′
     one-more next so-far e =
@@ -102,15 +103,15 @@ module _ {eye : Vec} {ray : ℕ → Vec} {patch : ℕ → Patch} {order : List �
     walk-ends h = rw (take-all k order h) at (inv .so-far)
 
     module _
-        {cells′ row′ : List ℕ} {full : Bool} (h : k < length order)
-        (laid : PatchLaid eye ray (patch (getD order k 0)) row cells row′ cells′ full)
+        {cells′ row′ : List ℕ} {r : Laid} (h : k < length order)
+        (laid : PatchLaid eye ray (patch (getD order k 0)) row cells row′ cells′ r)
       where
         taken : map patch (take k order) ++ patch (getD order k 0) ∷ [] ≡ map patch (take (k + 1) order)
         taken =
             rw (add-one k, take-suc order k 0 h) (sym (map-append patch (take k order) (getD order k 0 ∷ [])))
 
         next : ColumnsPainted (λ (i : ℕ). met eye (ray i) (patch (getD order k 0))) (patch (getD order k 0) .panel)
-            (unlitAfter eye ray (map patch (take k order))) cells row′ cells′ full
+            (unlitAfter eye ray (map patch (take k order))) cells row′ cells′ (r .full) (r .lit)
         next = laid .laid (unlitAfter eye ray (map patch (take k order))) (rw (inv .long) (inv .so-far .row-is))
 
         pub walk-goes : PaintedUpTo eye ray patch order width cells′ row′ (k + 1)
@@ -121,13 +122,20 @@ module _ {eye : Vec} {ray : ℕ → Vec} {patch : ℕ → Patch} {order : List �
               so-far = rw taken at (one-more eye ray width (map patch (take k order)) (patch (getD order k 0)) next (inv .so-far) (inv .long));
             }
 
-        pub walk-full : full ≡ true → RowPainted eye ray (map patch order) width cells′ row′
+        -- the next patch newly lights the columns that it meets and none before it does
+        pub walk-lit : r .lit ≡ newlyLit eye ray width (map patch (take k order)) (patch (getD order k 0))
+        unfolding newlyLit
+        walk-lit = next .lit-is ∙ rw (inv .long)
+
+        -- once the row is full each of its columns is lit by the patches so far
+        pub full-lit : r .full ≡ true → (i : ℕ) → i < width → unlitAfter eye ray (map patch (take (k + 1) order)) i ≡ false
+        full-lit t i l =
+            ap (λ (ps : List Patch). unlitAfter eye ray ps i) (sym taken)
+            ∙ unlit-next eye ray (map patch (take k order)) (patch (getD order k 0)) i
+            ∙ next .full-says t i (omega (arith, inv .long))
+
+        pub walk-full : r .full ≡ true → RowPainted eye ray (map patch order) width cells′ row′
         walk-full t =
             subst (λ (ps : List Patch). RowPainted eye ray ps width cells′ row′)
             (sym (map-append patch (take (k + 1) order) (drop (k + 1) order)) ∙ ap (map patch) (take-append-drop (k + 1) order))
-            (stays eye ray width (map patch (take (k + 1) order)) (map patch (drop (k + 1) order))
-            (λ i l.
-            ap (λ (ps : List Patch). unlitAfter eye ray ps i) (sym taken)
-            ∙ unlit-next eye ray (map patch (take k order)) (patch (getD order k 0)) i
-            ∙ next .full-says t i (omega (arith, inv .long)))
-            (walk-goes .so-far))
+            (stays eye ray width (map patch (take (k + 1) order)) (map patch (drop (k + 1) order)) (full-lit t) (walk-goes .so-far))

@@ -5,6 +5,7 @@ use mathlib.Core.List.{List, map}
 use Prim.Native.Nat.{ℕ, _≤_, _<_}
 use lib.IntN.{ℤ}
 use lib.ListN.{length, getD}
+use Rattle.model.specs.Lists.{range, tally}
 use Rattle.model.specs.Vector.{Vec}
 use Rattle.model.specs.Patch.{Patch}
 use Rattle.model.specs.Ray.{met}
@@ -15,6 +16,7 @@ use Rattle.format.specs.Layout.{patchNumber}
 use Rattle.checked.specs.Checked.{Checked}
 use Rattle.segments.specs.Columns.{painted}
 use Rattle.rows.specs.Span.{Row}
+use Rattle.rows.specs.declared.Laid.{Laid}
 use Rattle.spans.specs.declared.Span.{Span}
 use Rattle.spans.specs.Span.{covers}
 use Rattle.edges.specs.declared.Sight.{Sight}
@@ -38,9 +40,10 @@ pub record PatchAsked
   pub below : j ≤ 1024
   pub under-work : Row (length cells) row
 
--- what painting row j asks
-pub record RowAsked (bytes : List ℕ) (l : Layout) (s : Sight) (table : List ℤ) (order : List ℕ) (j : ℕ) (cells : List ℕ) : Type 0 where
+-- what painting row j asks: the edge functions of the walk's patches, and a place for what each newly lights
+pub record RowAsked (bytes : List ℕ) (l : Layout) (s : Sight) (table : List ℤ) (order : List ℕ) (j : ℕ) (cells lits : List ℕ) : Type 0 where
   pub drawable : Drawable bytes l s table order
+  pub places : length order ≤ length lits
   pub below : j ≤ 1024
   pub narrow : length cells ≤ 256
 
@@ -54,18 +57,19 @@ abbrev pub walkOf : List ℕ → List ℕ → List Patch
 walkOf bytes order = map (patchNumbered (decode bytes)) order
 
 -- A row whose unlit columns were those of the set `unlit`, with a set of columns painted over: those that were unlit are lit now, and show the panel. Where `full` is
--- true no column is unlit any more; where it is false nothing is said.
+-- true no column is unlit any more; where it is false nothing is said. `lit` is how many columns were newly lit.
 pub record ColumnsPainted
-    (columns : ℕ → Bool) (panel : ℕ) (unlit : ℕ → Bool) (cells row′ cells′ : List ℕ) (full : Bool) : Type 0 where
+    (columns : ℕ → Bool) (panel : ℕ) (unlit : ℕ → Bool) (cells row′ cells′ : List ℕ) (full : Bool) (lit : ℕ) : Type 0 where
   pub row-is : row′ ≡ rowOf (length cells) (λ (i : ℕ). unlit i && not (columns i))
   pub cells-are : cells′ ≡ painted (λ (i : ℕ). unlit i && columns i) panel cells
   pub full-says : full ≡ true → (i : ℕ) → i < length cells → (unlit i && not (columns i)) ≡ false
+  pub lit-is : lit ≡ tally (λ (i : ℕ). unlit i && columns i) (range 0 (length cells))
 
 -- the same, whichever columns the row at entry says were unlit
-pub record ColumnsLaid (columns : ℕ → Bool) (panel : ℕ) (row cells row′ cells′ : List ℕ) (full : Bool) : Type 0 where
-  pub laid : (unlit : ℕ → Bool) → row ≡ rowOf (length cells) unlit → ColumnsPainted columns panel unlit cells row′ cells′ full
+pub record ColumnsLaid (columns : ℕ → Bool) (panel : ℕ) (row cells row′ cells′ : List ℕ) (r : Laid) : Type 0 where
+  pub laid :
+      (unlit : ℕ → Bool) → row ≡ rowOf (length cells) unlit → ColumnsPainted columns panel unlit cells row′ cells′ (r .full) (r .lit)
 
 -- the same for a patch: the columns are those whose rays meet it
-abbrev pub PatchLaid : Vec → (ℕ → Vec) → Patch → List ℕ → List ℕ → List ℕ → List ℕ → Bool → Type 0
-PatchLaid eye ray p row cells row′ cells′ full =
-    ColumnsLaid (λ (i : ℕ). met eye (ray i) p) (p .panel) row cells row′ cells′ full
+abbrev pub PatchLaid : Vec → (ℕ → Vec) → Patch → List ℕ → List ℕ → List ℕ → List ℕ → Laid → Type 0
+PatchLaid eye ray p row cells row′ cells′ r = ColumnsLaid (λ (i : ℕ). met eye (ray i) p) (p .panel) row cells row′ cells′ r

@@ -1,11 +1,13 @@
 -- What a row shows after a walk is painted in it.
 use mathlib.Core.Path.{_≡_}
+use mathlib.Core.Bool.{false, _&&_}
 use mathlib.Core.List.{List, map}
-use Prim.Native.Nat.{ℕ}
-use Rattle.model.specs.Lists.{range}
+use Prim.Native.Nat.{ℕ, _≤_, _<_}
+use lib.ListN.{length, getD, take}
+use Rattle.model.specs.Lists.{range, tally}
 use Rattle.model.specs.Vector.{Vec}
 use Rattle.model.specs.Patch.{Patch}
-use Rattle.model.specs.Ray.{panelOf, firstMet}
+use Rattle.model.specs.Ray.{met, panelOf, firstMet}
 use Rattle.model.specs.Row.{rowOf}
 use Rattle.model.specs.Questions.{unlitAfter}
 
@@ -17,3 +19,16 @@ shownAfter eye ray painted i = panelOf (firstMet eye (ray i) painted)
 pub record RowPainted (eye : Vec) (ray : ℕ → Vec) (walk : List Patch) (width : ℕ) (cells row : List ℕ) : Type 0 where
   pub cells-are : cells ≡ map (shownAfter eye ray walk) (range 0 width)
   pub row-is : row ≡ rowOf width (unlitAfter eye ray walk)
+
+-- how many columns a patch newly lights after some are painted: those whose rays meet it and none of these
+unfoldable pub newlyLit : Vec → (ℕ → Vec) → ℕ → List Patch → Patch → ℕ
+newlyLit eye ray width painted p = tally (λ (i : ℕ). unlitAfter eye ray painted i && met eye (ray i) p) (range 0 width)
+
+-- The first `laid` patches of a walk were laid, and each place of the list holds what the patch there newly lit. Where some were not laid, the row is full
+-- without them: they light nothing. What the list holds from place `laid` on is left free.
+pub record RowLit
+    (eye : Vec) (ray : ℕ → Vec) (patch : ℕ → Patch) (order : List ℕ) (width : ℕ) (lits : List ℕ) (laid : ℕ) : Type 0 where
+  pub most : laid ≤ length order
+  pub each :
+      (k : ℕ) → k < laid → getD lits k 0 ≡ newlyLit eye ray width (map patch (take k order)) (patch (getD order k 0))
+  pub full : laid < length order → (i : ℕ) → i < width → unlitAfter eye ray (map patch (take laid order)) i ≡ false

@@ -2,6 +2,7 @@
 use checked::patch_record;
 use edges::Sight;
 use format::layout::Layout;
+use rows::Laid;
 use spans::Span;
 use spans::row_span;
 ghost use mathlib.Core.Path.{_≡_};
@@ -12,7 +13,7 @@ ghost use Rattle.geometry.specs.Machine.{vecOf};
 ghost use Rattle.geometry.specs.Raster.{rayAt};
 ghost use Rattle.spans.specs.Span.{covers};
 ghost use Rattle.rows.specs.Span.{Row};
-ghost use Rattle.scanline.specs.Shown.{RowPainted};
+ghost use Rattle.scanline.specs.Shown.{RowPainted, RowLit};
 ghost use Rattle.scanline.specs.Laying.{PatchAsked, RowAsked, walkOf, UnlitHull, ColumnsLaid, PatchLaid};
 
 // The columns from the first unlit one on; up to the end of the first segment where the row has no other.
@@ -30,8 +31,8 @@ fn unlit_hull(row: &[u16; 256], width: usize) -> Span
     Span { first, end: width }
 }
 
-// Lays a span on a row, unless it is empty, and says whether the row is full now.
-fn lay_span(span: Span, panel: u16, row: &mut [u16; 256], cells: &mut [u16]) -> bool
+// Lays a span on a row, unless it is empty, and says whether the row is full now and how many cells were newly lit.
+fn lay_span(span: Span, panel: u16, row: &mut [u16; 256], cells: &mut [u16]) -> Laid
     requires { ⌜ (span .end ≤ length (now cells)) × Row (length (now cells)) (now row) ⌝ }
     ensures { λ r. ⌜ ColumnsLaid (covers span) panel (now (row .entry)) (now (cells .entry))
         (now (row .exit)) (now (cells .exit)) r ⌝ }
@@ -39,13 +40,15 @@ fn lay_span(span: Span, panel: u16, row: &mut [u16; 256], cells: &mut [u16]) -> 
     let first = span.first;
     let end = span.end;
     if end <= first {
-        return false;
+        return Laid {
+            full: false,
+            lit: 0,
+        };
     }
-    let laid = rows::lay(row, cells, first as u16, (end - 1) as u16, panel);
-    laid.full
+    rows::lay(row, cells, first as u16, (end - 1) as u16, panel)
 }
 
-// Paints patch k in row j, over the columns that are unlit, and says whether the row is full now. Its span is sought from the
+// Paints patch k in row j, over the columns that are unlit, and says whether the row is full now and how many were. Its span is sought from the
 // first of them on: a column before that shows a patch already. All that the code must know of the rays is in the edge functions: the sight is a parameter for the
 // contract.
 fn lay_patch(
@@ -57,7 +60,7 @@ fn lay_patch(
     j: usize,
     row: &mut [u16; 256],
     cells: &mut [u16],
-) -> bool
+) -> Laid
     requires { ⌜ PatchAsked (now bytes) l sight (now table) k j (now row) (now cells) ⌝ }
     ensures { λ r. ⌜ PatchLaid (vecOf (sight .eye)) (λ (i : ℕ). rayAt (sight .raster) i j) (patchNumbered (decode (now (bytes .entry))) k)
         (now (row .entry)) (now (cells .entry)) (now (row .exit)) (now (cells .exit)) r ⌝ }
@@ -79,7 +82,14 @@ fn clear(cells: &mut [u16])
     }
 }
 
-// Paints row j: its cells, and the unlit segments that it returns. Once it is full the rest of the walk cannot be seen in it.
+// A painted row: its unlit segments, and how many patches of the walk were laid.
+pub struct Painted {
+    pub row: [u16; 256],
+    pub laid: usize,
+}
+
+// Paints row j: its cells, the unlit segments that it returns, and for each patch laid how many cells it newly lit, in its place of the walk. Once the row is full the
+// rest of the walk cannot be seen in it.
 pub fn paint_row(
     bytes: &[u8],
     l: Layout,
@@ -88,20 +98,25 @@ pub fn paint_row(
     table: &[i64],
     j: usize,
     cells: &mut [u16],
-) -> [u16; 256]
-    requires { ⌜ RowAsked (now bytes) l sight (now table) (now order) j (now cells) ⌝ }
-    ensures { λ r. ⌜ RowPainted (vecOf (sight .eye)) (λ (i : ℕ). rayAt (sight .raster) i j) (walkOf (now (bytes .entry)) (now (order .entry)))
-        (length (now (cells .entry))) (now (cells .exit)) r ⌝ }
+    lits: &mut [u16],
+) -> Painted
+    requires { ⌜ RowAsked (now bytes) l sight (now table) (now order) j (now cells) (now lits) ⌝ }
+    ensures painted { λ r. ⌜ RowPainted (vecOf (sight .eye)) (λ (i : ℕ). rayAt (sight .raster) i j) (walkOf (now (bytes .entry)) (now (order .entry)))
+        (length (now (cells .entry))) (now (cells .exit)) (r .row) ⌝ }
+    ensures counted { λ r. ⌜ RowLit (vecOf (sight .eye)) (λ (i : ℕ). rayAt (sight .raster) i j) (patchNumbered (decode (now (bytes .entry)))) (now (order .entry))
+        (length (now (cells .entry))) (now (lits .exit)) (r .laid) ⌝ }
 {
     clear(cells);
     let mut row = rows::fresh(cells.len() as u16);
     let mut k = 0;
     while k < order.len() {
         let n = order[k] as usize;
-        if lay_patch(bytes, l, n, sight, table, j, &mut row, cells) {
-            return row;
-        }
+        let laid = lay_patch(bytes, l, n, sight, table, j, &mut row, cells);
+        lits[k] = laid.lit;
         k += 1;
+        if laid.full {
+            return Painted { row, laid: k };
+        }
     }
-    row
+    Painted { row, laid: k }
 }

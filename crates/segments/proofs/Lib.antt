@@ -1,5 +1,5 @@
 -- `Sets` (the segments of a set of columns), `Rows` (its row), `Cut` (the segments that a span leaves), `Painting` (painted
--- cells), `Numbers` (a row's numbers, pair by pair), `Full` (the row of a set that is empty, and of all columns), `First` (what its first pairs
+-- cells), `Tallies` (how many columns of a set there are), `Numbers` (a row's numbers, pair by pair), `Full` (the row of a set that is empty, and of all columns), `First` (what its first pairs
 -- say of the unlit columns).
 pub mod Tests
 pub mod Segments
@@ -7,6 +7,7 @@ pub mod Sets
 pub mod Rows
 pub mod Cut
 pub mod Painting
+pub mod Tallies
 pub mod Numbers
 pub mod Full
 pub mod First

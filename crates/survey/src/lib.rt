@@ -52,12 +52,13 @@ pub extern "C" fn ring_gate(
     lens: u16,
     picture_len: usize,
     counts_len: usize,
+    patch_counts_len: usize,
     unlit_len: usize,
     counter: u32,
 ) -> u32
     ensures { λ r. ⌜ r ≡ surveyAnswer (gateCall (now (scene .entry)) (viewFrom (vec «eye_x» «eye_y» «eye_z»)
         (cameraBy (axesBy (vec «right_x» «right_y» «right_z») (vec «forward_x» «forward_y» «forward_z») (vec «up_x» «up_y» «up_z»)) width height lens))
-        (lengthsBy «picture_len» «counts_len» «unlit_len») counter) ⌝ }
+        (lengthsBy «picture_len» «counts_len» «patch_counts_len» «unlit_len») counter) ⌝ }
 {
     let eye = vector(eye_x, eye_y, eye_z);
     let axes = axes_by(
@@ -83,6 +84,7 @@ pub extern "C" fn ring_gate(
         camera,
         picture_len,
         counts_len,
+        patch_counts_len,
         unlit_len,
         counter,
     )
@@ -109,13 +111,14 @@ pub extern "C" fn ring_survey(
     lens: u16,
     picture: &mut [u16],
     counts: &mut [u32],
+    patch_counts: &mut [u32],
     unlit: &mut [u16],
     counter: &mut u32,
 ) -> u32
     ensures { λ r. ⌜ Surveyed (now (scene .entry)) (viewFrom (vec «eye_x» «eye_y» «eye_z»)
         (cameraBy (axesBy (vec «right_x» «right_y» «right_z») (vec «forward_x» «forward_y» «forward_z») (vec «up_x» «up_y» «up_z»)) width height lens))
-        (lentOf (now (picture .entry)) (now (counts .entry)) (now (unlit .entry)) (now (counter .entry)))
-        (lentOf (now (picture .exit)) (now (counts .exit)) (now (unlit .exit)) (now (counter .exit))) r ⌝ }
+        (lentOf (now (picture .entry)) (now (counts .entry)) (now («patch_counts» .entry)) (now (unlit .entry)) (now (counter .entry)))
+        (lentOf (now (picture .exit)) (now (counts .exit)) (now («patch_counts» .exit)) (now (unlit .exit)) (now (counter .exit))) r ⌝ }
 {
     let eye = vector(eye_x, eye_y, eye_z);
     let axes = axes_by(
@@ -135,5 +138,14 @@ pub extern "C" fn ring_survey(
         height,
         lens,
     };
-    survey_view(scene, eye, camera, picture, counts, unlit, counter)
+    survey_view(
+        scene,
+        eye,
+        camera,
+        picture,
+        counts,
+        patch_counts,
+        unlit,
+        counter,
+    )
 }

@@ -11,7 +11,7 @@ use Rattle.model.specs.Lent.{Lent, lengthsOf}
 use Rattle.model.specs.Format.{decode, patchTable}
 use Rattle.model.specs.Picture.{counts, countEntries}
 use Rattle.model.specs.Questions.{counterBelowEnd, surveyAnswer}
-use Rattle.model.specs.Survey.{callPicture, callCounts, callUnlit, callCounter}
+use Rattle.model.specs.Survey.{callPicture, callCounts, callPatchCells, callUnlit, callCounter}
 use Rattle.model.proofs.Answers.{AcceptedCall, accepted-call}
 use Rattle.model.proofs.CallLimits.{ViewBounded, view-bounded, AxesBounded, axes-bounded, LengthsRight, lengths-right}
 use Rattle.model.proofs.Pictures.{picture-length, picture-counted}
@@ -51,11 +51,11 @@ module _
       axes : AxesBounded (v .camera .axes)
       axes = axes-bounded (v .camera .axes) (yes .axes)
 
-      fitting : LengthsRight (v .camera) (lengthsOf before)
-      fitting = lengths-right (v .camera) (lengthsOf before) (yes .lengths)
+      fitting : LengthsRight (v .camera) (length (decode bytes .patches)) (lengthsOf before)
+      fitting = lengths-right (v .camera) (length (decode bytes .patches)) (lengthsOf before) (yes .lengths)
 
       -- what painting asks
-      pub paintable : PaintingAsked bytes eye camera (before .picture) (before .unlit)
+      pub paintable : PaintingAsked bytes eye camera (before .picture) (before .unlit) (before .patchCounts)
       paintable =
           record {
             accepted = yes .scene;
@@ -71,13 +71,14 @@ module _
                 };
             framed =
                 record { narrow = view .narrow; low = omega (arith, view .low); cells = fitting .cells; rows = fitting .rows };
+            entries = fitting .booked;
           }
 
       pub counter-rises : before .counter + 1 < 4294967296
       unfolding counterBelowEnd
       counter-rises = let h : before .counter < 4294967295 = ltb→lt (before .counter) 4294967295 (yes .counter) in omega arith
 
-      module _ {cells unlit : List ℕ} (painted : Painted bytes v cells unlit) where
+      module _ {cells unlit booked : List ℕ} (painted : Painted bytes v cells unlit booked) where
         -- what counting asks
         pub countable : Countable cells (before .counts)
         countable =
@@ -94,12 +95,12 @@ module _
             }
 
         -- an accepted call leaves its results
-        pub accepted : {totals : List ℕ} {k : ℕ} → totals ≡ counts cells → k ≡ before .counter + 1 → Surveyed bytes v before (lentOf cells totals unlit k) 0
-        unfolding callPicture callCounts callUnlit callCounter
+        pub accepted : {totals : List ℕ} {k : ℕ} → totals ≡ counts cells → k ≡ before .counter + 1 → Surveyed bytes v before (lentOf cells totals booked unlit k) 0
+        unfolding callPicture callCounts callPatchCells callUnlit callCounter
         accepted {totals} {k} t e =
             record {
               answered = sym done ∙ answer;
               left =
-                  (λ i. lentOf (painted .cells-are i) ((t ∙ ap counts (painted .cells-are)) i) (painted .unlit-are i) (e i))
+                  (λ i. lentOf (painted .cells-are i) ((t ∙ ap counts (painted .cells-are)) i) (painted .booked-are i) (painted .unlit-are i) (e i))
                   ∙ ap (λ (m : ℕ). leftBy m (results (callOn bytes v before)) before) (sym done ∙ answer);
             }

@@ -1,13 +1,20 @@
 -- The call's answer: the scene's, and then the questions on the call, by the general law of the first no.
-use mathlib.Core.Path.{_≡_, sym, _∙_}
+use mathlib.Core.Path.{_≡_, sym, _∙_, ap}
 use mathlib.Core.Bool.{Bool, true, false}
 use mathlib.Core.List.{List}
 use Prim.Native.Nat.{ℕ}
+use lib.ListN.{length}
+use Rattle.model.specs.View.{Camera}
+use Rattle.model.specs.Lent.{Lengths}
+use Rattle.model.specs.Format.{decode}
 use Rattle.model.specs.Call.{Call, callView}
-use Rattle.model.specs.Questions.{sceneAnswer, viewInRange, rowsFit, callQuestions, surveyAnswer}
+use Rattle.model.specs.Questions.{sceneAnswer, viewInRange, lengthsFit, rowsFit, callQuestions, surveyAnswer}
 use Rattle.model.proofs.Tests.{is-true, true-of}
 use Rattle.model.proofs.Answers.{scene-first, call-next}
 use Rattle.model.proofs.FirstNo.{RefusedAt, refused-at, AllYes, no-no}
+use Rattle.format.specs.declared.layout.Layout.{Layout}
+use Rattle.format.specs.Layout.{LaidOut}
+use Rattle.format.proofs.Decoded.{patch-count}
 use Rattle.surveying.proofs.Results.{rows-always-fit}
 
 pub scene-says-no : (c : Call) {n : ℕ} → n ≡ sceneAnswer (c .scene) → (n ≡ 0 → ⊥) → n ≡ surveyAnswer c
@@ -26,8 +33,16 @@ module _ (c : Call) (scene : sceneAnswer (c .scene) ≡ 0) where
 pub scene-yes : (bytes : List ℕ) {n : ℕ} → n ≡ sceneAnswer bytes → n ≡ 0 → sceneAnswer bytes ≡ 0
 scene-yes bytes e z = sym e ∙ z
 
+-- question 11, asked of the patches that the layout has
+pub lengths-said :
+    (a : Camera) (k : Lengths) {bytes : List ℕ} {l : Layout} {r : Bool} →
+    LaidOut bytes l →
+    r ≡ lengthsFit a (l .patches) k →
+    r ≡ lengthsFit a (length (decode bytes .patches)) k
+lengths-said a k laid e = e ∙ ap (λ (n : ℕ). lengthsFit a n k) (sym (patch-count laid))
+
 -- question 13 never says no
 pub rows-yes : (c : Call) → viewInRange (callView c) ≡ true → rowsFit c ≡ true
 rows-yes c e = true-of (rows-always-fit c (is-true e))
 
-pub ruleset asked = (scene-yes, rows-yes)
+pub ruleset asked = (scene-yes, lengths-said, rows-yes)

@@ -5,6 +5,7 @@ use call::lengths_fit;
 use call::view_in_range;
 use camera::Camera;
 use counting::count_cells;
+use format::layout::read_layout;
 use gate::scene_answer;
 use geometry::Vector;
 use rendering::paint;
@@ -20,10 +21,11 @@ pub fn survey_answer(
     camera: Camera,
     picture_len: usize,
     counts_len: usize,
+    patch_counts_len: usize,
     unlit_len: usize,
     counter: u32,
 ) -> u32
-    ensures { λ r. ⌜ r ≡ surveyAnswer (gateCall (now (scene .entry)) (viewOf eye camera) (lengthsBy «picture_len» «counts_len» «unlit_len») counter) ⌝ }
+    ensures { λ r. ⌜ r ≡ surveyAnswer (gateCall (now (scene .entry)) (viewOf eye camera) (lengthsBy «picture_len» «counts_len» «patch_counts_len» «unlit_len») counter) ⌝ }
 {
     let answer = scene_answer(scene);
     if answer != 0 {
@@ -35,7 +37,15 @@ pub fn survey_answer(
     if !axes_proper(camera.axes) {
         return 14;
     }
-    if !lengths_fit(camera, picture_len, counts_len, unlit_len) {
+    let l = read_layout(scene);
+    if !lengths_fit(
+        camera,
+        l.patches,
+        picture_len,
+        counts_len,
+        patch_counts_len,
+        unlit_len,
+    ) {
         return 11;
     }
     if !counter_below_end(counter) {
@@ -51,12 +61,13 @@ pub fn survey_view(
     camera: Camera,
     picture: &mut [u16],
     counts: &mut [u32],
+    patch_counts: &mut [u32],
     unlit: &mut [u16],
     counter: &mut u32,
 ) -> u32
     ensures { λ r. ⌜ Surveyed (now (scene .entry)) (viewOf eye camera)
-        (lentOf (now (picture .entry)) (now (counts .entry)) (now (unlit .entry)) (now (counter .entry)))
-        (lentOf (now (picture .exit)) (now (counts .exit)) (now (unlit .exit)) (now (counter .exit))) r ⌝ }
+        (lentOf (now (picture .entry)) (now (counts .entry)) (now («patch_counts» .entry)) (now (unlit .entry)) (now (counter .entry)))
+        (lentOf (now (picture .exit)) (now (counts .exit)) (now («patch_counts» .exit)) (now (unlit .exit)) (now (counter .exit))) r ⌝ }
 {
     let before = *counter;
     let verdict = survey_answer(
@@ -65,13 +76,14 @@ pub fn survey_view(
         camera,
         picture.len(),
         counts.len(),
+        patch_counts.len(),
         unlit.len(),
         before,
     );
     if verdict != 0 {
         return verdict;
     }
-    paint(scene, eye, camera, picture, unlit);
+    paint(scene, eye, camera, picture, unlit, patch_counts);
     count_cells(picture, counts);
     *counter = before + 1;
     0

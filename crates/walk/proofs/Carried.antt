@@ -8,8 +8,8 @@ use lib.Dec.{T}
 use lib.ListN.{length, take, drop, length-map, take-append-drop}
 use Rattle.model.specs.Vector.{Plane}
 use Rattle.model.specs.Patch.{Patch}
-use Rattle.model.specs.Tree.{Tree, leaf, node, mapTree}
-use Rattle.model.specs.Format.{Run, NodeRecord, PatchRecord, Scene, inRun, patchOf, patchTable, patchNumbered, numberTree, patchTree}
+use Rattle.model.specs.Tree.{Tree, leaf, node}
+use Rattle.model.specs.Format.{Run, NodeRecord, PatchRecord, Scene, inRun, patchOf, patchTable, patchNumbered, numberTree}
 use Rattle.model.specs.Questions.{offOneLine, planesProper, patchRunsFollow, neverFalling, panelsNeverFall}
 use Rattle.model.proofs.Tests.{every-true}
 use Rattle.model.proofs.Ranges.{getD-member, by-number}
@@ -46,41 +46,48 @@ abbrev pub EveryNode : {A : Type 0} → (Plane → List A → Type 0) → Tree A
 EveryNode P leaf = Unit {0}
 EveryNode P (node s own front back) = P s own × EveryNode P front × EveryNode P back
 
-module _ (s : Scene) (runs : T (patchRunsFollow s)) where
-  -- a node of the tree has the patches of its record's run
-  run-patches : (n : NodeRecord) → List·Memᴰ n (s .nodes) → map (patchNumbered s) (run 0 n) ≡ inRun (n .patchRun) (patchTable s)
-  unfolding patchNumbered patchTable patchRunsFollow
-  run-patches n m =
-      by-number (patchTable s) _ (n .patchRun .first) (n .patchRun .count)
-      (rw (length-map (s .patches) (patchOf (s .corners)))
-      (runs-between (length (s .patches)) 0 (map runOf (s .nodes)) runs (n .patchRun) (Memᴰ·map runOf m) .ends))
-    where
-      runOf : NodeRecord → Run
-      runOf n = n .patchRun
-
-  module _ (P : Plane → List Patch → Type 0) (each : (n : NodeRecord) → List·Memᴰ n (s .nodes) → P (n .plane) (inRun (n .patchRun) (patchTable s))) where
-    In : Tree ℕ → Type 0
-    In t = EveryNode P (mapTree (patchNumbered s) t)
-
-    below : (depth k : ℕ) → In (treeOf run depth (s .nodes) k)
-    unfolding In mapTree treeOf
+-- what holds of each node record holds of each node of the tree
+module _
+    (s : Scene) (P : Plane → List ℕ → Type 0)
+    (each : (n : NodeRecord) → List·Memᴰ n (s .nodes) → P (n .plane) (run 0 n))
+  where
+    below : (depth k : ℕ) → EveryNode P (treeOf run depth (s .nodes) k)
+    unfolding treeOf
     below zero k = tt
     below (suc depth) k = go (decLt k (length (s .nodes))) (below depth (n .positive)) (below depth (n .negative))
       where
         n : NodeRecord
         n = nodeNumbered (s .nodes) k
 
-        go : Dec (k < length (s .nodes)) →
-            In (treeOf run depth (s .nodes) (n .positive)) → In (treeOf run depth (s .nodes) (n .negative)) →
-            In (treeOf run (suc depth) (s .nodes) k)
+        go :
+            Dec (k < length (s .nodes)) →
+            EveryNode P (treeOf run depth (s .nodes) (n .positive)) →
+            EveryNode P (treeOf run depth (s .nodes) (n .negative)) →
+            EveryNode P (treeOf run (suc depth) (s .nodes) k)
         go (yes h) front back =
-            let m : List·Memᴰ n (s .nodes) = getD-member (s .nodes) k _ h in
-            subst In (sym (tree-node run (s .nodes) depth k h)) (rw (run-patches n m) (each n m), front, back)
-        go (no h) front back = subst In (sym (tree-leaf run (s .nodes) (suc depth) k (omega arith))) tt
+            subst (EveryNode P) (sym (tree-node run (s .nodes) depth k h))
+            (each n (getD-member (s .nodes) k _ h), front, back)
+        go (no h) front back = subst (EveryNode P) (sym (tree-leaf run (s .nodes) (suc depth) k (omega arith))) tt
 
-    pub carried : EveryNode P (patchTree s)
-    unfolding patchTree numberTree In
+    pub carried : EveryNode P (numberTree s)
+    unfolding numberTree
     carried = rw treeAt-is (below (length (s .nodes)) 0)
+
+-- a node has the patches of its record's run
+pub run-patches :
+    (s : Scene) →
+    T (patchRunsFollow s) →
+    (n : NodeRecord) →
+    List·Memᴰ n (s .nodes) →
+    map (patchNumbered s) (run 0 n) ≡ inRun (n .patchRun) (patchTable s)
+unfolding patchNumbered patchTable patchRunsFollow
+run-patches s runs n m =
+    by-number (patchTable s) _ (n .patchRun .first) (n .patchRun .count)
+    (rw (length-map (s .patches) (patchOf (s .corners)))
+    (runs-between (length (s .patches)) 0 (map runOf (s .nodes)) runs (n .patchRun) (Memᴰ·map runOf m) .ends))
+  where
+    runOf : NodeRecord → Run
+    runOf n = n .patchRun
 
 -- ---- the tests
 

@@ -1,6 +1,4 @@
 -- The tree that a scene's nodes spell holds just the scene's patches.
-mod Totals
-mod Counting
 mod Sums
 mod Runs
 pub mod Whole
@@ -9,3 +7,4 @@ mod Writes
 mod NearSide
 mod Descents
 pub mod Seen
+pub mod Numbered

@@ -10,7 +10,7 @@ use Rattle.model.specs.Format.{Run}
 use Rattle.model.specs.Questions.{runsFollow}
 use Rattle.model.proofs.Ranges.{range-append}
 use Rattle.model.proofs.Runs.{first-follows}
-use Rattle.walk.proofs.Totals.{total, tally-append}
+use Rattle.model.proofs.Totals.{total, tally-append}
 
 one-more :
     (test : ℕ → Bool) (first start count n sum : ℕ) →

@@ -6,20 +6,22 @@ use Prim.Native.Nat.{ℕ, _/_, _%_, _≤_}
 use native.Mathlib.Omega.{arith}
 use lib.Dec.{T, eqb, leb, leb→le}
 use lib.ListN.{length, length-map}
-use Rattle.model.specs.Vector.{Vec}
+use Rattle.model.specs.Lists.{range}
+use Rattle.model.specs.Vector.{Vec, Plane}
 use Rattle.model.specs.Patch.{Patch}
 use Rattle.model.specs.Ray.{panelOf, closest, firstMet}
-use Rattle.model.specs.Tree.{Tree, leaf, node, contents, order, divides}
-use Rattle.model.specs.Format.{Header, NodeRecord, Scene, headerOf, headerSize, nodeSize, patchSize, cornerSize, mostNodes, mostPatches, mostCorners, recordsOf, decode, noChild, inRun, patchTable, patchNumbered, numberTree, patchTree}
+use Rattle.model.specs.Tree.{Tree, leaf, node, contents, mapTree, order, divides}
+use Rattle.model.specs.Format.{Header, NodeRecord, Scene, headerOf, headerSize, nodeSize, patchSize, cornerSize, mostNodes, mostPatches, mostCorners, recordsOf, decode, noChild, patchTable, patchNumbered, numberTree, patchTree}
 use Rattle.model.specs.Questions.{sectionEnd, isSection, hasSections, planesProper, childrenProper, patchRunsFollow, cornerRunsFollow, runsProper, panelsInRange, panelsNeverFall, panelsProper, patchesProper, planesDivide}
 use Rattle.model.proofs.Tests.{both}
 use Rattle.model.proofs.Ranges.{range-length}
 use Rattle.model.specs.Accepted.{AcceptedScene}
 use Rattle.model.proofs.Closest.{closest-members}
 use Rattle.model.proofs.Visibility.{ProperNode, ProperTree, visible-panel}
-use Rattle.walk.proofs.Whole.{order-map, patch-members}
+use Rattle.walk.proofs.Whole.{order-map, table-by-number, number-members}
+use Rattle.checked.proofs.Subtrees.{run, contents-map}
 use Rattle.checked.proofs.Patches.{table-proper}
-use Rattle.walk.proofs.Carried.{EveryNode, carried, plane-proper, panels-rise, part-member}
+use Rattle.walk.proofs.Carried.{EveryNode, carried, run-patches, plane-proper, panels-rise, part-member}
 
 -- questions 4 to 9, of a scene with so few nodes that 65,535 is no node's number (question 2)
 pub record ProperScene (s : Scene) : Type 0 where
@@ -31,39 +33,52 @@ pub record ProperScene (s : Scene) : Type 0 where
   pub patches : T (patchesProper s)
   pub divided : T (planesDivide s)
 
+-- a node of numbers, with a patch in place of each
+abbrev Filled : (ℕ → Patch) → Plane → List ℕ → Type 0
+Filled f p own = ProperNode p (map f own)
+
+everywhere : (f : ℕ → Patch) (t : Tree ℕ) → EveryNode (Filled f) t → ProperTree (mapTree f t)
+unfolding mapTree
+everywhere f leaf u = u
+everywhere f (node p own front back) u = (u .0, everywhere f front (u .1), everywhere f back (u .2))
+
 module _ (s : Scene) (h : ProperScene s) where
-  patch-runs : T (patchRunsFollow s)
+  pub patch-runs : T (patchRunsFollow s)
   unfolding runsProper
   patch-runs = both (patchRunsFollow s) (cornerRunsFollow s) .0 (h .runs) .0
 
-  node-proper : (n : NodeRecord) → List·Memᴰ n (s .nodes) → ProperNode (n .plane) (inRun (n .patchRun) (patchTable s))
+  pub node-proper : (n : NodeRecord) → List·Memᴰ n (s .nodes) → ProperNode (n .plane) (map (patchNumbered s) (run 0 n))
   unfolding panelsProper
   node-proper n m =
-      record {
+      rw (run-patches s patch-runs n m)
+      (record {
         offLine = plane-proper s (h .planes) n m;
         panelsRise = panels-rise s (both (panelsInRange s) (panelsNeverFall s) .0 (h .panels) .1) n m;
         proper = λ p k. table-proper s (h .runs) (h .patches) p (part-member (n .patchRun) (patchTable s) k);
-      }
+      })
 
-  pub proper-tree : ProperTree (patchTree s)
-  proper-tree = everywhere (patchTree s) (carried s patch-runs ProperNode node-proper)
-    where
-      everywhere : (t : Tree Patch) → EveryNode ProperNode t → ProperTree t
-      everywhere leaf u = u
-      everywhere (node p own front back) u = (u .0, everywhere front (u .1), everywhere back (u .2))
+  -- any patches in place of the tree's numbers, if they are proper and divided as those of the scene
+  pub walk-closest :
+      (f : ℕ → Patch) →
+      ((n : NodeRecord) → List·Memᴰ n (s .nodes) → ProperNode (n .plane) (map f (run 0 n))) →
+      T (divides (mapTree f (numberTree s))) →
+      (eye d : Vec) →
+      panelOf (firstMet eye d (map f (order eye (numberTree s)))) ≡ closest eye d (map f (range 0 (length (s .patches))))
+  walk-closest f proper divided eye d =
+      ap (λ (l : List Patch). panelOf (firstMet eye d l)) (sym (order-map f eye (numberTree s)))
+      ∙ visible-panel eye d (mapTree f (numberTree s)) (everywhere f (numberTree s) (carried s (Filled f) proper)) divided
+      ∙ ap (closest eye d) (contents-map f (numberTree s))
+      ∙ closest-members eye d (map f (contents (numberTree s))) (map f (range 0 (length (s .patches))))
+      (λ p m. number-members s (h .few-nodes) (h .children) patch-runs f p .0 m)
+      (λ p m. number-members s (h .few-nodes) (h .children) patch-runs f p .1 m)
 
-  pub divided-tree : T (divides (patchTree s))
-  unfolding planesDivide
+  pub divided-tree : T (divides (mapTree (patchNumbered s) (numberTree s)))
+  unfolding planesDivide patchTree
   divided-tree = h .divided
 
   pub first-met-closest : (eye d : Vec) → panelOf (firstMet eye d (map (patchNumbered s) (order eye (numberTree s)))) ≡ closest eye d (patchTable s)
-  unfolding patchTree
   first-met-closest eye d =
-      ap (λ (l : List Patch). panelOf (firstMet eye d l)) (sym (order-map (patchNumbered s) eye (numberTree s)))
-      ∙ visible-panel eye d (patchTree s) proper-tree divided-tree
-      ∙ closest-members eye d (contents (patchTree s)) (patchTable s)
-      (λ p m. patch-members s (h .few-nodes) (h .children) patch-runs p .0 m)
-      (λ p m. patch-members s (h .few-nodes) (h .children) patch-runs p .1 m)
+      walk-closest (patchNumbered s) node-proper divided-tree eye d ∙ ap (closest eye d) (table-by-number s)
 
 -- ---- the same of bytes that passed questions 1 to 9
 

@@ -1,20 +1,34 @@
 -- Sums over the nodes of a tree: what each node passes on to its parent is at node 0 the sum over all nodes.
-use mathlib.Core.Path.{_≡_, refl}
+use mathlib.Core.Path.{_≡_, refl, sym, _∙_}
 use mathlib.Core.Bool.{Bool}
 use mathlib.Core.List.{List, [], _∷_, List·Memᴰ, List·Memᴰ·not-nil}
 use Prim.Native.Nat.{ℕ, suc, _+_, _≤_, _<_}
-use native.Mathlib.Nat.{zero-add, add-zero, add-suc, suc-add}
+use native.Mathlib.Nat.{zero-add, add-zero, add-suc, suc-add, one-mul}
 use native.Mathlib.Omega.{arith}
+use lib.Dec.{eqb}
 use lib.ListN.{length}
-use Rattle.model.specs.Lists.{range, tally}
+use Rattle.model.specs.Lists.{range, tally, occurrences}
 use Rattle.model.specs.Tree.{contents}
 use Rattle.model.specs.Format.{NodeRecord}
 use Rattle.model.specs.Questions.{children}
 use Rattle.model.proofs.Tests.{of-cons}
+use Rattle.model.proofs.Ranges.{in-range}
+use Rattle.model.proofs.Totals.{total, total-cong, total-swap, tally-append, only, total-same, picked}
 use Rattle.checked.proofs.Rooted.{nodeNumbered, Rooted}
 use Rattle.checked.proofs.Subtrees.{subtree, tree-leaf, subtree-node}
-use Rattle.walk.proofs.Totals.{total, tally-append}
-use Rattle.walk.proofs.Counting.{each-once}
+
+-- a sum over a list in which each number of a range stands once, and what else it has counts nothing
+each-once :
+    (f : ℕ → ℕ) (l : List ℕ) (a n : ℕ) →
+    ((c : ℕ) → List·Memᴰ c l → (a ≤ c) × (a + n ≤ c → f c ≡ 0)) →
+    ((j : ℕ) → a ≤ j → j < a + n → occurrences j l ≡ 1) →
+    total f l ≡ total f (range a n)
+each-once f l a n inside once =
+    total-cong f (λ (c : ℕ). total (λ (j : ℕ). only (eqb c j) (f j)) (range a n)) l
+    (λ c m. sym (picked f c a n (inside c m .0) (inside c m .1)))
+    ∙ total-swap (λ (c j : ℕ). only (eqb c j) (f j)) l (range a n)
+    ∙ total-cong (λ (j : ℕ). total (λ (c : ℕ). only (eqb c j) (f j)) l) f (range a n)
+    (λ j m. total-same (λ (c : ℕ). eqb c j) (f j) l ∙ rw (once j (in-range a n j .0 m .0) (in-range a n j .0 m .1), one-mul))
 
 -- each node's own and what its children add up to
 with-children :

@@ -18,7 +18,7 @@ use Rattle.model.specs.Format.{NodeRecord, Scene, noChild, patchTable, patchNum
 use Rattle.model.specs.Questions.{childrenProper, patchRunsFollow}
 use Rattle.model.specs.Removal.{samePatch, timesListed}
 use Rattle.model.proofs.Tests.{tally-some}
-use Rattle.walk.proofs.Totals.{total, total-map, tally-append, tally-map, tally-all}
+use Rattle.model.proofs.Totals.{total, total-map, tally-append, tally-map, tally-all}
 use Rattle.model.proofs.Ranges.{range-length, in-range, all-by-number}
 use Rattle.checked.proofs.Rooted.{nodeNumbered, rooted}
 use Rattle.checked.proofs.Subtrees.{run, treeAt-is, contents-map}
@@ -65,7 +65,7 @@ same-members l l′ h k m =
 
 -- ---- the scene
 
-table-by-number : (s : Scene) → map (patchNumbered s) (range 0 (length (s .patches))) ≡ patchTable s
+pub table-by-number : (s : Scene) → map (patchNumbered s) (range 0 (length (s .patches))) ≡ patchTable s
 unfolding patchNumbered patchTable
 table-by-number s =
     ap (λ (n : ℕ). map (patchNumbered s) (range 0 n)) (sym (length-map (s .patches) (patchOf (s .corners))))
@@ -119,20 +119,20 @@ module _ (s : Scene) (most : length (s .nodes) ≤ noChild) (fifth : T (children
   unfolding timesListed
   patches-listed p = patch-tally (samePatch p)
 
-  pub patch-members : (p : Patch) → List·Memᴰ p (contents (patchTree s)) ↔ List·Memᴰ p (patchTable s)
-  unfolding patchTree
-  patch-members p = (
-    λ m. rw table-by-number at (renumbered (contents (numberTree s)) (range 0 (length (s .patches))) numbers-once (rw contents-map at m)),
-    λ m. rw contents-map
-        (renumbered (range 0 (length (s .patches))) (contents (numberTree s)) (λ k. sym (numbers-once k))
-        (rw (← table-by-number s) at m)),
+  -- tree and table have the same members, whatever stands in place of the numbers
+  pub number-members :
+      {A : Type 0} (f : ℕ → A) (a : A) →
+      List·Memᴰ a (map f (contents (numberTree s))) ↔ List·Memᴰ a (map f (range 0 (length (s .patches))))
+  number-members f a = (
+    renumbered (contents (numberTree s)) (range 0 (length (s .patches))) numbers-once,
+    renumbered (range 0 (length (s .patches))) (contents (numberTree s)) (λ k. sym (numbers-once k)),
   )
     where
       renumbered :
           (l l′ : List ℕ) →
           ((k : ℕ) → occurrences k l ≡ occurrences k l′) →
-          List·Memᴰ p (map (patchNumbered s) l) →
-          List·Memᴰ p (map (patchNumbered s) l′)
+          List·Memᴰ a (map f l) →
+          List·Memᴰ a (map f l′)
       renumbered l l′ h m =
-          let found = Memᴰ·of-map (patchNumbered s) l m in
-          Memᴰ·cast (sym (found .2)) (Memᴰ·map (patchNumbered s) (same-members l l′ h (found .0) (found .1)))
+          let found = Memᴰ·of-map f l m in
+          Memᴰ·cast (sym (found .2)) (Memᴰ·map f (same-members l l′ h (found .0) (found .1)))

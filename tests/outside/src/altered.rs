@@ -1,7 +1,7 @@
 //! Stored cases altered in one place: each must be unreadable or differ.
 
 use crate::block::{Block, Reading};
-use crate::cases::{files, trial, trials};
+use crate::cases::{files, trial, trials, File};
 use crate::compare::check_due;
 use crate::random::Random;
 use crate::survey::Due;
@@ -12,6 +12,7 @@ const DUE: &[&str] = &[
     "answer",
     "picture_row",
     "counts",
+    "patch_counts",
     "unlit_row",
     "counter_after",
 ];
@@ -22,14 +23,14 @@ fn key(line: &str) -> &str {
     line.split(' ').next().unwrap_or("")
 }
 
-fn read(lines: &Lines) -> Reading<Trial> {
+fn read(lines: &Lines, request: u32) -> Reading<Trial> {
     let text = lines.join("\n");
-    trial(Block::of(&text, 1)?)
+    trial(Block::of(&text, 1)?, request)
 }
 
 /// Is the block unreadable, or does it disagree with what was due before?
-fn is_seen(lines: &Lines, due: &Due, rng: &mut Random) -> bool {
-    match read(lines) {
+fn is_seen(lines: &Lines, request: u32, due: &Due, rng: &mut Random) -> bool {
+    match read(lines, request) {
         Err(_) => true,
         Ok(other) => {
             let outcome = check_due(due, &other.call, &other.due, rng);
@@ -38,10 +39,14 @@ fn is_seen(lines: &Lines, due: &Due, rng: &mut Random) -> bool {
     }
 }
 
-/// The line with one digit behind its key changed.
+/// The line with one digit behind its key changed; a table without entries has
+/// none, and gets one.
 fn renumbered(line: &str, rng: &mut Random) -> String {
     let is_digit = |at: &usize| line.as_bytes()[*at].is_ascii_digit();
     let digits: Vec<usize> = (key(line).len()..line.len()).filter(is_digit).collect();
+    if digits.is_empty() {
+        return format!("{line} 0");
+    }
     let at = rng.pick(&digits);
     let other = (line.as_bytes()[at] - b'0' + 1 + rng.below(9) as u8) % 10;
     format!("{}{other}{}", &line[..at], &line[at + 1..])
@@ -70,13 +75,13 @@ fn alterations(lines: &Lines, rng: &mut Random) -> Vec<Lines> {
 /// were seen and how many were not.
 pub fn every_line() -> Reading<(usize, usize)> {
     let (mut seen, mut missed) = (0, 0);
-    for (name, text) in files()? {
+    for (File { name, request, .. }, text) in files()? {
         let mut rng = Random::new(1, text.len() as u64);
         for part in text.trim_end().split("\n\n").skip(1) {
             let lines: Lines = part.lines().map(str::to_string).collect();
-            let due = read(&lines)?.due;
+            let due = read(&lines, *request)?.due;
             for altered in alterations(&lines, &mut rng) {
-                if is_seen(&altered, &due, &mut rng) {
+                if is_seen(&altered, *request, &due, &mut rng) {
                     seen += 1;
                 } else {
                     missed += 1;
@@ -91,7 +96,7 @@ pub fn every_line() -> Reading<(usize, usize)> {
 /// A file that does not say what it is, or with its blocks out of order, is
 /// refused.
 pub fn files_are_refused() -> Reading<bool> {
-    let (_, text) = files()?.swap_remove(0);
+    let (File { request, .. }, text) = files()?.swap_remove(0);
     let second = text.split("\n\n").nth(2).unwrap_or("");
     let broken = [
         text.replacen("# ", "", 1),
@@ -100,5 +105,6 @@ pub fn files_are_refused() -> Reading<bool> {
         format!("{text}\n# said too late\n"),
         format!("# a file\n\n{second}\n"),
     ];
-    Ok(broken.iter().all(|text| trials(text).is_err()))
+    let is_refused = |text: &String| trials(text, *request).is_err();
+    Ok(broken.iter().all(is_refused))
 }

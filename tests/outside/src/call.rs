@@ -2,6 +2,7 @@
 
 use crate::axes::Axes;
 use crate::random::Random;
+use crate::scene::patches_told;
 use crate::vector::Point;
 
 pub const COUNTS: usize = 1_025;
@@ -30,6 +31,7 @@ pub struct Call {
     pub view: View,
     pub picture_len: usize,
     pub counts_len: usize,
+    pub patch_counts_len: usize,
     pub unlit_len: usize,
     pub counter: u32,
 }
@@ -38,6 +40,7 @@ impl Call {
     /// A call with the lengths of question 11.
     pub fn new(scene: Vec<u8>, view: View) -> Call {
         Call {
+            patch_counts_len: patches_told(&scene),
             scene: scene.into_boxed_slice(),
             view,
             picture_len: view.cells(),
@@ -68,6 +71,7 @@ impl Call {
 pub struct Lent {
     pub picture: Box<[u16]>,
     pub counts: Box<[u32]>,
+    pub patch_counts: Box<[u32]>,
     pub unlit: Box<[u16]>,
     pub counter: u32,
 }
@@ -82,6 +86,9 @@ impl Lent {
                 .map(|_| (rng.next() & mask) as u16)
                 .collect(),
             counts: (0..call.counts_len)
+                .map(|_| (rng.next() & mask) as u32)
+                .collect(),
+            patch_counts: (0..call.patch_counts_len)
                 .map(|_| (rng.next() & mask) as u32)
                 .collect(),
             unlit: (0..call.unlit_len)

@@ -7,19 +7,38 @@ use std::path::PathBuf;
 use crate::axes::Axes;
 use crate::block::{blocks, Block, Reading};
 use crate::call::{Call, View, COUNTS, ROW};
-use crate::survey::{Done, Due};
+use crate::scene::patches_told;
+use crate::survey::{survey, Done, Due};
 use crate::trial::Trial;
 
-/// The files, and how many blocks each has: a file cut short is seen, and so is
-/// one that nobody reads.
-const FILES: &[(&str, usize)] = &[("F-1.txt", 187)];
+/// A file, and how many blocks it has: one cut short is seen, and so is one
+/// that nobody reads.
+pub struct File {
+    pub name: &'static str,
+    blocks: usize,
+    /// "Each file takes its own request and all before it as in force."
+    pub request: u32,
+}
+
+const fn file(name: &'static str, blocks: usize, request: u32) -> File {
+    File {
+        name,
+        blocks,
+        request,
+    }
+}
+
+const FILES: &[File] = &[file("F-1.txt", 187, 1), file("F-2.txt", 187, 2)];
+
+/// The request that brought the patch table.
+const PATCH_TABLE: u32 = 2;
 
 fn folder() -> PathBuf {
     PathBuf::from(env!("CARGO_MANIFEST_DIR")).join("../cases")
 }
 
-/// Each file's name and text.
-pub fn files() -> Reading<Vec<(&'static str, String)>> {
+/// Each file and its text.
+pub fn files() -> Reading<Vec<(&'static File, String)>> {
     let told = |error: std::io::Error| format!("the stored cases: {error}");
     let names = fs::read_dir(folder()).map_err(told)?.flatten();
     let is_text = |name: &PathBuf| name.extension().is_some_and(|end| end == "txt");
@@ -27,9 +46,10 @@ pub fn files() -> Reading<Vec<(&'static str, String)>> {
     if there != FILES.len() {
         return Err(format!("{there} files are stored, {} known", FILES.len()));
     }
-    let read = |&(name, _): &(&'static str, usize)| {
-        let text = fs::read_to_string(folder().join(name));
-        Ok((name, text.map_err(|error| format!("{name}: {error}"))?))
+    let read = |file: &'static File| {
+        let text = fs::read_to_string(folder().join(file.name));
+        let told = |error| format!("{}: {error}", file.name);
+        Ok((file, text.map_err(told)?))
     };
     FILES.iter().map(read).collect()
 }
@@ -37,24 +57,36 @@ pub fn files() -> Reading<Vec<(&'static str, String)>> {
 /// Each file's name and cases, every block read to its last line.
 pub fn stored() -> Reading<Vec<(&'static str, Vec<Trial>)>> {
     let mut all = Vec::new();
-    for ((name, text), (_, wanted)) in files()?.into_iter().zip(FILES) {
-        let trials = trials(&text).map_err(|why| format!("{name}, {why}"))?;
-        if trials.len() != *wanted {
-            return Err(format!("{name} has {} blocks, not {wanted}", trials.len()));
+    for (file, text) in files()? {
+        let File { name, blocks, .. } = file;
+        let mut trials = trials(&text, file.request).map_err(|why| format!("{name}, {why}"))?;
+        if trials.len() != *blocks {
+            return Err(format!("{name} has {} blocks, not {blocks}", trials.len()));
         }
-        all.push((name, trials));
+        if file.request < PATCH_TABLE {
+            trials.iter_mut().for_each(complete);
+        }
+        all.push((*name, trials));
     }
     Ok(all)
 }
 
-pub fn trials(text: &str) -> Reading<Vec<Trial>> {
-    blocks(text)?.into_iter().map(trial).collect()
+/// A file that knows of no patch table leaves its numbers to the model.
+fn complete(trial: &mut Trial) {
+    if let (Ok(due), Ok(own)) = (&mut trial.due.result, survey(&trial.call)) {
+        due.patch_counts = own.patch_counts;
+    }
 }
 
-/// What a block says, by its kind.
-pub fn trial(mut block: Block) -> Reading<Trial> {
+pub fn trials(text: &str, request: u32) -> Reading<Vec<Trial>> {
+    let read = |block| trial(block, request);
+    blocks(text)?.into_iter().map(read).collect()
+}
+
+/// What a block says, by its kind and by the request in force.
+pub fn trial(mut block: Block, request: u32) -> Reading<Trial> {
     let trial = match block.kind {
-        "case" => survey_call(&mut block)?,
+        "case" => survey_call(&mut block, request)?,
         kind => return Err(block.wrong(&format!("no such kind: {kind}"))),
     };
     block.end()?;
@@ -62,22 +94,25 @@ pub fn trial(mut block: Block) -> Reading<Trial> {
 }
 
 /// "`case`: one survey call".
-fn survey_call(block: &mut Block) -> Reading<Trial> {
+fn survey_call(block: &mut Block, request: u32) -> Reading<Trial> {
     let about = block.text("about")?;
     let scene = block.bytes("scene")?;
-    let view = view(block)?;
     let call = Call {
-        scene: scene.into_boxed_slice(),
-        view,
+        view: view(block)?,
         picture_len: block.number("picture_len")?,
         counts_len: block.number("counts_len")?,
+        patch_counts_len: match request < PATCH_TABLE {
+            true => patches_told(&scene),
+            false => block.number("patch_counts_len")?,
+        },
         unlit_len: block.number("unlit_len")?,
         counter: block.number("counter")?,
+        scene: scene.into_boxed_slice(),
     };
     Ok(Trial {
         name: format!("{} {} ({about})", block.kind, block.number),
+        due: due(block, &call, request)?,
         call,
-        due: due(block, &view)?,
     })
 }
 
@@ -99,9 +134,9 @@ fn view(block: &mut Block) -> Reading<View> {
 }
 
 /// "Where the answer is not 0 only `counter_after` follows".
-fn due(block: &mut Block, view: &View) -> Reading<Due> {
+fn due(block: &mut Block, call: &Call, request: u32) -> Reading<Due> {
     let result = match block.number("answer")? {
-        0 => Ok(done(block, view)?),
+        0 => Ok(done(block, call, request)?),
         number => Err(number),
     };
     Ok(Due {
@@ -110,19 +145,24 @@ fn due(block: &mut Block, view: &View) -> Reading<Due> {
     })
 }
 
-fn done(block: &mut Block, view: &View) -> Reading<Done> {
-    let rows = || 0..usize::from(view.height);
+fn done(block: &mut Block, call: &Call, request: u32) -> Reading<Done> {
+    let rows = || 0..usize::from(call.view.height);
     let (mut picture, mut unlit) = (Vec::new(), Vec::new());
     for j in rows() {
-        picture.extend(picture_row(block, j, view.width)?);
+        picture.extend(picture_row(block, j, call.view.width)?);
     }
     let counts = counts(block)?;
+    let patch_counts = match request < PATCH_TABLE {
+        true => vec![0; call.patch_counts_len],
+        false => patch_counts(block, call.patch_counts_len)?,
+    };
     for j in rows() {
         unlit.extend(unlit_row(block, j)?);
     }
     Ok(Done {
         picture,
         counts,
+        patch_counts,
         unlit,
     })
 }
@@ -151,6 +191,15 @@ fn counts(block: &mut Block) -> Reading<Vec<u32>> {
         }
     }
     Ok(counts)
+}
+
+/// "all entries".
+fn patch_counts(block: &mut Block, length: usize) -> Reading<Vec<u32>> {
+    let words = block.words("patch_counts")?;
+    if words.len() != length {
+        return Err(block.wrong("not as many entries as the table has"));
+    }
+    words.into_iter().map(|word| block.value(word)).collect()
 }
 
 /// "row j's used pairs `offset:length`; the rest of the row is 0".

@@ -4,7 +4,8 @@ use crate::call::{Call, Lent, Library};
 use crate::gate::Gate;
 use crate::pairs::{parts, Pair};
 use crate::random::Random;
-use crate::survey::Due;
+use crate::scene::Scene;
+use crate::survey::{Done, Due};
 
 #[derive(Clone, Copy, Debug, PartialEq, Eq, PartialOrd, Ord)]
 pub enum Difference {
@@ -14,11 +15,15 @@ pub enum Difference {
     Gate,
     Picture,
     Counts,
+    PatchCounts,
     Unlit,
     Counter,
+    /// "A panel's count is the sum over its patches."
+    PanelSums,
     /// A refusal, or a scene, was not left as it was.
     TouchedPicture,
     TouchedCounts,
+    TouchedPatchCounts,
     TouchedUnlit,
     TouchedCounter,
     TouchedScene,
@@ -48,7 +53,11 @@ fn note(differences: &mut Vec<Difference>, differs: bool, which: Difference) {
 
 /// Survey and gate on one call, against what the model makes of it.
 pub fn check(library: &dyn Library, call: &Call, rng: &mut Random) -> Outcome {
-    check_due(library, call, &Due::of(call), rng)
+    let mut outcome = check_due(library, call, &Due::of(call), rng);
+    let accepted = outcome.number == 0;
+    let broken = accepted && !panel_sums_hold(call, &outcome.lent);
+    note(&mut outcome.differences, broken, PanelSums);
+    outcome
 }
 
 /// Survey and gate on one call, the buffers full of noise before.
@@ -66,15 +75,11 @@ pub fn check_due(library: &dyn Library, call: &Call, due: &Due, rng: &mut Random
     note(&mut found, asked.scene != call.scene, TouchedScene);
     match &due.result {
         Ok(done) => {
-            note(&mut found, *lent.picture != *done.picture, Picture);
-            note(&mut found, *lent.counts != *done.counts, Counts);
-            note(&mut found, *lent.unlit != *done.unlit, Unlit);
+            found.extend(miswritten(&lent, done));
             note(&mut found, lent.counter != due.counter, Counter);
         }
         Err(_) => {
-            note(&mut found, lent.picture != before.picture, TouchedPicture);
-            note(&mut found, lent.counts != before.counts, TouchedCounts);
-            note(&mut found, lent.unlit != before.unlit, TouchedUnlit);
+            found.extend(touched(&lent, &before));
             note(&mut found, lent.counter != due.counter, TouchedCounter);
         }
     }
@@ -83,6 +88,40 @@ pub fn check_due(library: &dyn Library, call: &Call, due: &Due, rng: &mut Random
         lent,
         differences: found,
     }
+}
+
+/// What a call that was accepted did not leave as is due.
+fn miswritten(lent: &Lent, done: &Done) -> Vec<Difference> {
+    let mut found = Vec::new();
+    let patch_counts = &*lent.patch_counts;
+    note(&mut found, *lent.picture != *done.picture, Picture);
+    note(&mut found, *lent.counts != *done.counts, Counts);
+    note(&mut found, *patch_counts != *done.patch_counts, PatchCounts);
+    note(&mut found, *lent.unlit != *done.unlit, Unlit);
+    found
+}
+
+/// "The first no gives its number, and nothing lent is altered."
+fn touched(lent: &Lent, before: &Lent) -> Vec<Difference> {
+    let mut found = Vec::new();
+    let booked = lent.patch_counts != before.patch_counts;
+    note(&mut found, lent.picture != before.picture, TouchedPicture);
+    note(&mut found, lent.counts != before.counts, TouchedCounts);
+    note(&mut found, booked, TouchedPatchCounts);
+    note(&mut found, lent.unlit != before.unlit, TouchedUnlit);
+    found
+}
+
+/// Of what an accepted call left: each panel's count is the sum over its
+/// patches, whichever cells they have.
+pub fn panel_sums_hold(call: &Call, lent: &Lent) -> bool {
+    let mut sums = vec![0u64; lent.counts.len()];
+    let records = Scene::read(&call.scene).records;
+    for (record, &cells) in records.iter().zip(&lent.patch_counts) {
+        sums[usize::from(record.panel)] += u64::from(cells);
+    }
+    let counts = lent.counts.iter().map(|&cells| u64::from(cells));
+    sums.into_iter().skip(1).eq(counts.skip(1))
 }
 
 /// The gate alone, for lengths that nobody can lend.

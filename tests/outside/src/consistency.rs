@@ -2,16 +2,17 @@
 
 use crate::axes::LEVEL;
 use crate::call::{Call, Lent, View};
-use crate::compare::check_pair;
+use crate::compare::{check_pair, panel_sums_hold};
 use crate::fault::Faulty;
 use crate::gate::patch_normal;
 use crate::pairs::{parts, Pair};
 use crate::random::Random;
-use crate::ray::{closest, direction, eye_to_corner, met};
-use crate::scene::{Patch, Scene, NONE};
+use crate::ray::{direction, distance, eye_to_corner, holder, met};
+use crate::scene::{Patch, Scene};
 use crate::stations::{t, VIEW};
-use crate::survey::{picture, survey};
-use crate::vector::{cross, dot, minus, side, wide, Vector};
+use crate::survey::{holders, survey, Done};
+use crate::vector::{cross, dot, minus, wide, Vector};
+use crate::walk::walk;
 
 /// Meeting told from the point where the line pierces the plane: ahead of the
 /// eye, and inside every edge.
@@ -32,35 +33,8 @@ fn pierces(patch: &Patch, eye: Vector, along: Vector) -> bool {
     })
 }
 
-/// "The side holding the eye is walked first, then the node's own patches as
-/// listed, then the other side. With the eye on the plane the positive side is
-/// walked first."
-fn walk(scene: &Scene, eye: [i16; 3]) -> Vec<Patch> {
-    let mut order = Vec::new();
-    let mut waiting = Vec::new();
-    if !scene.nodes.is_empty() {
-        waiting.push((0, false));
-    }
-    while let Some((k, own)) = waiting.pop() {
-        if own {
-            order.extend(scene.patches_of(k));
-            continue;
-        }
-        let node = &scene.nodes[k];
-        let (near, far) = match side(&node.points, eye) >= 0 {
-            true => (node.positive, node.negative),
-            false => (node.negative, node.positive),
-        };
-        let child = |c: u16| (c != NONE).then_some((usize::from(c), false));
-        waiting.extend(child(far));
-        waiting.push((k, true));
-        waiting.extend(child(near));
-    }
-    order
-}
-
 /// On every ray: both ways of meeting agree, and the first patch met on the
-/// walk is the closest.
+/// walk has the cell.
 pub fn rays_agree(call: &Call) -> bool {
     let scene = Scene::read(&call.scene);
     let (view, patches) = (&call.view, scene.patches());
@@ -69,11 +43,44 @@ pub fn rays_agree(call: &Call) -> bool {
     order.len() == patches.len()
         && (0..view.cells()).all(|at| {
             let along = direction(view, at % width, at / width);
-            let mut walked = order.iter().filter(|p| met(p, eye, along));
-            let first = walked.next().map_or(0, |p| p.panel);
+            let is_met = |k: &usize| met(&patches[*k], eye, along);
+            let first = order.iter().copied().find(is_met);
             let agree = |p: &Patch| met(p, eye, along) == pierces(p, eye, along);
-            first == closest(&patches, eye, along) && patches.iter().all(agree)
+            first == holder(&patches, eye, along) && patches.iter().all(agree)
         })
+}
+
+/// Does patch k give the cell up to patch m, if both are met? Told by three
+/// sentences: closer, or level and of a lower panel, or level, of one panel
+/// and "the earlier in the list".
+fn gives_up(patches: &[Patch], [k, m]: [usize; 2], eye: Vector, along: Vector) -> bool {
+    let [own, other] = [k, m].map(|n| distance(&patches[n], eye, along));
+    let [panel, other_panel] = [k, m].map(|n| patches[n].panel);
+    let closer = other.over * own.under < own.over * other.under;
+    let level = other.over * own.under == own.over * other.under;
+    closer || (level && (other_panel < panel || (other_panel == panel && m < k)))
+}
+
+/// Each patch by itself: its cells are those where it is met and gives none up.
+/// A lit cell is had by one patch, an unlit one by none.
+pub fn booked_once(call: &Call) -> bool {
+    let (view, patches) = (&call.view, Scene::read(&call.scene).patches());
+    let done = survey(call).expect("an accepted scene");
+    let (width, eye) = (usize::from(view.width), wide(view.eye));
+    let mut table = vec![0; patches.len()];
+    let once = (0..view.cells()).all(|at| {
+        let along = direction(view, at % width, at / width);
+        let there = (0..patches.len()).filter(|&k| met(&patches[k], eye, along));
+        let there: Vec<usize> = there.collect();
+        let keeps = |k: &usize| {
+            let mut others = there.iter().filter(|&m| m != k);
+            !others.any(|&m| gives_up(&patches, [*k, m], eye, along))
+        };
+        let having: Vec<usize> = there.iter().copied().filter(keeps).collect();
+        having.iter().for_each(|&k| table[k] += 1);
+        having.len() == usize::from(done.picture[at] > 0)
+    });
+    once && table == done.patch_counts
 }
 
 /// In the old view "The cell's direction is (2i + 1 − width, lens, height − 1 −
@@ -96,9 +103,10 @@ pub fn old_directions_hold() -> bool {
     })
 }
 
-/// A turned view shows what the level view shows of the patches turned back:
-/// each corner told by how far it lies along right, forward and up, times the
-/// volume. None where a corner so told is out of reach, or the view is level.
+/// A turned view shows what the level view shows of the patches turned back,
+/// patch by patch: each corner told by how far it lies along right, forward and
+/// up, times the volume. None where a corner so told is out of reach, or the
+/// view is level.
 pub fn turned_back(call: &Call) -> Option<bool> {
     let [right, forward, up] = call.view.axes.vectors().map(wide);
     let told_by = [cross(forward, up), cross(up, right), cross(right, forward)];
@@ -113,9 +121,9 @@ pub fn turned_back(call: &Call) -> Option<bool> {
         axes: LEVEL,
         ..call.view
     };
-    let shown = survey(call).expect("an accepted scene").picture;
-    (call.view.axes != LEVEL && shown.iter().any(|&panel| panel > 0))
-        .then(|| picture(&patches, &level) == shown)
+    let shown = survey(call).expect("an accepted scene");
+    (call.view.axes != LEVEL && shown.picture.iter().any(|&panel| panel > 0))
+        .then(|| Done::of(&holders(&patches, &level), &patches, &level) == shown)
 }
 
 /// The second scene has "just the first's patches less all those of the chosen
@@ -133,12 +141,19 @@ pub fn pair_holds(pair: &Pair, rng: &mut Random) -> bool {
     kept == sorted(&pair.second) && clean
 }
 
-/// Counts and stretches both add up to what the picture holds.
+/// Counts and stretches both add up to what the picture holds, and the patches'
+/// cells to what is lit.
 pub fn sums_hold(call: &Call) -> bool {
     let done = survey(call).expect("an accepted scene");
     let unlit: u32 = done.unlit.chunks(2).map(|pair| u32::from(pair[1])).sum();
+    let lit: u32 = done.patch_counts.iter().sum();
     let cells = call.view.cells() as u32;
-    done.counts.iter().sum::<u32>() == cells && done.counts[0] == unlit
+    let mut lent = Lent::noise(call, &mut Random::new(0, 0));
+    done.leave(&mut lent);
+    done.counts.iter().sum::<u32>() == cells
+        && done.counts[0] == unlit
+        && lit + unlit == cells
+        && panel_sums_hold(call, &lent)
 }
 
 /// Each part of demand 3 is told apart: a pair of results, spoiled in one way,

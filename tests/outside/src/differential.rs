@@ -1,8 +1,5 @@
-//! The run: cases by number, each from the seed alone, and what came of them.
+//! The run: cases by number, each from the seed alone.
 
-use std::collections::BTreeMap;
-
-use crate::axes::LEVEL;
 use crate::call::{Call, Library};
 use crate::compare::{check, check_gate, check_pair, Difference};
 use crate::damage::LOOSE;
@@ -13,6 +10,7 @@ use crate::outer::{any_window, beyond_memory, ends, CALL};
 use crate::pairs::{make_pair, Pair};
 use crate::random::Random;
 use crate::stored::STORED;
+pub use crate::tally::Tally;
 
 pub enum Case {
     /// A scene of the generator, which must be accepted.
@@ -55,9 +53,10 @@ impl Case {
 pub fn case(seed: u64, number: u64, size: Size) -> Case {
     let mut rng = Random::new(seed, number);
     let rng = &mut rng;
-    let kind = match rng.below(12) {
-        10 => Kind::Tiny,
-        11 => Kind::Thin,
+    let kind = match rng.below(14) {
+        11 => Kind::Tiny,
+        12 => Kind::Thin,
+        13 => Kind::Pieces,
         k => KINDS[k],
     };
     match number % 10 {
@@ -69,7 +68,7 @@ pub fn case(seed: u64, number: u64, size: Size) -> Case {
             Case::Lengths(call)
         }
         8 => {
-            let kind = rng.pick(&[Kind::Tiny, Kind::Level, Kind::Empty]);
+            let kind = rng.pick(&[Kind::Tiny, Kind::Level, Kind::Pieces, Kind::Empty]);
             let mut all = ends(&scene_call(rng, kind, size));
             let which = (number / 10) as usize % all.len();
             Case::Ends(all.swap_remove(which))
@@ -89,7 +88,7 @@ fn scene_call(rng: &mut Random, kind: Kind, size: Size) -> Call {
 /// The questions aimed at, those with many rules more often; 0 is any byte.
 const AIMS: &[u32] = &[
     0, 1, 1, 2, 2, 2, 3, 4, 5, 5, 6, 6, 6, 6, 7, 7, 8, 8, 8, 9, 9, 9, 9, 10, 10, 14, 14, 14, 11,
-    11, 12, 12,
+    11, 11, 12, 12,
 ];
 
 /// The question asked next, the first behind the last.
@@ -99,9 +98,16 @@ fn next(aim: u32) -> u32 {
     asked[place.map_or(0, |place| (place + 1) % asked.len())]
 }
 
-/// An accepted scene, harmed once or several times.
-fn damaged(rng: &mut Random, size: Size) -> Case {
-    let kinds = [Kind::Tiny, Kind::Grid, Kind::Level, Kind::Medium, Kind::Far];
+/// Small scenes, or now and then one of the others.
+fn kind_to_harm(rng: &mut Random) -> Kind {
+    let kinds = [
+        Kind::Tiny,
+        Kind::Grid,
+        Kind::Level,
+        Kind::Medium,
+        Kind::Far,
+        Kind::Pieces,
+    ];
     let rare = [
         Kind::Empty,
         Kind::Lining,
@@ -109,10 +115,15 @@ fn damaged(rng: &mut Random, size: Size) -> Case {
         Kind::Comb,
         Kind::Stack,
     ];
-    let kind = match rng.once_in(8) {
+    match rng.once_in(8) {
         true => rng.pick(&rare),
         false => rng.pick(&kinds),
-    };
+    }
+}
+
+/// An accepted scene, harmed once or several times.
+fn damaged(rng: &mut Random, size: Size) -> Case {
+    let kind = kind_to_harm(rng);
     let made = make(rng, kind, size);
     let mut aims = vec![rng.pick(AIMS)];
     while rng.once_in(3) {
@@ -158,41 +169,6 @@ fn one<H: Copy>(
     }
 }
 
-#[derive(Default)]
-pub struct Tally {
-    pub cases: u64,
-    pub kinds: BTreeMap<String, u64>,
-    /// How often the model gave each answer.
-    pub answers: BTreeMap<u32, u64>,
-    /// What accepted calls showed in a level view, and in a turned one.
-    pub level: Shown,
-    pub turned: Shown,
-    pub differences: BTreeMap<Difference, u64>,
-    pub failed: u64,
-}
-
-#[derive(Default)]
-pub struct Shown {
-    pub pictures: u64,
-    pub cells: u64,
-    pub lit: u64,
-}
-
-impl Tally {
-    fn answer(&mut self, number: u32, call: &Call, picture: &[u16]) {
-        *self.answers.entry(number).or_default() += 1;
-        if number == 0 {
-            let shown = match call.view.axes == LEVEL {
-                true => &mut self.level,
-                false => &mut self.turned,
-            };
-            shown.pictures += 1;
-            shown.cells += call.view.cells() as u64;
-            shown.lit += picture.iter().filter(|&&panel| panel != 0).count() as u64;
-        }
-    }
-}
-
 /// Puts one case to the library; gives what differs.
 pub fn put(
     library: &dyn Library,
@@ -205,7 +181,7 @@ pub fn put(
     let differences = match case {
         Case::Scene(_, call) | Case::Damaged(_, call) | Case::Ends(call) => {
             let outcome = check(library, call, noise);
-            tally.answer(outcome.number, call, &outcome.lent.picture);
+            tally.answer(&outcome, call);
             if let Case::Scene(kind, _) = case {
                 assert_eq!(outcome.number, 0, "a made scene is legal: {kind:?}");
             }
@@ -218,12 +194,11 @@ pub fn put(
         }
         Case::Two(kind, pair) => {
             let outcomes = check_pair(library, pair, noise);
-            let mut all = Vec::new();
-            for (outcome, call) in outcomes.into_iter().zip(case.calls()) {
+            for (outcome, call) in outcomes.iter().zip(case.calls()) {
                 assert_eq!(outcome.number, 0, "a made pair is legal: {kind:?}");
-                tally.answer(0, call, &outcome.lent.picture);
-                all.extend(outcome.differences);
+                tally.answer(outcome, call);
             }
+            let mut all = outcomes.map(|outcome| outcome.differences).concat();
             all.sort();
             all.dedup();
             all

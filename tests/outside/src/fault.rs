@@ -8,10 +8,13 @@ use crate::gate::Gate;
 use crate::generate::Size;
 use crate::random::Random;
 use crate::scene::Scene;
-use crate::survey::Done;
+use crate::survey::{booked, Done};
+use crate::wrong_booking::{Book, Painted, BOOKS};
+use crate::wrong_buffers::{Spoil, Trace, SPOILS, TRACES};
 use crate::wrong_camera::CAMERAS;
-use crate::wrong_gate::{SHORT_LENGTHS, WRONG};
-use crate::wrong_paint::{painted, Look, Spoil, Trace, LOOKS, SPOILS, TRACES};
+use crate::wrong_gate::WRONG;
+use crate::wrong_lengths::{LENGTHS, SHORT_LENGTHS};
+use crate::wrong_paint::{painted, Look, LOOKS};
 
 pub struct Faulty {
     pub name: String,
@@ -20,6 +23,7 @@ pub struct Faulty {
     gate: Gate,
     survey_gate: Gate,
     look: Look,
+    book: Book,
     spoil: Spoil,
     trace: Trace,
     /// Does a row that holds 128 stretches give 13?
@@ -34,56 +38,70 @@ impl Faulty {
             shows: Vec::new(),
             gate: Gate::of_the_paper(),
             survey_gate: Gate::of_the_paper(),
-            look: |scene, cell| cell.closest(&scene.patches()),
+            look: |scene, cell| cell.holder(&scene.patches()),
+            book: |painted| booked(painted.holders, painted.patches.len()),
             spoil: |_, _, _| (),
             trace: |_| (),
             thirteen: false,
         }
     }
 
-    pub fn all() -> Vec<Faulty> {
-        let mut all = Vec::new();
-        let base = |name: &str, shows| Faulty {
+    fn named(name: &str, shows: &[Difference]) -> Faulty {
+        Faulty {
             name: name.to_string(),
-            shows: vec![shows],
+            shows: shows.to_vec(),
             ..Faulty::none()
-        };
-        for &(name, look) in LOOKS.iter().chain(CAMERAS) {
-            all.push(Faulty {
-                look,
-                ..base(name, Difference::Picture)
-            });
         }
-        for &(name, shows, spoil) in SPOILS {
-            all.push(Faulty {
-                spoil,
-                ..base(name, shows)
-            });
-        }
-        for &(name, shows, trace) in TRACES {
-            all.push(Faulty {
-                trace,
-                ..base(name, shows)
-            });
-        }
-        all.push(Faulty {
-            thirteen: true,
-            ..base("13 at 128 stretches", Difference::Answer)
-        });
-        for &(name, wrong) in WRONG {
-            all.push(Faulty {
-                gate: wrong(),
-                survey_gate: wrong(),
-                shows: vec![Difference::Gate, Difference::Answer],
-                ..base(name, Difference::Gate)
-            });
-        }
-        let (name, wrong) = SHORT_LENGTHS;
-        all.push(Faulty {
-            gate: wrong(),
-            ..base(name, Difference::Gate)
-        });
+    }
+
+    pub fn all() -> Vec<Faulty> {
+        let mut all = Faulty::painters();
+        all.extend(Faulty::writers());
+        all.extend(Faulty::gates());
         all
+    }
+
+    /// Wrong pictures, and right ones that are booked wrongly.
+    fn painters() -> Vec<Faulty> {
+        let looks = LOOKS.iter().chain(CAMERAS).map(|&(name, look)| Faulty {
+            look,
+            ..Faulty::named(name, &[Difference::Picture])
+        });
+        let books = BOOKS.iter().map(|&(name, shows, book)| Faulty {
+            book,
+            ..Faulty::named(name, shows)
+        });
+        looks.chain(books).collect()
+    }
+
+    fn writers() -> Vec<Faulty> {
+        let spoils = SPOILS.iter().map(|&(name, shows, spoil)| Faulty {
+            spoil,
+            ..Faulty::named(name, &[shows])
+        });
+        let traces = TRACES.iter().map(|&(name, shows, trace)| Faulty {
+            trace,
+            ..Faulty::named(name, &[shows])
+        });
+        let full = Faulty {
+            thirteen: true,
+            ..Faulty::named("13 at 128 stretches", &[Difference::Answer])
+        };
+        spoils.chain(traces).chain([full]).collect()
+    }
+
+    fn gates() -> Vec<Faulty> {
+        let both = [Difference::Gate, Difference::Answer];
+        let wrong = WRONG.iter().chain(LENGTHS).map(|&(name, wrong)| Faulty {
+            gate: wrong(),
+            survey_gate: wrong(),
+            ..Faulty::named(name, &both)
+        });
+        let short = SHORT_LENGTHS.iter().map(|&(name, wrong)| Faulty {
+            gate: wrong(),
+            ..Faulty::named(name, &[Difference::Gate])
+        });
+        wrong.chain(short).collect()
     }
 
     /// The case of a run by which this fault has shown as it must, if any.
@@ -110,6 +128,25 @@ impl Faulty {
     }
 }
 
+impl Faulty {
+    /// The picture as it looks, and the table as it books.
+    fn painted(&self, call: &Call) -> Done {
+        let scene = Scene::read(&call.scene);
+        let patches = scene.patches();
+        let holders = painted(&scene, call.view, self.look);
+        let table = (self.book)(&Painted {
+            scene: &scene,
+            patches: &patches,
+            view: call.view,
+            holders: &holders,
+        });
+        Done {
+            patch_counts: table,
+            ..Done::of(&holders, &patches, &call.view)
+        }
+    }
+}
+
 impl Library for Faulty {
     fn survey(&self, call: &Call, lent: &mut Lent) -> u32 {
         let number = self.survey_gate.judge(call);
@@ -121,8 +158,7 @@ impl Library for Faulty {
         if Gate::of_the_paper().judge(call) != 0 {
             return 0;
         }
-        let scene = Scene::read(&call.scene);
-        let done = Done::of(painted(&scene, call.view, self.look), &call.view);
+        let done = self.painted(call);
         let is_full = |row: &[u16]| row[255] > 0;
         if self.thirteen && done.unlit.chunks(256).any(is_full) {
             return 13;

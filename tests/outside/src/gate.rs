@@ -236,11 +236,8 @@ pub fn on_plane(plane: &[Point; 3], patch: &Patch) -> bool {
 
 /// No corner on the other side, at least one on this: sign 1 or −1.
 pub fn on_side(plane: &[Point; 3], sign: i128, patch: &Patch) -> bool {
-    let sides: Vec<i128> = patch
-        .corners
-        .iter()
-        .map(|&p| sign * side(plane, p))
-        .collect();
+    let corners = patch.corners.iter();
+    let sides: Vec<i128> = corners.map(|&p| sign * side(plane, p)).collect();
     sides.iter().all(|&s| s >= 0) && sides.iter().any(|&s| s > 0)
 }
 
@@ -263,18 +260,26 @@ pub fn axes_proper(call: &Call, _: &Scene) -> bool {
 /// "each part from −100 to 100".
 pub fn parts_within(axes: &Axes, low: i16, high: i16) -> bool {
     let vectors = axes.vectors();
-    vectors
-        .iter()
-        .flatten()
-        .all(|part| (low..=high).contains(part))
+    let mut parts = vectors.iter().flatten();
+    parts.all(|part| (low..=high).contains(part))
 }
 
-/// 11: "Has the picture (u16) width × height cells, the counts (u32) 1,025,
-/// the unlit lists (u16) height × 256?"
-fn lengths_fit(call: &Call, _: &Scene) -> bool {
+/// 11: also "Question 11 covers the new table's length."
+fn lengths_fit(call: &Call, scene: &Scene) -> bool {
+    view_lengths_fit(call) && table_fits(call, scene)
+}
+
+/// "Has the picture (u16) width × height cells, the counts (u32) 1,025, the
+/// unlit lists (u16) height × 256?"
+pub fn view_lengths_fit(call: &Call) -> bool {
     call.picture_len == call.view.cells()
         && call.counts_len == COUNTS
         && call.unlit_len == usize::from(call.view.height) * ROW
+}
+
+/// "A further lent table (u32, one entry a patch)".
+pub fn table_fits(call: &Call, scene: &Scene) -> bool {
+    call.patch_counts_len == scene.records.len()
 }
 
 /// 12: "Is the station counter below 4,294,967,295?"

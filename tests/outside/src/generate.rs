@@ -4,7 +4,7 @@ use crate::call::View;
 use crate::loose::{Loose, Site};
 use crate::random::Random;
 use crate::scene::{Patch, NONE};
-use crate::soup;
+use crate::soup::{self, Corners};
 use crate::tree::{any_plane, Branch, Planter};
 use crate::view;
 use crate::works;
@@ -20,10 +20,11 @@ pub enum Kind {
     Stack,
     Comb,
     Lining,
+    Pieces,
     Empty,
 }
 
-pub const KINDS: [Kind; 10] = [
+pub const KINDS: [Kind; 11] = [
     Kind::Tiny,
     Kind::Grid,
     Kind::Level,
@@ -33,6 +34,7 @@ pub const KINDS: [Kind; 10] = [
     Kind::Stack,
     Kind::Comb,
     Kind::Lining,
+    Kind::Pieces,
     Kind::Empty,
 ];
 
@@ -60,25 +62,7 @@ pub struct Made {
 
 /// A scene that the gate accepts, and a view of it.
 pub fn make(rng: &mut Random, kind: Kind, size: Size) -> Made {
-    let (polygons, mut seen) = match kind {
-        Kind::Tiny => (soup::tiny(rng), None),
-        Kind::Grid => (soup::grid(rng), None),
-        Kind::Level => (soup::level(rng), None),
-        Kind::Medium => (soup::medium(rng), None),
-        Kind::Far => (soup::far(rng), None),
-        Kind::Thin => (soup::thin(rng), None),
-        Kind::Stack => (works::stack(rng, size.patches), None),
-        Kind::Comb => {
-            let (teeth, view) = works::comb(rng, size.work);
-            (teeth, Some(view))
-        }
-        Kind::Lining | Kind::Empty => (Vec::new(), None),
-    };
-    let mut patches = soup::numbered(rng, polygons);
-    if kind == Kind::Lining {
-        let (panels, view) = works::lining(rng, size.patches);
-        (patches, seen) = (panels, Some(view));
-    }
+    let (mut patches, seen) = panelled(rng, kind, size);
     if patches.len() < 900 {
         patches = soup::repeated(rng, patches);
     }
@@ -96,6 +80,41 @@ pub fn make(rng: &mut Random, kind: Kind, size: Size) -> Made {
         _ => view::choose(rng, &loose.patches(), size.work),
     };
     Made { loose, view }
+}
+
+/// Patches of the kind, and the view of it where it has one of its own.
+fn panelled(rng: &mut Random, kind: Kind, size: Size) -> (Vec<Patch>, Option<View>) {
+    match kind {
+        Kind::Lining => {
+            let (panels, view) = works::lining(rng, size.patches);
+            (panels, Some(view))
+        }
+        Kind::Comb => {
+            let (teeth, view) = works::comb(rng, size.work);
+            (soup::numbered(rng, teeth), Some(view))
+        }
+        Kind::Pieces => {
+            let (pieces, view) = works::pieces(rng, size.work);
+            (pieces, Some(view))
+        }
+        Kind::Empty => (Vec::new(), None),
+        _ => {
+            let polygons = polygons(rng, kind, size);
+            (soup::numbered(rng, polygons), None)
+        }
+    }
+}
+
+fn polygons(rng: &mut Random, kind: Kind, size: Size) -> Vec<Corners> {
+    match kind {
+        Kind::Grid => soup::grid(rng),
+        Kind::Level => soup::level(rng),
+        Kind::Medium => soup::medium(rng),
+        Kind::Far => soup::far(rng),
+        Kind::Thin => soup::thin(rng),
+        Kind::Stack => works::stack(rng, size.patches),
+        _ => soup::tiny(rng),
+    }
 }
 
 fn planted(rng: &mut Random, patches: Vec<Patch>, chain: bool) -> Branch {

@@ -1,19 +1,21 @@
 //! An outside check of the lining survey, in exact whole numbers.
 //!
 //! The model: `vector`, `axes`, `scene`, `gate`, `ray`, `survey`, `bill`,
-//! `stations`.
+//! `stations`; beside it `walk`.
 //! The cases: `random`, `polygon`, `soup`, `works`, `tree`, `loose`, `mount`,
 //! `view`, `generate`, `damage`, `stored`, `header`, `outer`, `pairs`.
-//! Cases with what is due known beforehand: `trial`, `turned`, and from files
-//! `block`, `cases`.
-//! The comparison: `compare`, `differential`; and what shows that it can
-//! fail: `fault`, `wrong_gate`, `wrong_questions`, `wrong_paint`,
-//! `wrong_camera`, `altered`; and the model against itself: `consistency`.
+//! Cases with what is due known beforehand: `trial`, `turned`, `booking`, and
+//! from files `block`, `cases`.
+//! The comparison: `compare`, `differential`, `tally`; and what shows that it
+//! can fail: `fault`, `wrong_gate`, `wrong_lengths`, `wrong_questions`,
+//! `wrong_paint`, `wrong_camera`, `wrong_booking`, `wrong_buffers`, `altered`;
+//! and the model against itself: `consistency`.
 
 pub mod altered;
 pub mod axes;
 pub mod bill;
 pub mod block;
+pub mod booking;
 pub mod call;
 pub mod cases;
 pub mod compare;
@@ -36,13 +38,18 @@ pub mod soup;
 pub mod stations;
 pub mod stored;
 pub mod survey;
+pub mod tally;
 pub mod tree;
 pub mod trial;
 pub mod turned;
 pub mod vector;
 pub mod view;
+pub mod walk;
 pub mod works;
+pub mod wrong_booking;
+pub mod wrong_buffers;
 pub mod wrong_camera;
 pub mod wrong_gate;
+pub mod wrong_lengths;
 pub mod wrong_paint;
 pub mod wrong_questions;

@@ -26,6 +26,8 @@ extern "C" {
         picture_len: usize,
         counts: *mut u32,
         counts_len: usize,
+        patch_counts: *mut u32,
+        patch_counts_len: usize,
         unlit: *mut u16,
         unlit_len: usize,
         counter: *mut u32,
@@ -51,6 +53,7 @@ extern "C" {
         lens: u16,
         picture_len: usize,
         counts_len: usize,
+        patch_counts_len: usize,
         unlit_len: usize,
         counter: u32,
     ) -> u32;
@@ -62,7 +65,8 @@ impl Library for Linked {
     fn survey(&self, call: &Call, lent: &mut Lent) -> u32 {
         let view = &call.view;
         let [right, forward, up] = view.axes.vectors();
-        // Every pointer is lent with the length of its own allocation.
+        // Every pointer is lent with the length of its own allocation; that of an
+        // empty table is not null.
         unsafe {
             ring_survey(
                 call.scene.as_ptr(),
@@ -86,6 +90,8 @@ impl Library for Linked {
                 lent.picture.len(),
                 lent.counts.as_mut_ptr(),
                 lent.counts.len(),
+                lent.patch_counts.as_mut_ptr(),
+                lent.patch_counts.len(),
                 lent.unlit.as_mut_ptr(),
                 lent.unlit.len(),
                 &mut lent.counter,
@@ -118,6 +124,7 @@ impl Library for Linked {
                 view.lens,
                 call.picture_len,
                 call.counts_len,
+                call.patch_counts_len,
                 call.unlit_len,
                 call.counter,
             )

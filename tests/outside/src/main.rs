@@ -1,5 +1,5 @@
-//! The library set against the stored cases, the turned stations, and the model
-//! case by case.
+//! The library set against the stored cases, the stations, and the model case
+//! by case.
 //!
 //!     differential [--cases N] [--seed S] [--only K] [--small] [--trace]
 //!                  [--out DIR] [--ringbill PROGRAM]
@@ -107,8 +107,13 @@ fn keep(options: &Options, k: u64, made: &Case, differences: &[Difference]) {
     for (place, call) in made.calls().into_iter().enumerate() {
         let file = format!("{}/outside-{}-{k}-{place}.case", options.out, options.seed);
         println!(
-            "  {file}: {:?}, lengths {} {} {}, counter {}",
-            call.view, call.picture_len, call.counts_len, call.unlit_len, call.counter
+            "  {file}: {:?}, lengths {} {} {} {}, counter {}",
+            call.view,
+            call.picture_len,
+            call.counts_len,
+            call.patch_counts_len,
+            call.unlit_len,
+            call.counter
         );
         if let Err(error) = fs::write(&file, call.standard_input()) {
             println!("  not written: {error}");
@@ -133,15 +138,20 @@ fn report(options: &Options, tally: &Tally) -> i32 {
             shown.pictures, shown.cells, shown.lit
         );
     }
+    for (times, name) in tally.pieces.told() {
+        println!("{times:8} views show {name}");
+    }
     for (difference, times) in &tally.differences {
         println!("{times:8} differences: {difference:?}");
     }
     let mut silent = vec![0];
     silent.extend(Gate::of_the_paper().numbers());
     silent.retain(|answer| !tally.answers.contains_key(answer));
-    let thin = tally.cases >= 500 && !silent.is_empty();
+    let mut unseen = tally.pieces.told().to_vec();
+    unseen.retain(|&(times, _)| times == 0);
+    let thin = tally.cases >= 500 && !(silent.is_empty() && unseen.is_empty());
     if thin {
-        println!("never answered: {silent:?}");
+        println!("never answered: {silent:?}, never shown: {unseen:?}");
     }
     println!(
         "outside: {} cases, {} differences",

@@ -4,6 +4,7 @@ use crate::axes::{Axes, LEVEL};
 use crate::call::{Call, View, COUNTS, ROW};
 use crate::mount;
 use crate::random::Random;
+use crate::scene::{pair_at, HEADER, SIZES};
 
 pub type CallHarm = fn(&mut Call, &mut Random);
 
@@ -15,6 +16,8 @@ pub const CALL: &[(u32, CallHarm)] = &[
     (14, vectors_mirrored),
     (11, picture_length),
     (11, counts_length),
+    (11, table_length),
+    (11, table_length),
     (11, unlit_length),
     (12, counter_full),
 ];
@@ -94,6 +97,25 @@ fn counts_length(call: &mut Call, rng: &mut Random) {
     call.counts_len = length(rng, COUNTS);
 }
 
+/// The patch table too short or too long, or as long as something else of the
+/// scene or the call.
+fn table_length(call: &mut Call, rng: &mut Random) {
+    if rng.once_in(6) {
+        // Lent the wrong way round.
+        std::mem::swap(&mut call.counts_len, &mut call.patch_counts_len);
+        return;
+    }
+    let told = |k: usize| match call.scene.len() < HEADER {
+        true => 0,
+        false => (pair_at(&call.scene, k).1 as usize / SIZES[k]).min(5_000),
+    };
+    let others = [COUNTS, 1_024, told(0), told(2), 6 * told(1)];
+    call.patch_counts_len = match rng.below(3) {
+        0 => rng.pick(&others),
+        _ => length(rng, call.patch_counts_len),
+    };
+}
+
 fn unlit_length(call: &mut Call, rng: &mut Random) {
     call.unlit_len = match rng.below(3) {
         0 => usize::from(call.view.height.min(128)),
@@ -124,6 +146,9 @@ pub fn ends(call: &Call) -> Vec<Call> {
     for step in [-1, 1] {
         all.push(changed(&|c| c.picture_len = stepped(c.picture_len, step)));
         all.push(changed(&|c| c.counts_len = stepped(c.counts_len, step)));
+        all.push(changed(&|c| {
+            c.patch_counts_len = stepped(c.patch_counts_len, step)
+        }));
         all.push(changed(&|c| c.unlit_len = stepped(c.unlit_len, step)));
         all.push(changed(&|c| c.unlit_len = stepped(c.unlit_len, 256 * step)));
     }
@@ -135,6 +160,7 @@ pub fn ends(call: &Call) -> Vec<Call> {
     all.push(changed(&|c| (c.view.lens, c.counts_len) = (4_097, 0)));
     all.extend(ends_of_axes().map(|axes| changed(&|c| c.view.axes = axes)));
     all.extend(axes_and_another(call));
+    all.extend(lengths_of_the_table(call));
     all
 }
 
@@ -157,14 +183,30 @@ fn ends_of_axes() -> impl Iterator<Item = Axes> {
     parts.chain(volumes)
 }
 
+/// The patch table of other lengths, and with it a no to another question.
+fn lengths_of_the_table(call: &Call) -> Vec<Call> {
+    let others: [&dyn Fn(&mut Call); 8] = [
+        &|c| c.patch_counts_len = 0,
+        &|c| c.patch_counts_len = 1_024,
+        &|c| c.patch_counts_len = c.counts_len,
+        &|c| (c.counts_len, c.patch_counts_len) = (c.patch_counts_len, c.counts_len),
+        &|c| (c.patch_counts_len, c.counter) = (c.patch_counts_len + 1, u32::MAX),
+        &|c| (c.patch_counts_len, c.view.lens) = (c.patch_counts_len + 1, 0),
+        &|c| (c.patch_counts_len, c.picture_len) = (c.patch_counts_len + 1, 0),
+        &|c| (c.patch_counts_len, c.scene) = (c.patch_counts_len + 1, c.scene[1..].into()),
+    ];
+    others.map(|other| changed(call, other)).into()
+}
+
 /// A no to 14 and another: only the one asked first may answer.
 fn axes_and_another(call: &Call) -> Vec<Call> {
-    let others: [&dyn Fn(&mut Call); 7] = [
+    let others: [&dyn Fn(&mut Call); 8] = [
         &|c| c.scene = c.scene[1..].into(),
         &|c| c.view.eye[2] = 10_001,
         &|c| c.view.lens = 0,
         &|c| c.picture_len = stepped(c.picture_len, -1),
         &|c| c.counts_len = 0,
+        &|c| c.patch_counts_len = stepped(c.patch_counts_len, 1),
         &|c| c.unlit_len = stepped(c.unlit_len, 1),
         &|c| c.counter = u32::MAX,
     ];
@@ -190,9 +232,10 @@ fn stepped(length: usize, step: isize) -> usize {
 /// Lengths that only the gate can be asked about: nobody lends so much.
 pub fn beyond_memory(call: &mut Call, rng: &mut Random) {
     let add = rng.pick(&[1 << 16, 1 << 32, 1 << 48, 1 << 63]);
-    let place = match rng.below(3) {
+    let place = match rng.below(4) {
         0 => &mut call.picture_len,
         1 => &mut call.counts_len,
+        2 => &mut call.patch_counts_len,
         _ => &mut call.unlit_len,
     };
     *place = match rng.once_in(4) {

@@ -5,7 +5,7 @@ use crate::generate::{make, second, Kind, Size};
 use crate::random::Random;
 use crate::ray::{closest, direction};
 use crate::scene::{Patch, Scene};
-use crate::survey::{counts, picture};
+use crate::survey::{counts, holders, picture};
 use crate::vector::wide;
 
 #[derive(Clone, Debug)]
@@ -20,7 +20,7 @@ pub struct Pair {
 pub fn make_pair(rng: &mut Random, kind: Kind, size: Size) -> Pair {
     let made = make(rng, kind, size);
     let patches = made.loose.patches();
-    let shown = counts(&picture(&patches, &made.view));
+    let shown = counts(&picture(&patches, &holders(&patches, &made.view)));
     let chosen = choose(rng, &patches, &shown);
     let other = second(rng, &made.loose, &chosen);
     Pair {

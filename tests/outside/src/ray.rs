@@ -1,5 +1,7 @@
 //! Sight lines: one ray, every patch.
 
+use std::cmp::Ordering;
+
 use crate::call::View;
 use crate::gate::patch_normal;
 use crate::scene::Patch;
@@ -43,9 +45,9 @@ pub struct Fraction {
 }
 
 impl Fraction {
-    /// Below −1, level 0, above 1; "compares it exactly".
-    pub fn against(&self, other: &Fraction) -> i128 {
-        (self.over * other.under - other.over * self.under).signum()
+    /// "compares it exactly".
+    pub fn against(&self, other: &Fraction) -> Ordering {
+        (self.over * other.under).cmp(&(other.over * self.under))
     }
 }
 
@@ -61,23 +63,29 @@ pub fn distance(patch: &Patch, eye: Vector, along: Vector) -> Fraction {
     }
 }
 
-/// "A cell's closest panel is that of the met patch at the least distance, the
-/// lowest panel number where several are level there, and 0 where none is
+/// The number of the patch that has a cell, None where none is met.
+pub type Holder = Option<usize>;
+
+/// "the met patch at the least distance, the lowest panel number where several
+/// are level there"; and "Where two patches of one panel overlap in a plane,
+/// the earlier in the list has the cell." A number and no patch, as one patch
+/// may stand in the list twice.
+pub fn holder(patches: &[Patch], eye: Vector, along: Vector) -> Holder {
+    let numbers = (0..patches.len()).filter(|&k| met(&patches[k], eye, along));
+    let told = numbers.map(|k| (distance(&patches[k], eye, along), patches[k].panel, k));
+    let first = told.min_by(|one, other| {
+        let level = (one.1, one.2).cmp(&(other.1, other.2));
+        one.0.against(&other.0).then(level)
+    });
+    first.map(|(_, _, k)| k)
+}
+
+/// "A cell's closest panel is that of the met patch [...], and 0 where none is
 /// met."
 pub fn closest(patches: &[Patch], eye: Vector, along: Vector) -> u16 {
-    let mut best: Option<(Fraction, u16)> = None;
-    for patch in patches.iter().filter(|p| met(p, eye, along)) {
-        let far = distance(patch, eye, along);
-        let nearer = match best {
-            None => true,
-            Some((least, panel)) => match far.against(&least) {
-                0 => patch.panel < panel,
-                order => order < 0,
-            },
-        };
-        if nearer {
-            best = Some((far, patch.panel));
-        }
-    }
-    best.map_or(0, |(_, panel)| panel)
+    panel_of(patches, holder(patches, eye, along))
+}
+
+pub fn panel_of(patches: &[Patch], holder: Holder) -> u16 {
+    holder.map_or(0, |k| patches[k].panel)
 }

@@ -1,5 +1,7 @@
 //! The scene's bytes: "Every field has its least significant byte first."
 
+use std::ops::Range;
+
 use crate::vector::Point;
 
 /// "65,535 means none".
@@ -57,6 +59,16 @@ pub fn pair_at(bytes: &[u8], k: usize) -> (u32, u32) {
     (u32_at(bytes, 8 + 8 * k), u32_at(bytes, 12 + 8 * k))
 }
 
+/// How many patches the header tells of, at most 1,024: the length of a patch
+/// table lent before anyone has judged the scene. It fits every scene that
+/// questions 1 and 2 let pass; of any other question 11 is never asked.
+pub fn patches_told(bytes: &[u8]) -> usize {
+    match bytes.len() < HEADER {
+        true => 0,
+        false => (pair_at(bytes, 1).1 as usize / SIZES[1]).min(1_024),
+    }
+}
+
 impl Scene {
     /// Reads bytes that questions 1 and 2 let pass.
     pub fn read(bytes: &[u8]) -> Scene {
@@ -97,11 +109,15 @@ impl Scene {
         bytes
     }
 
+    /// The numbers of the patches in node k's run.
+    pub fn run_of(&self, k: usize) -> Range<usize> {
+        let first = usize::from(self.nodes[k].first);
+        first..first + usize::from(self.nodes[k].count)
+    }
+
     /// The patches of node k's run; a run outside the tables gives none.
     pub fn patches_of(&self, k: usize) -> Vec<Patch> {
-        let first = usize::from(self.nodes[k].first);
-        let last = first + usize::from(self.nodes[k].count);
-        let run = self.records.get(first..last).unwrap_or(&[]);
+        let run = self.records.get(self.run_of(k)).unwrap_or(&[]);
         run.iter().map(|record| self.in_hand(record)).collect()
     }
 

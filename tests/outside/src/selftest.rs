@@ -12,7 +12,8 @@ use outside::altered::{every_line, files_are_refused};
 use outside::bill::bill;
 use outside::block::Reading;
 use outside::consistency::{
-    old_directions_hold, pair_holds, parts_are_told_apart, rays_agree, sums_hold, turned_back,
+    booked_once, old_directions_hold, pair_holds, parts_are_told_apart, rays_agree, sums_hold,
+    turned_back,
 };
 use outside::differential::{case, put, Case, Tally};
 use outside::fault::Faulty;
@@ -60,7 +61,7 @@ fn alterations_show() -> Reading<usize> {
     Ok(missed + usize::from(!refused) + usize::from(seen == 0))
 }
 
-/// Rays, sums and pairs of made scenes.
+/// Rays, sums, bookings and pairs of made scenes.
 fn consistent(cases: u64) -> usize {
     let (mut scenes, mut pairs, mut back, mut failed) = (0, 0, 0, 0);
     for number in 0..cases {
@@ -71,7 +72,7 @@ fn consistent(cases: u64) -> usize {
                 scenes += 1;
                 let turned = turned_back(call);
                 back += usize::from(turned.is_some());
-                rays_agree(call) && sums_hold(call) && turned.unwrap_or(true)
+                rays_agree(call) && sums_hold(call) && booked_once(call) && turned.unwrap_or(true)
             }
             Case::Two(_, pair) => {
                 pairs += 1;
@@ -98,6 +99,7 @@ fn sound(cases: u64) -> usize {
     }
     println!("no fault: {cases} cases, {} differences", tally.failed);
     println!("answers: {:?}", tally.answers);
+    println!("pieces: {:?}", tally.pieces.told());
     tally.failed as usize
 }
 

@@ -17,7 +17,7 @@ pub const VIEW: View = View {
     lens: 4,
 };
 
-fn square(panel: u16, half: i16, forward: i16) -> Patch {
+pub fn square(panel: u16, half: i16, forward: i16) -> Patch {
     let corners = vec![
         [-half, forward, -half],
         [half, forward, -half],
@@ -43,7 +43,7 @@ pub fn scene_of(sites: Vec<Site>) -> Scene {
 }
 
 /// S: "one node and patch, panel 5"; the half-width 50 unless said.
-fn s(half: i16) -> Scene {
+pub fn s(half: i16) -> Scene {
     scene_of(vec![site(vec![square(5, half, 100)])])
 }
 

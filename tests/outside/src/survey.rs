@@ -1,8 +1,8 @@
-//! The whole answer to a call: picture, counts and unlit lists.
+//! The whole answer to a call: picture, counts, patch table and unlit lists.
 
 use crate::call::{Call, Lent, Library, View, COUNTS, ROW};
 use crate::gate::Gate;
-use crate::ray::{closest, direction};
+use crate::ray::{direction, holder, panel_of, Holder};
 use crate::scene::{Patch, Scene};
 use crate::vector::wide;
 
@@ -10,6 +10,7 @@ use crate::vector::wide;
 pub struct Done {
     pub picture: Vec<u16>,
     pub counts: Vec<u32>,
+    pub patch_counts: Vec<u32>,
     pub unlit: Vec<u16>,
 }
 
@@ -18,7 +19,11 @@ pub fn survey(call: &Call) -> Result<Done, u32> {
     match Gate::of_the_paper().judge(call) {
         0 => {
             let patches = Scene::read(&call.scene).patches();
-            Ok(Done::of(picture(&patches, &call.view), &call.view))
+            Ok(Done::of(
+                &holders(&patches, &call.view),
+                &patches,
+                &call.view,
+            ))
         }
         number => Err(number),
     }
@@ -59,21 +64,34 @@ impl Library for Due {
     }
 }
 
-/// The cells row after row from the top, cell (i, j) at j × width + i.
-pub fn picture(patches: &[Patch], view: &View) -> Vec<u16> {
+/// Who has each cell, row after row from the top, cell (i, j) at j × width + i.
+pub fn holders(patches: &[Patch], view: &View) -> Vec<Holder> {
     let (width, eye) = (usize::from(view.width), wide(view.eye));
     (0..view.cells())
-        .map(|at| closest(patches, eye, direction(view, at % width, at / width)))
+        .map(|at| holder(patches, eye, direction(view, at % width, at / width)))
         .collect()
 }
 
+/// The panels of the patches that have the cells.
+pub fn picture(patches: &[Patch], holders: &[Holder]) -> Vec<u16> {
+    let cells = holders.iter();
+    cells.map(|&holder| panel_of(patches, holder)).collect()
+}
+
 impl Done {
+    /// All of it, from who has each cell.
+    pub fn of(holders: &[Holder], patches: &[Patch], view: &View) -> Done {
+        let table = booked(holders, patches.len());
+        Done::told(picture(patches, holders), table, view)
+    }
+
     /// Counts and unlit lists as the cells of a picture give them.
-    pub fn of(picture: Vec<u16>, view: &View) -> Done {
+    pub fn told(picture: Vec<u16>, patch_counts: Vec<u32>, view: &View) -> Done {
         let rows = picture.chunks(usize::from(view.width));
         Done {
             unlit: rows.flat_map(unlit_row).collect(),
             counts: counts(&picture),
+            patch_counts,
             picture,
         }
     }
@@ -82,6 +100,7 @@ impl Done {
     pub fn leave(&self, lent: &mut Lent) {
         lent.picture.copy_from_slice(&self.picture);
         lent.counts.copy_from_slice(&self.counts);
+        lent.patch_counts.copy_from_slice(&self.patch_counts);
         lent.unlit.copy_from_slice(&self.unlit);
     }
 }
@@ -93,6 +112,16 @@ pub fn counts(picture: &[u16]) -> Vec<u32> {
         counts[usize::from(panel)] += 1;
     }
     counts
+}
+
+/// "A further lent table (u32, one entry a patch) receives each patch's
+/// cells."
+pub fn booked(holders: &[Holder], patches: usize) -> Vec<u32> {
+    let mut table = vec![0; patches];
+    for &k in holders.iter().flatten() {
+        table[k] += 1;
+    }
+    table
 }
 
 /// "A row's unlit cells are pairs of offset and length, sorted by offset,

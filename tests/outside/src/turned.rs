@@ -5,8 +5,8 @@ use crate::call::{Call, View};
 use crate::mount::with_part;
 use crate::scene::{Patch, Scene};
 use crate::stations::{scene_of, site, t, VIEW};
-use crate::survey::{Done, Due};
-use crate::trial::Trial;
+use crate::survey::counts;
+use crate::trial::{accepted, digits, Trial};
 use crate::vector::Point;
 
 /// Quarter turns and half turns of the level view, named after what they do.
@@ -75,19 +75,14 @@ fn window(width: u16, height: u16, lens: u16) -> View {
     }
 }
 
-/// The station with its picture: rows from the top, one digit a cell.
+/// The station with its picture. No panel stands on two patches here, so its
+/// count is that of its patch.
 fn shows(name: &str, scene: &Scene, view: View, axes: Axes, rows: &str) -> Trial {
     let view = View { axes, ..view };
-    let digits = rows.chars().filter_map(|c| c.to_digit(10));
-    let done = Done::of(digits.map(|panel| panel as u16).collect(), &view);
-    Trial {
-        name: name.to_string(),
-        call: Call::new(scene.write(), view),
-        due: Due {
-            result: Ok(done),
-            counter: 1,
-        },
-    }
+    let counts = counts(&digits(rows));
+    let records = scene.records.iter();
+    let cells: Vec<u32> = records.map(|r| counts[usize::from(r.panel)]).collect();
+    accepted(name, Call::new(scene.write(), view), rows, &cells)
 }
 
 pub fn turned() -> Vec<Trial> {
@@ -159,18 +154,14 @@ fn of_two_bars() -> Vec<Trial> {
 }
 
 /// A scene without nodes, which shows nothing wherever the camera looks.
-fn accepted(name: String, axes: Axes) -> Trial {
-    shows(&name, &Scene::default(), VIEW, axes, &"0".repeat(16))
+fn blank(name: &str, axes: Axes) -> Trial {
+    shows(name, &Scene::default(), VIEW, axes, &"0".repeat(16))
 }
 
 fn refused(name: &str, axes: Axes, number: u32, change: impl Fn(&mut Call)) -> Trial {
-    let mut trial = accepted(name.to_string(), axes);
-    change(&mut trial.call);
-    trial.due = Due {
-        result: Err(number),
-        counter: 0,
-    };
-    trial
+    let mut call = blank(name, axes).call;
+    change(&mut call);
+    crate::trial::refused(name, call, number)
 }
 
 /// Each of the nine parts at its ends, and just beyond.
@@ -178,7 +169,7 @@ fn of_parts() -> Vec<Trial> {
     let mut all = Vec::new();
     for k in 0..9 {
         for n in [-100, 100] {
-            all.push(accepted(format!("part {k} is {n}"), with_part(k, n)));
+            all.push(blank(&format!("part {k} is {n}"), with_part(k, n)));
         }
         for n in [-101, 101] {
             let name = format!("part {k} is {n}");

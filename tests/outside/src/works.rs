@@ -1,4 +1,5 @@
-//! Built works: stacks of parallel patches, combs of columns and linings.
+//! Built works: stacks of parallel patches, combs of columns, panels in pieces
+//! and linings.
 
 use crate::axes::{Axes, LEVEL};
 use crate::call::View;
@@ -43,11 +44,7 @@ pub fn stack(rng: &mut Random, most: usize) -> Vec<Corners> {
 pub fn comb(rng: &mut Random, work: usize) -> (Vec<Corners>, View) {
     let width = rng.pick(&[256, 256, 256, 255, 254, 64, 9]);
     let height = (work as i64 / (width * width / 2)).clamp(1, 6);
-    let axes = match rng.below(4) {
-        0 | 1 => LEVEL,
-        2 => mount::quarter(rng),
-        _ => mount::small(rng),
-    };
+    let axes = plain(rng);
     let view = View {
         eye: [0; 3].map(|_| rng.between(-400, 400) as i16),
         axes,
@@ -72,6 +69,15 @@ pub fn comb(rng: &mut Random, work: usize) -> (Vec<Corners>, View) {
         }
     }
     (teeth, view)
+}
+
+/// A camera whose directions stay small numbers.
+fn plain(rng: &mut Random) -> Axes {
+    match rng.below(4) {
+        0 | 1 => LEVEL,
+        2 => mount::quarter(rng),
+        _ => mount::small(rng),
+    }
 }
 
 /// How far one unit along each vector can lead along an axis of the scene.
@@ -99,6 +105,58 @@ fn tooth(rng: &mut Random, view: &View, i: usize, depth: i64, whole: bool) -> Op
     let square = [(-1, -up), (1, -up), (1, up), (-1, up)];
     let corners: Option<Corners> = square.into_iter().map(corner).collect();
     corners.filter(|_| up > 0)
+}
+
+/// One to three panels in pieces before the camera, on one to three layers: the
+/// pieces overlap, share edges, stand twice, and hide each other.
+pub fn pieces(rng: &mut Random, work: usize) -> (Vec<Patch>, View) {
+    let width = rng.pick(&[256, 255, 40, 12, 9, 8, 7]);
+    let height = (work as i64 / (8 * width)).clamp(1, 30);
+    let view = View {
+        eye: [0; 3].map(|_| rng.between(-200, 200) as i16),
+        axes: plain(rng),
+        width: width as u16,
+        height: rng.between(1, height) as u16,
+        lens: rng.between(1, 2 * width) as u16,
+    };
+    let layers: Vec<Basis> = (0..1 + rng.below(3)).map(|_| layer(rng, &view)).collect();
+    let wanted = 2 + rng.below(8);
+    let shapes = gather(rng, wanted, |rng| {
+        let (layer, grid) = (rng.pick(&layers), rng.between(1, 5));
+        match rng.once_in(3) {
+            true => layer.polygon(rng, grid),
+            false => layer.rectangle(rng, grid),
+        }
+    });
+    let (lowest, more) = (rng.between(1, 1_022), rng.between(0, 2));
+    let mut patches = Vec::new();
+    for corners in shapes {
+        let panel = (lowest + rng.between(0, more)) as u16;
+        let times = rng.pick(&[1, 1, 1, 1, 2, 3]);
+        patches.extend(vec![Patch { panel, corners }; times]);
+    }
+    (patches, view)
+}
+
+/// A plane of lattice points in the window, so many times the directions away,
+/// now and then leaning. Sight lines often end on its lines.
+fn layer(rng: &mut Random, view: &View) -> Basis {
+    let depth = rng.between(1, (30 / spread(&view.axes)).max(1));
+    let mut across = |cells: u16| {
+        let half = depth * i64::from(cells);
+        let step = rng.pick(&[half / 4 + 1, half / 2 + 1, half + 1]);
+        [rng.between(-half - 1, -half / 2), step]
+    };
+    let ([left, right], [low, up]) = (across(view.width), across(view.height));
+    let mut lean = || rng.pick(&[0, 0, 0, 0, 1, -1]);
+    let (ahead, lean) = (depth * i64::from(view.lens), [lean(), lean()]);
+    let told = |at: [i64; 3]| view.axes.sum(at.map(i128::from)).map(|n| n as i64);
+    let from = told([left, ahead, low]);
+    Basis {
+        origin: [0, 1, 2].map(|k| i64::from(view.eye[k]) + from[k]),
+        u: told([right, lean[0], 0]),
+        v: told([0, lean[1], up]),
+    }
 }
 
 /// Rings of panels around the bore, straight or bent, with gaps, a face at the

@@ -2,7 +2,7 @@
 
 use crate::axes::{Axes, LEVEL};
 use crate::call::View;
-use crate::ray::{closest, direction};
+use crate::ray::{direction, holder, Holder};
 use crate::scene::{Patch, Scene};
 use crate::vector::{cross, dot, minus, wide, Point, Vector};
 use crate::wrong_paint::{Cell, Look};
@@ -63,7 +63,7 @@ pub const CAMERAS: &[(&str, Look)] = &[
     ("lens taken twice", |s, c| {
         let lens = 2 * c.view.lens;
         let view = View { lens, ..c.view };
-        Cell { view, ..c }.closest(&s.patches())
+        Cell { view, ..c }.holder(&s.patches())
     }),
     ("half a column off", |s, c| {
         seen(s, c, minus(c.along(), wide(c.view.axes.right)))
@@ -78,15 +78,15 @@ pub const CAMERAS: &[(&str, Look)] = &[
 ];
 
 /// What the cell shows under other vectors.
-fn turned(scene: &Scene, cell: Cell, turn: fn(Axes) -> Axes) -> u16 {
+fn turned(scene: &Scene, cell: Cell, turn: fn(Axes) -> Axes) -> Holder {
     let mut other = cell;
     other.view.axes = turn(cell.view.axes);
-    other.closest(&scene.patches())
+    other.holder(&scene.patches())
 }
 
 /// What the cell shows along another direction.
-fn seen(scene: &Scene, cell: Cell, along: Vector) -> u16 {
-    closest(&scene.patches(), cell.eye(), along)
+fn seen(scene: &Scene, cell: Cell, along: Vector) -> Holder {
+    holder(&scene.patches(), cell.eye(), along)
 }
 
 fn part_of_each(axes: Axes, k: usize) -> Point {
@@ -95,7 +95,7 @@ fn part_of_each(axes: Axes, k: usize) -> Point {
 
 /// A patch is tried only in the rows whose plane has corners of it on both
 /// sides; but the planes are those of a level camera.
-fn level_rows(scene: &Scene, cell: Cell) -> u16 {
+fn level_rows(scene: &Scene, cell: Cell) -> Holder {
     let level = View {
         axes: LEVEL,
         ..cell.view
@@ -108,7 +108,5 @@ fn level_rows(scene: &Scene, cell: Cell) -> u16 {
             .collect();
         sides.iter().any(|&side| side > 0) && sides.iter().any(|&side| side < 0)
     };
-    let mut patches = scene.patches();
-    patches.retain(reaches);
-    cell.closest(&patches)
+    cell.holder_among(scene, |_, patch| reaches(patch))
 }

@@ -1,6 +1,6 @@
-//! Gates that are right but for one thing; the cases must find each.
+//! Gates that are right but for one thing; the cases must find each. Those
+//! with another question 11 are in `wrong_lengths`.
 
-use crate::call::{COUNTS, ROW};
 use crate::gate::*;
 use crate::scene::u16_at;
 use crate::wrong_questions::*;
@@ -162,23 +162,6 @@ pub const WRONG: &[WrongGate] = &[
     ("14 within 10", || {
         asked(10, |c, s| view_in_range(c, s) && axes_proper(c, s))
     }),
-    ("11: longer picture", || {
-        asked(11, |c, _| {
-            c.picture_len >= c.view.cells() && c.counts_len == COUNTS && unlit_fits(c)
-        })
-    }),
-    ("11: longer counts", || {
-        asked(11, |c, _| {
-            c.picture_len == c.view.cells() && c.counts_len >= COUNTS && unlit_fits(c)
-        })
-    }),
-    ("11: longer unlit", || {
-        asked(11, |c, _| {
-            c.picture_len == c.view.cells()
-                && c.counts_len == COUNTS
-                && c.unlit_len >= usize::from(c.view.height) * ROW
-        })
-    }),
     ("12: left out", || without(12)),
     ("12: one early", || {
         asked(12, |c, _| c.counter < u32::MAX - 1)
@@ -197,15 +180,6 @@ pub const WRONG: &[WrongGate] = &[
     ("14 before all but 1 and 2", || moved(14, 3)),
 ];
 
-/// Shows only where the gate alone is asked: nobody lends so much.
-pub const SHORT_LENGTHS: WrongGate = ("11: length in 32 bits", || {
-    asked(11, |c, _| {
-        c.picture_len as u32 as usize == c.view.cells()
-            && c.counts_len as u32 as usize == COUNTS
-            && c.unlit_len as u32 == u32::from(c.view.height) * 256
-    })
-});
-
 fn sized(size: fn(&[u8]) -> bool) -> Gate {
     Gate {
         size,
@@ -220,7 +194,7 @@ fn sectioned(sections: fn(&[u8]) -> bool) -> Gate {
     }
 }
 
-fn asked(number: u32, question: Question) -> Gate {
+pub fn asked(number: u32, question: Question) -> Gate {
     let mut gate = Gate::of_the_paper();
     for place in gate.questions.iter_mut().filter(|q| q.0 == number) {
         place.1 = question;
@@ -232,7 +206,7 @@ fn without(number: u32) -> Gate {
     asked(number, |_, _| true)
 }
 
-fn place(gate: &Gate, number: u32) -> usize {
+pub fn place(gate: &Gate, number: u32) -> usize {
     let mut numbers = gate.questions.iter().map(|question| question.0);
     numbers
         .position(|own| own == number)

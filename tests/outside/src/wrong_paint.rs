@@ -1,12 +1,10 @@
-//! Painters and writers that are right but for one thing.
+//! Painters that are right but for one thing.
 
 use crate::axes::LEVEL;
-use crate::call::{Lent, View, ROW};
-use crate::compare::Difference;
+use crate::call::View;
 use crate::gate::patch_normal;
-use crate::ray::{closest, direction, edge_products, eye_to_corner, met};
+use crate::ray::{direction, edge_products, eye_to_corner, holder, met, Holder};
 use crate::scene::{Patch, Scene};
-use crate::survey::Done;
 use crate::vector::{dot, wide, Vector};
 
 /// A cell of a view, from which one ray looks.
@@ -31,14 +29,24 @@ impl Cell {
         2 * self.i + 1 < usize::from(self.view.width)
     }
 
-    /// What the model shows of these patches.
-    pub fn closest(&self, patches: &[Patch]) -> u16 {
-        closest(patches, self.eye(), self.along())
+    /// Which of these patches has the cell in the model.
+    pub fn holder(&self, patches: &[Patch]) -> Holder {
+        holder(patches, self.eye(), self.along())
+    }
+
+    /// Which of the scene's patches that pass a test; the others keep their
+    /// numbers.
+    pub fn holder_among(&self, scene: &Scene, test: impl Fn(usize, &Patch) -> bool) -> Holder {
+        let patches = scene.patches();
+        let kept = (0..patches.len()).filter(|&k| test(k, &patches[k]));
+        let (numbers, few): (Vec<usize>, Vec<Patch>) =
+            kept.map(|k| (k, patches[k].clone())).unzip();
+        self.holder(&few).map(|k| numbers[k])
     }
 }
 
-/// What a cell shows, by its own rule.
-pub type Look = fn(&Scene, Cell) -> u16;
+/// Which patch a cell shows, by its own rule.
+pub type Look = fn(&Scene, Cell) -> Holder;
 
 pub const LOOKS: &[(&str, Look)] = &[
     ("edges count as inside", |s, c| by(s, c, touched, exact)),
@@ -68,52 +76,43 @@ pub const LOOKS: &[(&str, Look)] = &[
     ("edges in 32 bits", |s, c| by(s, c, met_in_32_bits, exact)),
     ("distance in single precision", |s, c| by(s, c, met, single)),
     ("highest number where level", |s, c| {
-        match c.closest(&patches(s, |p| 2_000 - p.panel)) {
-            0 => 0,
-            panel => 2_000 - panel,
-        }
+        let mut all = s.patches();
+        all.iter_mut().for_each(|p| p.panel = 2_000 - p.panel);
+        c.holder(&all)
     }),
     ("first stored is shown", |s, c| {
         let all = s.patches();
-        all.iter()
-            .find(|p| met(p, c.eye(), c.along()))
-            .map_or(0, |p| p.panel)
+        all.iter().position(|p| met(p, c.eye(), c.along()))
     }),
-    ("root's patches only", |s, c| match s.nodes.len() {
-        0 => 0,
-        _ => c.closest(&s.patches_of(0)),
+    ("root's patches only", |s, c| {
+        c.holder_among(s, |k, _| s.run_of(0).contains(&k))
     }),
     ("every eighth corner forgotten", |s, c| {
         let mut all = s.patches();
         all.iter_mut().for_each(|p| p.corners.truncate(7));
-        c.closest(&all)
+        c.holder(&all)
     }),
     ("panel 1,024 shown as 0", |s, c| {
-        c.closest(&s.patches()) % 1_024
+        let shown = c.holder(&s.patches());
+        shown.filter(|&k| s.records[k].panel != 1_024)
     }),
-    ("blank", |_, _| 0),
+    ("blank", |_, _| None),
 ];
-
-fn patches(scene: &Scene, panel: impl Fn(&Patch) -> u16) -> Vec<Patch> {
-    let mut all = scene.patches();
-    all.iter_mut().for_each(|p| p.panel = panel(p));
-    all
-}
 
 type Over = (i128, i128);
 type Meets = fn(&Patch, Vector, Vector) -> bool;
 
-/// The closest panel with another rule of meeting or of distance.
-fn by(scene: &Scene, cell: Cell, meets: Meets, against: fn(Over, Over) -> i128) -> u16 {
+/// The closest patch with another rule of meeting or of distance.
+fn by(scene: &Scene, cell: Cell, meets: Meets, against: fn(Over, Over) -> i128) -> Holder {
     let (eye, along) = (cell.eye(), cell.along());
-    let mut best: Option<(Over, u16)> = None;
-    for patch in scene.patches() {
-        let over = eye_to_corner(&patch, eye).abs();
-        let under = dot(along, patch_normal(&patch)).abs();
-        if under == 0 || !meets(&patch, eye, along) {
+    let mut best: Option<(Over, u16, usize)> = None;
+    for (k, patch) in scene.patches().iter().enumerate() {
+        let over = eye_to_corner(patch, eye).abs();
+        let under = dot(along, patch_normal(patch)).abs();
+        if under == 0 || !meets(patch, eye, along) {
             continue;
         }
-        let own = ((over, under), patch.panel);
+        let own = ((over, under), patch.panel, k);
         best = match best {
             Some(least) => match against(own.0, least.0) {
                 0 if own.1 < least.1 => Some(own),
@@ -123,7 +122,7 @@ fn by(scene: &Scene, cell: Cell, meets: Meets, against: fn(Over, Over) -> i128) 
             None => Some(own),
         };
     }
-    best.map_or(0, |(_, panel)| panel)
+    best.map(|(_, _, k)| k)
 }
 
 fn exact(a: Over, b: Over) -> i128 {
@@ -162,8 +161,8 @@ fn all_but_one(patch: &Patch, eye: Vector, along: Vector) -> bool {
     sign != 0 && forward && products.all(|p| p.signum() == sign)
 }
 
-/// The picture as one way of looking gives it.
-pub fn painted(scene: &Scene, view: View, look: Look) -> Vec<u16> {
+/// The cells as one way of looking gives them.
+pub fn painted(scene: &Scene, view: View, look: Look) -> Vec<Holder> {
     let width = usize::from(view.width);
     let cell = |at: usize| Cell {
         view,
@@ -172,112 +171,3 @@ pub fn painted(scene: &Scene, view: View, look: Look) -> Vec<u16> {
     };
     (0..view.cells()).map(|at| look(scene, cell(at))).collect()
 }
-
-/// Spoils what a right call left, given what the buffers held before.
-pub type Spoil = fn(&Done, &Lent, &mut Lent);
-
-pub const SPOILS: &[(&str, Difference, Spoil)] = &[
-    ("last cell left", Difference::Picture, |_, before, lent| {
-        keep_last(&before.picture, &mut lent.picture)
-    }),
-    (
-        "entry 0 of the counts not written",
-        Difference::Counts,
-        |_, before, lent| lent.counts[0] = before.counts[0],
-    ),
-    (
-        "entry 1,024 not written",
-        Difference::Counts,
-        |_, before, lent| keep_last(&before.counts, &mut lent.counts),
-    ),
-    (
-        "counts added to those before",
-        Difference::Counts,
-        |_, before, lent| {
-            for (own, old) in lent.counts.iter_mut().zip(&before.counts) {
-                *own = own.wrapping_add(*old);
-            }
-        },
-    ),
-    (
-        "counts of panels not shown left",
-        Difference::Counts,
-        |_, before, lent| {
-            for (own, old) in lent.counts.iter_mut().zip(&before.counts) {
-                *own = if *own == 0 { *old } else { *own };
-            }
-        },
-    ),
-    (
-        "last row's stretches left",
-        Difference::Unlit,
-        |_, before, lent| {
-            let from = lent.unlit.len() - ROW;
-            lent.unlit[from..].copy_from_slice(&before.unlit[from..]);
-        },
-    ),
-    ("unused pairs left", Difference::Unlit, |_, before, lent| {
-        let pairs = lent.unlit.chunks_mut(2).zip(before.unlit.chunks(2));
-        for (own, old) in pairs.filter(|(own, _)| own[1] == 0) {
-            own.copy_from_slice(old);
-        }
-    }),
-    ("touching stretches", Difference::Unlit, |_, _, lent| {
-        for row in lent
-            .unlit
-            .chunks_mut(ROW)
-            .filter(|row| row[1] > 1 && row[254] == 0)
-        {
-            row.copy_within(2..254, 4);
-            (row[3], row[2]) = (row[1] - 1, row[0] + 1);
-            row[1] = 1;
-        }
-    }),
-    ("128th stretch lost", Difference::Unlit, |_, _, lent| {
-        lent.unlit
-            .chunks_mut(ROW)
-            .for_each(|row| row[254..].fill(0))
-    }),
-    ("length in eight bits", Difference::Unlit, |_, _, lent| {
-        lent.unlit.chunks_mut(2).for_each(|pair| pair[1] %= 256)
-    }),
-    ("offset and last column", Difference::Unlit, |_, _, lent| {
-        let pairs = lent.unlit.chunks_mut(2).filter(|pair| pair[1] > 0);
-        pairs.for_each(|pair| pair[1] += pair[0]);
-    }),
-    ("counter left", Difference::Counter, |_, before, lent| {
-        lent.counter = before.counter
-    }),
-    ("counter from 0", Difference::Counter, |_, _, lent| {
-        lent.counter = 1
-    }),
-];
-
-fn keep_last<T: Copy>(before: &[T], lent: &mut [T]) {
-    if let (Some(own), Some(old)) = (lent.last_mut(), before.last()) {
-        *own = *old;
-    }
-}
-
-/// What a refusal leaves behind.
-pub type Trace = fn(&mut Lent);
-
-pub const TRACES: &[(&str, Difference, Trace)] = &[
-    ("picture cleared", Difference::TouchedPicture, |lent| {
-        lent.picture.fill(0)
-    }),
-    ("counts cleared", Difference::TouchedCounts, |lent| {
-        lent.counts.fill(0)
-    }),
-    ("stretches cleared", Difference::TouchedUnlit, |lent| {
-        lent.unlit.fill(0)
-    }),
-    ("counter raised", Difference::TouchedCounter, |lent| {
-        lent.counter = lent.counter.wrapping_add(1)
-    }),
-    ("one cell touched", Difference::TouchedPicture, |lent| {
-        if let Some(cell) = lent.picture.last_mut() {
-            *cell = cell.wrapping_add(1);
-        }
-    }),
-];

@@ -1,6 +1,6 @@
 //! Questions put wrongly, for the gates that are right but for one thing.
 
-use crate::call::{Call, ROW};
+use crate::call::Call;
 use crate::gate::*;
 use crate::scene::{pair_at, u16_at, u32_at, Scene, NONE};
 use crate::vector::{dot, minus, wide};
@@ -211,8 +211,4 @@ pub fn unseen<const K: usize>(call: &Call, _: &Scene) -> bool {
     let mut others = call.view.axes;
     *others.part(K) = 0;
     parts_within(&others, -100, 100) && call.view.axes.volume() > 0
-}
-
-pub fn unlit_fits(call: &Call) -> bool {
-    call.unlit_len == usize::from(call.view.height) * ROW
 }

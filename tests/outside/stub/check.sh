@@ -33,7 +33,7 @@ must() {
         grep -q " differences: $difference\$" "$work/report" ||
             { echo "$fault: $difference not seen"; exit 1; }
     done
-    for known in 'the turned stations' F-1.txt; do
+    for known in 'the turned stations' 'the booked stations' F-1.txt F-2.txt; do
         grep -q "^cases: [1-9][0-9]* of $known differ\$" "$work/report" ||
             { echo "$fault: $known not seen"; exit 1; }
     done
@@ -41,18 +41,21 @@ must() {
 }
 
 cases=300 bill=
-must silent 1 '' Answer Gate Picture Counts Unlit Counter FirstShowsClosest \
-    EqualWhenNoneCounted DifferWhereChosen SecondShowsKept
-must scribe 1 '' Answer Gate TouchedPicture TouchedCounts TouchedUnlit \
-    TouchedCounter TouchedScene
-must blank 1 '' Answer Gate Picture Counts Unlit TouchedPicture TouchedCounts \
-    TouchedUnlit TouchedCounter FirstShowsClosest
+must silent 1 '' Answer Gate Picture Counts PatchCounts Unlit Counter \
+    PanelSums FirstShowsClosest EqualWhenNoneCounted DifferWhereChosen \
+    SecondShowsKept
+must scribe 1 '' Answer Gate TouchedPicture TouchedCounts TouchedPatchCounts \
+    TouchedUnlit TouchedCounter TouchedScene
+must blank 1 '' Answer Gate Picture Counts PatchCounts Unlit TouchedPicture \
+    TouchedCounts TouchedPatchCounts TouchedUnlit TouchedCounter \
+    FirstShowsClosest
 bill="--ringbill $work/ringbill"
 must blank 1 '' Bill
 cases=40 bill=
 if command -v valgrind >/dev/null; then
     must blank 1 'valgrind --quiet --error-exitcode=99' Picture
     must beyond 99 'valgrind --quiet --error-exitcode=99' Picture
+    must booker 99 'valgrind --quiet --error-exitcode=99' PatchCounts
 fi
 [ -s "$work/outside-3-0-0.case" ] || { echo "no case was written"; exit 1; }
 "$differential" --no-such-word 2>/dev/null && exit 1

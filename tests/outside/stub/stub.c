@@ -3,7 +3,8 @@
  *   silent  says "done" and touches nothing;
  *   scribe  refuses with 1 and changes all it was lent, the scene too;
  *   blank   says "done" with a blank picture, rightly counted;
- *   beyond  as blank, and reads and writes one place outside its buffers. */
+ *   beyond  as blank, and reads and writes one place outside its buffers;
+ *   booker  as blank, and books one patch more than the table has. */
 #include <stddef.h>
 #include <stdint.h>
 #include <stdlib.h>
@@ -23,6 +24,7 @@ uint32_t ring_survey(const uint8_t *scene, size_t scene_len,
                      uint16_t width, uint16_t height, uint16_t lens,
                      uint16_t *picture, size_t picture_len,
                      uint32_t *counts, size_t counts_len,
+                     uint32_t *patch_counts, size_t patch_counts_len,
                      uint16_t *unlit, size_t unlit_len, uint32_t *counter)
 {
     (void)eye_x, (void)eye_y, (void)eye_z, (void)lens;
@@ -36,6 +38,8 @@ uint32_t ring_survey(const uint8_t *scene, size_t scene_len,
             picture[k] ^= 1;
         for (size_t k = 0; k < counts_len; k++)
             counts[k] ^= 1;
+        for (size_t k = 0; k < patch_counts_len; k++)
+            patch_counts[k] ^= 1;
         for (size_t k = 0; k < unlit_len; k++)
             unlit[k] ^= 1;
         *counter ^= 1;
@@ -45,6 +49,7 @@ uint32_t ring_survey(const uint8_t *scene, size_t scene_len,
         return 0;
     memset(picture, 0, picture_len * sizeof *picture);
     memset(counts, 0, counts_len * sizeof *counts);
+    memset(patch_counts, 0, patch_counts_len * sizeof *patch_counts);
     memset(unlit, 0, unlit_len * sizeof *unlit);
     counts[0] = (uint32_t)width * height;
     for (size_t j = 0; j * 256 + 1 < unlit_len; j++)
@@ -54,6 +59,8 @@ uint32_t ring_survey(const uint8_t *scene, size_t scene_len,
         volatile const uint8_t *past = scene + scene_len;
         picture[picture_len] = *past;
     }
+    if (fault_is("booker") && patch_counts_len > 0)
+        patch_counts[patch_counts_len] = 1;
     return 0;
 }
 
@@ -63,7 +70,8 @@ uint32_t ring_gate(const uint8_t *scene, size_t scene_len,
                    int16_t forward_x, int16_t forward_y, int16_t forward_z,
                    int16_t up_x, int16_t up_y, int16_t up_z,
                    uint16_t width, uint16_t height, uint16_t lens,
-                   size_t picture_len, size_t counts_len, size_t unlit_len,
+                   size_t picture_len, size_t counts_len,
+                   size_t patch_counts_len, size_t unlit_len,
                    uint32_t counter)
 {
     (void)scene, (void)scene_len, (void)eye_x, (void)eye_y, (void)eye_z;
@@ -71,6 +79,6 @@ uint32_t ring_gate(const uint8_t *scene, size_t scene_len,
     (void)forward_x, (void)forward_y, (void)forward_z;
     (void)up_x, (void)up_y, (void)up_z;
     (void)width, (void)height, (void)lens, (void)picture_len;
-    (void)counts_len, (void)unlit_len, (void)counter;
+    (void)counts_len, (void)patch_counts_len, (void)unlit_len, (void)counter;
     return fault_is("scribe") ? 1 : 0;
 }

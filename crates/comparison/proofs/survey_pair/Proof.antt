@@ -8,9 +8,9 @@ use Rattle.comparison.proofs.survey_pair.Tie as tie
 
 returns : tie.Need-returns
 returns c =
-    let second = c .before .before .before .before .before .before in
-    let first = c .before .before .before .before .before .before .before .before .before .before .before .before .before .before .before .before .before in
-    let e = c .before .before .before .before .before .before .before .before .before .before .before .before .before .before .before .before .before .before .before .before .before .before .before .before .before .before .before .before .before .before .fits in
+    let second = c .before .before .before .before .before .before .before .before in
+    let first = second .before .before .before .before .before .before .before .before .before .before .before .before .before .before in
+    let e = first .before .before .before .before .before .before .before .before .before .before .before .before .before .before .before .before .fits in
     let axes =
     same-axes (same-vector (e .right-x) (e .right-y) (e .right-z)) (same-vector (e .forward-x) (e .forward-y) (e .forward-z))
     (same-vector (e .up-x) (e .up-y) (e .up-z)) in
@@ -23,6 +23,8 @@ survey-pair-spec =
     (tie.spec
     (λ c κs. search needs)
     (λ c κs. search needs)
+    (λ c. search needs)
+    (λ c. search needs)
     (λ c. search needs)
     (λ c. search needs)
     (λ c. search needs)

@@ -12,11 +12,15 @@ use Rattle.input.proofs.survey_input.Tie as tie
 
 returns : tie.Need-returns
 returns c =
-    let survey = c .before .before .before .before in
-    let eye = survey .before .before .before .before .before in
+    let survey = c .before .before .before .before .before in
+    let eye = survey .before .before .before .before .before .before in
     let rows = eye .before .before .before .before in
-    let cells = rows .before .before in
-    let window = cells .before .before .before .before in
+    let patches = rows .before .before in
+    let cells = patches .before .before in
+    let unlit = cells .before .before in
+    let table = unlit .before in
+    let picture = table .before in
+    let window = picture .before in
     let start = window .before .before .before .before .before in
     surveyed-input (now (start .args .input)) (survey .ring-survey .ensures)
     (rest 12 (now (start .args .input)))
@@ -27,8 +31,9 @@ returns c =
     (window .before .before .word .ensures)
     (window .before .word2 .ensures)
     (window .word3 .ensures)
-    (length-take-le _ _ (omega arith) ∙ cells .capped .ensures .0 ∙ ap (λ (n : ℕ). min n 32768) (cells .before .area .ensures))
-    (length-take-le _ _ (omega arith) ∙ rows .capped2 .ensures .0 ∙ ap (λ (n : ℕ). min n 32768) (rows .before .area2 .ensures))
+    (length-take-le _ _ (omega (arith, picture .buffer .ensures, cells .capped .ensures .1)) ∙ cells .capped .ensures .0 ∙ ap (λ (n : ℕ). min n 32768) (cells .before .area .ensures))
+    (λ accepted. length-take-le _ _ (omega (arith, table .table .ensures, patches .patches-told .ensures .1)) ∙ patches .patches-told .ensures .0 accepted)
+    (length-take-le _ _ (omega (arith, unlit .buffer2 .ensures, rows .capped2 .ensures .1)) ∙ rows .capped2 .ensures .0 ∙ ap (λ (n : ℕ). min n 32768) (rows .before .area2 .ensures))
 
 pub survey-input-spec : {M : Type 1} → statement M
 survey-input-spec =
@@ -42,6 +47,11 @@ survey-input-spec =
     (λ c κs. search needs)
     (λ c κs. search needs)
     (λ c κs. search needs)
+    (λ c. search needs)
+    (λ c. search needs)
+    (λ c. search needs)
+    (λ c κs. search needs)
+    (λ c κs. search needs)
     (λ c κs. search needs)
     (λ c. search needs)
     (λ c. search needs)
@@ -49,6 +59,8 @@ survey-input-spec =
     (λ c κs. search needs)
     (λ c κs. search needs)
     (λ c κs. search needs)
+    (λ c. search needs)
+    (λ c. sym (length-take-le _ _ (omega arith)))
     (λ c. search needs)
     (λ c. sym (length-take-le _ _ (omega arith)))
     (λ c. search needs)

@@ -1,6 +1,7 @@
 -- `lay` meets its contract: an empty span changes nothing, any other is swept over the row.
 use borrow.Author.Needs.{needs}
-use Rattle.rows.proofs.Full.{lays-nothing, reports}
+use lib.ListN.{length}
+use Rattle.rows.proofs.Full.{lays-nothing, lights-nothing, reports}
 use Rattle.rows.proofs.lay.Statement.{statement}
 use Rattle.rows.proofs.lay.Tie as tie
 
@@ -17,7 +18,7 @@ returns : tie.Need-returns
 returns c =
     let w = c .before .before .before in
     let s = w .before .before .before .before .before in
-    (w .sweep .ensures, λ unlit e. reports (s .pre .fits) (w .sweep .ensures unlit e))
+    (w .sweep .ensures .0, λ unlit e. reports (s .pre .fits) (w .sweep .ensures .0 unlit e) (w .sweep .ensures .1 unlit e))
 
 element-copy-out-count-2 : tie.Need-element-copy-out-count-2
 element-copy-out-count-2 c = search needs
@@ -26,8 +27,9 @@ returns-2 : tie.Need-returns-2
 returns-2 c =
     let e = c .before in
     let s = e .before .before in
-    let l = lays-nothing (s .args .first) (s .args .last) (s .args .panel) (e .if1 .left) in
-    (l, λ unlit e. reports (s .pre .fits) (l unlit e))
+    let l = lays-nothing (s .args .first) (s .args .last) (e .if1 .left) (s .args .panel) in
+    let n = lights-nothing (s .args .first) (s .args .last) (e .if1 .left) (length (s .args .cells .now)) in
+    (l, λ unlit r. reports (s .pre .fits) (l unlit r) (n unlit))
 
 pub lay-spec : {M : Type 1} → statement M
 lay-spec =

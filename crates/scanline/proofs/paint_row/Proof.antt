@@ -1,5 +1,5 @@
--- `paint_row` meets its contract: the first k patches of the walk are painted.
-use mathlib.Core.Path.{_∙_}
+-- `paint_row` meets its contract: the first k patches of the walk are painted, and what each newly lit is written down.
+use mathlib.Core.Path.{_≡_, _∙_}
 use Prim.Native.Nat.{ℕ, _-_}
 use native.Mathlib.Omega.{arith}
 use borrow.Author.Needs.{needs}
@@ -7,28 +7,51 @@ use lib.ListN.{length}
 use Rattle.geometry.specs.Machine.{vecOf}
 use Rattle.model.specs.Format.{decode, patchNumbered}
 use Rattle.geometry.specs.Raster.{rayAt}
-use Rattle.scanline.proofs.WalkPainted.{PaintedUpTo, walk-starts, as-long, row-of-set, walk-ends, walk-goes, walk-full}
+use Rattle.scanline.proofs.WalkPainted.{walk-starts, as-long, row-of-set, walk-ends, walk-goes, walk-full}
+use Rattle.scanline.proofs.Counted.{CountedUpTo, lit-as-long, count-starts, count-ends, count-goes, count-full}
 use Rattle.scanline.proofs.paint_row.Statement.{statement}
 use Rattle.scanline.proofs.paint_row.Tie as tie
 
 abbrev Inv-loop : tie.InvT-loop
-Inv-loop bytes l order sight table j cells₀ row₀ k₀ cells row k =
-    PaintedUpTo (vecOf (sight .eye)) (λ (i : ℕ). rayAt (sight .raster) i j) (patchNumbered (decode bytes)) order (length cells₀) cells row k
+Inv-loop bytes l order sight table j cells₀ lits₀ row₀ k₀ cells lits row k =
+    CountedUpTo (vecOf (sight .eye)) (λ (i : ℕ). rayAt (sight .raster) i j) (patchNumbered (decode bytes)) order (length cells₀) cells row lits₀ lits k
 
 abbrev μ-loop : tie.MeasureT-loop
-μ-loop bytes l order sight table j cells₀ row₀ k₀ cells row k = length order - k
+μ-loop bytes l order sight table j cells₀ lits₀ row₀ k₀ cells lits row k = length order - k
+
+returns : tie.Need-returns Inv-loop μ-loop
+returns c =
+    let p = c .before .before .before in
+    let n = p .before .before .before .before in
+    let e = n .before .before .before .before .before .clear .kept .0 in (
+      as-long e (walk-full (n .before .loop .inv .painted) (n .loop-test .taken) (p .lay-patch .ensures) (c .if1 .taken)),
+      lit-as-long e (count-full (n .before .loop .inv) (c .before .before .before .before .before .before .before .before .before .before .before .before .before .before .before .before .before .before .pre .places) (n .loop-test .taken) (p .lay-patch .ensures) (c .if1 .taken)),
+    )
+
+loop-again : tie.Need-loop-again Inv-loop μ-loop
+loop-again c =
+    let p = c .before .before .before in
+    let n = p .before .before .before .before in
+    count-goes (n .before .loop .inv) (c .before .before .before .before .before .before .before .before .before .before .before .before .before .before .before .before .before .before .pre .places) (n .loop-test .taken) (p .lay-patch .ensures)
+
+returns-2 : tie.Need-returns-2 Inv-loop μ-loop
+returns-2 c =
+    let e = c .before .before .before .before .before .clear .kept .0 in (
+      as-long e (walk-ends (c .before .loop .inv .painted) (c .loop-test .left)),
+      lit-as-long e (count-ends (c .before .loop .inv) (c .loop-test .left)),
+    )
 
 clear-requires : tie.Need-clear-requires Inv-loop μ-loop
 clear-requires c κs = tt
 
 cast-fresh : tie.Need-cast-fresh Inv-loop μ-loop
-cast-fresh c = omega (arith, c .before .before .clear .kept .0, c .before .before .before .before .before .before .before .pre .narrow)
+cast-fresh c = omega (arith, c .before .before .clear .kept .0, c .before .before .before .before .before .before .before .before .pre .narrow)
 
 fresh-requires : tie.Need-fresh-requires Inv-loop μ-loop
 fresh-requires c κs = search needs
 
 loop-holds : tie.Need-loop-holds Inv-loop μ-loop
-loop-holds c = walk-starts (c .before .before .before .clear .kept .0) (c .before .before .before .clear .ensures) (c .fresh .ensures)
+loop-holds c = count-starts (walk-starts (c .before .before .before .clear .kept .0) (c .before .before .before .clear .ensures) (c .fresh .ensures))
 
 mul-n : tie.Need-mul-n Inv-loop μ-loop
 mul-n c = omega arith
@@ -43,13 +66,22 @@ lay-patch-requires : tie.Need-lay-patch-requires Inv-loop μ-loop
 lay-patch-requires c κs =
     let n = c .before .before .before in
     let l = n .before in
-    let b = l .before .before .before .before .before .before .before .before .before in
+    let b = l .before .before .before .before .before .before .before .before .before .before in
     record {
       scene = b .pre .drawable .checked;
       drawable = b .pre .drawable .each (l .loop .k) (n .loop-test .taken);
       below = b .pre .below;
-      under-work = row-of-set (l .loop .inv) (omega (arith, l .before .before .before .before .clear .kept .0, b .pre .narrow));
+      under-work = row-of-set (l .loop .inv .painted) (omega (arith, l .before .before .before .before .clear .kept .0, b .pre .narrow));
     }
+
+mul-lits : tie.Need-mul-lits Inv-loop μ-loop
+mul-lits c = mul-n (c .before .before .before .before .before .before)
+
+slice-write-lits : tie.Need-slice-write-lits Inv-loop μ-loop
+slice-write-lits c = let n = c .before .before .before .before .before .before in omega (arith, n .loop-test .taken, n .before .loop .inv .same, c .before .before .before .before .before .before .before .before .before .before .before .before .before .before .before .before .before .pre .places)
+
+add-k : tie.Need-add-k Inv-loop μ-loop
+add-k c = omega (arith, mul-n (c .before .before .before .before .before .before) .fits)
 
 same-length : tie.Need-same-length Inv-loop μ-loop
 same-length c =
@@ -57,34 +89,24 @@ same-length c =
     let n = p .before .before .before .before in
     omega (
       arith,
-      walk-goes (n .before .loop .inv) (n .loop-test .taken) (p .lay-patch .ensures) .long,
+      walk-goes (n .before .loop .inv .painted) (n .loop-test .taken) (p .lay-patch .ensures) .long,
       n .before .before .before .before .before .clear .kept .0,
     )
 
-returns : tie.Need-returns Inv-loop μ-loop
-returns c =
+same-length-2 : tie.Need-same-length-2 Inv-loop μ-loop
+same-length-2 c =
     let p = c .before .before .before in
     let n = p .before .before .before .before in
-    as-long (n .before .before .before .before .before .clear .kept .0)
-    (walk-full (n .before .loop .inv) (n .loop-test .taken) (p .lay-patch .ensures) (c .if1 .taken))
-
-add-k : tie.Need-add-k Inv-loop μ-loop
-add-k c = omega (arith, c .before .before .before .before .before .before .before .loop-test .taken)
+    count-goes (n .before .loop .inv) (c .before .before .before .before .before .before .before .before .before .before .before .before .before .before .before .before .before .before .pre .places) (n .loop-test .taken) (p .lay-patch .ensures) .same
 
 loop-less : tie.Need-loop-less Inv-loop μ-loop
 loop-less c = omega (arith, c .before .before .before .before .before .before .before .loop-test .taken)
 
-loop-again : tie.Need-loop-again Inv-loop μ-loop
-loop-again c =
-    let p = c .before .before .before in
-    let n = p .before .before .before .before in
-    walk-goes (n .before .loop .inv) (n .loop-test .taken) (p .lay-patch .ensures)
+same-length-3 : tie.Need-same-length-3 Inv-loop μ-loop
+same-length-3 c = c .before .loop .inv .painted .long ∙ c .before .before .before .before .before .clear .kept .0
 
-same-length-2 : tie.Need-same-length-2 Inv-loop μ-loop
-same-length-2 c = c .before .loop .inv .long ∙ c .before .before .before .before .before .clear .kept .0
-
-returns-2 : tie.Need-returns-2 Inv-loop μ-loop
-returns-2 c = as-long (c .before .before .before .before .before .clear .kept .0) (walk-ends (c .before .loop .inv) (c .loop-test .left))
+same-length-4 : tie.Need-same-length-4 Inv-loop μ-loop
+same-length-4 c = c .before .loop .inv .same
 
 pub paint-row-spec : {M : Type 1} → statement M
 paint-row-spec =
@@ -100,10 +122,14 @@ paint-row-spec =
     shared-slice-read-n
     cast-n
     lay-patch-requires
-    same-length
-    returns
+    mul-lits
+    slice-write-lits
     add-k
+    same-length
+    same-length-2
+    returns
     loop-less
     loop-again
-    same-length-2
+    same-length-3
+    same-length-4
     returns-2)

@@ -8,9 +8,9 @@ use Rattle.survey.proofs.ring_survey.Tie as tie
 
 returns : tie.Need-returns
 returns c =
-    let p = c .before .before .before .before .before .before in
-    let v = c .before .before .before .before .before .before .before .before .before .before .before in
-    let e = v .before .before .before .before .before .before .fits in
+    let p = c .before .before .before .before .before .before .before .before in
+    let v = p .before .before .before .before .before .before in
+    let e = v .before .before .before .before .before .before .before .fits in
     let eye = handed (e .eye-x) (e .eye-y) (e .eye-z) (v .before .vector .ensures) in
     let axes = v .axes-by .ensures ∙ same-axes (same-vector (e .right-x) (e .right-y) (e .right-z)) (same-vector (e .forward-x) (e .forward-y) (e .forward-z)) (same-vector (e .up-x) (e .up-y) (e .up-z)) in
     surveyed-from (same-view eye axes) (p .survey-view .ensures)
@@ -22,6 +22,7 @@ ring-survey-spec =
     (λ c κs. search needs)
     (λ c κs. search needs)
     (λ c κs. search needs)
+    (λ c. search needs)
     (λ c. search needs)
     (λ c. search needs)
     (λ c. search needs)

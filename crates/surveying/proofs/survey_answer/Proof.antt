@@ -1,8 +1,10 @@
 -- `surveying::survey_answer` meets its contract: each question is asked after those before it said yes.
 use borrow.Author.Needs.{needs}
 use Rattle.model.specs.Questions.{callQuestions}
+use Rattle.model.proofs.Tests.{true-of}
+use Rattle.model.proofs.Answers.{accepted-scene}
 use Rattle.model.proofs.FirstNo.{said}
-use Rattle.surveying.proofs.Gates.{scene-says-no, refused, accepted, asked}
+use Rattle.surveying.proofs.Gates.{scene-says-no, refused, accepted, scene-yes, asked}
 use Rattle.surveying.proofs.survey_answer.Statement.{statement}
 use Rattle.surveying.proofs.survey_answer.Tie as tie
 
@@ -16,6 +18,12 @@ returns-2 c = refused _ (search asked) 10 (search (said, asked) depth 40 fits 20
 returns-3 : tie.Need-returns-3
 unfolding callQuestions
 returns-3 c = refused _ (search asked) 14 (search (said, asked) depth 40 fits 20000)
+
+read-layout-requires : tie.Need-read-layout-requires
+read-layout-requires c κs =
+    let s = c .before .before .before .before in
+    let h = accepted-scene _ .0 (scene-yes _ (s .before .scene-answer .ensures) (s .if1 .left)) in
+    (true-of (h .header), true-of (h .sections))
 
 returns-4 : tie.Need-returns-4
 unfolding callQuestions
@@ -39,6 +47,7 @@ survey-answer-spec =
     returns-2
     (λ c κs. search needs)
     returns-3
+    read-layout-requires
     (λ c κs. search needs)
     returns-4
     (λ c κs. search needs)

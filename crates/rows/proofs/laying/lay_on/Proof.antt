@@ -1,5 +1,8 @@
 -- `lay_on` meets its contract: the columns that the span and the segment share are painted and leave the row, if there are any.
+use Prim.Native.Nat.{_≤_, _<_}
+use native.Mathlib.Omega.{arith}
 use borrow.Author.Needs.{needs}
+use lib.ListN.{length}
 use Rattle.rows.proofs.Stepping.{overlaps, run-placed, steps-met, steps-missed}
 use Rattle.rows.proofs.laying.lay_on.Statement.{statement}
 use Rattle.rows.proofs.laying.lay_on.Tie as tie
@@ -25,14 +28,26 @@ larger-requires c κs = search needs
 smaller-requires : tie.Need-smaller-requires
 smaller-requires c κs = search needs
 
-paint-requires : tie.Need-paint-requires
-paint-requires c κs =
-    let l = c .before in
-    let d = l .before .before .before in
-    let e = d .before in
+-- the cells from `from` to `to` are a run of the row's
+run :
+    (c : tie.After-smaller) →
+    (c .before .larger .result ≤ c .smaller .result)
+    × (c .smaller .result < length (c .before .before .before .before .before .before .before .before .before .before .args .cells .now))
+run c =
+    let t = c .before .before in
+    let e = t .before .before in
     let p = e .before .before .before in
-    run-placed (p .before .before .before .pre) (p .pair-at .ensures) (e .action-for .ensures) (l .larger .ensures) (c .smaller .ensures)
-    (l .before .before .if1 .taken)
+    run-placed (p .before .before .before .pre) (p .pair-at .ensures) (e .action-for .ensures) (c .before .larger .ensures) (c .smaller .ensures)
+    (t .if1 .taken)
+
+sub-lit : tie.Need-sub-lit
+sub-lit c = omega (arith, run c)
+
+add-lit : tie.Need-add-lit
+add-lit c = search needs
+
+paint-requires : tie.Need-paint-requires
+paint-requires c κs = run (c .before)
 
 keep-requires : tie.Need-keep-requires
 keep-requires c κs =
@@ -47,12 +62,13 @@ same-length c = search needs
 returns : tie.Need-returns
 returns c =
     let g = c .before .before .before .before in
-    let l = g .before .before in
-    let d = l .before .before .before in
+    let m = g .before .before in
+    let t = m .before .before in
+    let d = t .before in
     let e = d .before in
     let p = e .before .before .before in
     steps-met (p .before .before .before .pre) (p .pair-at .ensures) (e .action-for .ensures) (d .advanced .ensures)
-    (l .larger .ensures) (g .before .smaller .ensures) (g .paint .ensures) (c .keep .ensures)
+    (m .before .larger .ensures) (m .smaller .ensures) (t .if1 .taken) (g .paint .ensures) (c .keep .ensures)
 
 returns-2 : tie.Need-returns-2
 returns-2 c =
@@ -72,6 +88,8 @@ lay-on-spec =
     advanced-requires
     larger-requires
     smaller-requires
+    sub-lit
+    add-lit
     paint-requires
     keep-requires
     same-length

@@ -2,16 +2,16 @@
 use mathlib.Core.Path.{_∙_}
 use Prim.Native.Nat.{_-_}
 use native.Mathlib.Omega.{arith}
-use Rattle.rows.proofs.Sweeps.{Sweeps, starts, sweep-ends, sweep-out, sweep-reached, sweep-stops, sweep-goes}
+use Rattle.rows.proofs.Sweeps.{Sweeps, starts, sweep-ends, sweep-out, sweep-reached, sweep-fits, sweep-stops, sweep-goes}
 use Rattle.rows.proofs.laying.sweep.Statement.{statement}
 use Rattle.rows.proofs.laying.sweep.Tie as tie
 
 abbrev Inv-loop : tie.InvT-loop
-Inv-loop row₀ cells₀ first last panel k₀ looked₀ row cells k looked =
-    Sweeps row₀ cells₀ first last panel row cells k looked
+Inv-loop row₀ cells₀ first last panel k₀ looked₀ lit₀ row cells k looked lit =
+    Sweeps row₀ cells₀ first last panel row cells k looked lit
 
 abbrev μ-loop : tie.MeasureT-loop
-μ-loop row₀ cells₀ first last panel k₀ looked₀ row cells k looked = 128 - looked
+μ-loop row₀ cells₀ first last panel k₀ looked₀ lit₀ row cells k looked lit = 128 - looked
 
 loop-holds : tie.Need-loop-holds Inv-loop μ-loop
 loop-holds c = starts _ _ _ (c .before .pre .1)
@@ -36,15 +36,9 @@ lay-on-requires c κs =
     let a = i .before in
     sweep-reached (a .before .before .pre .0) (p .pair-at .ensures) (a .loop .inv .on) (i .loop-test .taken) (e .if1 .left)
 
-add-looked : tie.Need-add-looked Inv-loop μ-loop
-add-looked c = omega arith
-
-loop-less : tie.Need-loop-less Inv-loop μ-loop
-loop-less c = omega arith
-
 loop-again : tie.Need-loop-again Inv-loop μ-loop
 loop-again c =
-    let l = c .before .before .before in
+    let l = c .before .before .before .before in
     let e = l .before .before .before in
     let p = e .before .before in
     let i = p .before .before in
@@ -53,12 +47,12 @@ loop-again c =
 
 same-length-2 : tie.Need-same-length-2 Inv-loop μ-loop
 same-length-2 c =
-    let l = c .before .before .before in
+    let l = c .before .before .before .before in
     l .lay-on .kept .1 .0 ∙ l .before .before .before .before .before .before .before .before .loop .inv .on .width
 
 returns-2 : tie.Need-returns-2 Inv-loop μ-loop
 returns-2 c =
-    let l = c .before .before .before in
+    let l = c .before .before .before .before in
     let e = l .before .before .before in
     let p = e .before .before in
     let i = p .before .before in
@@ -73,6 +67,19 @@ returns-3 c =
     let a = c .before in
     sweep-out (a .before .before .pre .0) (a .loop .inv .on) (c .loop-test .left)
 
+-- the counts of a turn
+add-lit : tie.Need-add-lit Inv-loop μ-loop
+add-lit c =
+    let l = c .before .before .before in
+    let a = l .before .before .before .before .before .before .before .before in
+    omega (arith, sweep-fits (a .loop .inv .on) (l .lay-on .ensures))
+
+add-looked : tie.Need-add-looked Inv-loop μ-loop
+add-looked c = omega arith
+
+loop-less : tie.Need-loop-less Inv-loop μ-loop
+loop-less c = omega arith
+
 pub sweep-spec : {M : Type 1} → statement M
 sweep-spec =
     tie.close
@@ -84,6 +91,7 @@ sweep-spec =
     same-length
     returns
     lay-on-requires
+    add-lit
     add-looked
     loop-less
     loop-again

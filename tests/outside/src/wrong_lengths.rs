@@ -1,0 +1,130 @@
+//! Gates that are right but for question 11.
+
+use std::collections::BTreeSet;
+
+use crate::call::{Call, COUNTS, ROW};
+use crate::gate::{table_fits, view_lengths_fit, Gate, Question};
+use crate::scene::Scene;
+use crate::wrong_gate::{asked, place, WrongGate};
+
+pub const LENGTHS: &[WrongGate] = &[
+    ("11: longer picture", || {
+        asked(11, |c, s| {
+            c.picture_len >= c.view.cells() && counts_fit(c) && unlit_fits(c) && table_fits(c, s)
+        })
+    }),
+    ("11: longer counts", || {
+        asked(11, |c, s| {
+            c.counts_len >= COUNTS && picture_fits(c) && unlit_fits(c) && table_fits(c, s)
+        })
+    }),
+    ("11: longer unlit", || {
+        asked(11, |c, s| {
+            let rows = usize::from(c.view.height);
+            c.unlit_len >= rows * ROW && picture_fits(c) && counts_fit(c) && table_fits(c, s)
+        })
+    }),
+    ("11: patch table unseen", || tabled(|_, _| true)),
+    ("11: longer patch table", || {
+        tabled(|c, s| c.patch_counts_len >= s.records.len())
+    }),
+    ("11: shorter patch table", || {
+        tabled(|c, s| c.patch_counts_len <= s.records.len())
+    }),
+    ("11: patch table within 1,024", || {
+        tabled(|c, _| c.patch_counts_len <= 1_024)
+    }),
+    ("11: patch table of 1,024 entries", || {
+        tabled(|c, _| c.patch_counts_len == 1_024)
+    }),
+    ("11: patch table as long as the counts lent", || {
+        tabled(|c, _| c.patch_counts_len == c.counts_len)
+    }),
+    ("11: counts as long as the patch table", || {
+        asked(11, |c, s| {
+            c.counts_len == s.records.len()
+                && c.patch_counts_len == COUNTS
+                && picture_fits(c)
+                && unlit_fits(c)
+        })
+    }),
+    ("11: patch table with an entry for nothing", || {
+        tabled(|c, s| c.patch_counts_len == s.records.len() + 1)
+    }),
+    ("11: patch table of one entry at least", || {
+        tabled(|c, s| c.patch_counts_len == s.records.len().max(1))
+    }),
+    ("11: one entry a node", || {
+        tabled(|c, s| c.patch_counts_len == s.nodes.len())
+    }),
+    ("11: one entry a corner", || {
+        tabled(|c, s| c.patch_counts_len == s.corners.len())
+    }),
+    ("11: one entry a panel", || {
+        tabled(|c, s| c.patch_counts_len == panels(s))
+    }),
+    ("11: patch table in bytes", || {
+        tabled(|c, s| c.patch_counts_len == 4 * s.records.len())
+    }),
+    ("11: patch table's length in 16 bits", || {
+        tabled(|c, s| usize::from(c.patch_counts_len as u16) == s.records.len())
+    }),
+    ("11: patch table before all but 1 and 2", || apart(Some(3))),
+    ("11: patch table before 10", || apart(Some(10))),
+    ("11: patch table before 14", || apart(Some(14))),
+    ("11: patch table after 12", || apart(None)),
+];
+
+/// Show only where the gate alone is asked: nobody lends so much.
+pub const SHORT_LENGTHS: &[WrongGate] = &[
+    ("11: lengths in 32 bits", || {
+        asked(11, |c, s| {
+            c.picture_len as u32 as usize == c.view.cells()
+                && c.counts_len as u32 as usize == COUNTS
+                && c.patch_counts_len as u32 as usize == s.records.len()
+                && c.unlit_len as u32 == u32::from(c.view.height) * 256
+        })
+    }),
+    ("11: patch table's length in 32 bits", || {
+        tabled(|c, s| c.patch_counts_len as u32 as usize == s.records.len())
+    }),
+];
+
+fn picture_fits(call: &Call) -> bool {
+    call.picture_len == call.view.cells()
+}
+
+fn counts_fit(call: &Call) -> bool {
+    call.counts_len == COUNTS
+}
+
+fn unlit_fits(call: &Call) -> bool {
+    call.unlit_len == usize::from(call.view.height) * ROW
+}
+
+fn panels(scene: &Scene) -> usize {
+    let panels = scene.records.iter().map(|record| record.panel);
+    panels.collect::<BTreeSet<u16>>().len()
+}
+
+/// Question 11 with something else asked of the patch table.
+fn tabled(question: Question) -> Gate {
+    parted(Some(12), question)
+}
+
+/// The patch table's length asked in another place than the other lengths.
+fn apart(before: Option<u32>) -> Gate {
+    parted(before, table_fits)
+}
+
+/// Question 11 in two parts, the second of them before another question or
+/// after all.
+fn parted(before: Option<u32>, second: Question) -> Gate {
+    let mut gate = asked(11, |c, _| view_lengths_fit(c));
+    let at = match before {
+        Some(number) => place(&gate, number),
+        None => gate.questions.len(),
+    };
+    gate.questions.insert(at, (11, second));
+    gate
+}
