@@ -48,7 +48,7 @@ results c =
       counter = callCounter c;
     }
 
--- the results where the answer is 0, and what was there before where it is a refusal: "nothing lent is altered"
+-- the results where the answer is 0, and what was there before where it is a refusal. Document 01: "nothing lent is altered"
 abbrev pub leftBy : ℕ → Lent → Lent → Lent
 leftBy zero new old = new
 leftBy (suc n) new old = old

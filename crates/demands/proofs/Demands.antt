@@ -26,7 +26,7 @@ use Rattle.model.proofs.Answers.{AcceptedCall, accepted-call, all-yes, answer-y
 use Rattle.model.proofs.Closest.{closest-right}
 use Rattle.model.proofs.Counts.{counts-at}
 use Rattle.model.proofs.Pictures.{picture-length, picture-at, picture-total}
-use Rattle.model.proofs.Booked.{booked-once, booked-panel}
+use Rattle.model.proofs.Booked.{has-cell, booked-some, booked-once, booked-panel}
 use Rattle.model.proofs.PanelSums.{patch-entries, patch-entry, panel-sum}
 use Rattle.model.proofs.Removal.{pictures-counts, cell-differs, cell-shows}
 use Rattle.segments.proofs.Rows.{row-length, row-congr}
@@ -133,6 +133,11 @@ module _ (bytes : List ℕ) (v : View) (before : Lent) (accepted : AcceptedCall 
             (panel-bounded (decode bytes) (accepted .scene .panels));
         booked = entry;
         patchEntries = patch-entries (v .eye) (viewWidth v) (viewHeight v) (viewDirection v) (patchesIn bytes);
+        bookedFirst = λ i j. has-cell (v .eye) (viewDirection v i j) (patchesIn bytes);
+        bookedSome =
+            λ i j hi hj f.
+            booked-some (v .eye) (viewDirection v i j) (patchesIn bytes)
+            (λ e. f (picture-at (v .eye) (viewWidth v) (viewHeight v) (viewDirection v) (patchesIn bytes) i j hi hj ∙ e));
         bookedOnce = λ i j. booked-once (v .eye) (viewDirection v i j) (patchesIn bytes);
         bookedPanel =
             λ i j k hi hj hk t.

@@ -14,7 +14,7 @@ use Rattle.model.specs.Lent.{Lent}
 use Rattle.model.specs.Format.{decode, patchTable}
 use Rattle.model.specs.Row.{rowOf, rowLength}
 use Rattle.model.specs.Picture.{countEntries}
-use Rattle.model.specs.Booking.{hasCell, cellsWhere}
+use Rattle.model.specs.Booking.{hasCell, HasCell, cellsWhere}
 use Rattle.model.specs.Call.{Call}
 use Rattle.model.specs.Questions.{Question, questions, surveyAnswer}
 use Rattle.model.specs.Removal.{isChosen, kept, TakenAway}
@@ -42,9 +42,10 @@ pub record RefusesRightly (bytes : List ℕ) (v : View) (before after : Lent) (r
 
 -- Demand 2, of an accepted call: "Each cell of an accepted scene's picture holds the panel that Fuchs, Kedem and Naylor define: the polygon closest to the eye along
 -- that cell's sight line. A polygon is met only strictly inside its edges; at one and the same nearest point the lowest panel number shows; where none is met the
--- cell holds 0. All of it is exact in whole numbers, and each count is the number of such cells." The counts "add up to width × height"; the unlit lists are the
+-- cell holds 0. All of it is exact in whole numbers, and each count is the number of such cells." Document 01: the counts "add up to width × height"; the unlit lists are the
 -- rows of the cells that hold 0. Document 02, F-2: "A further lent table (u32, one entry a patch) receives each patch's cells. A panel's count is the sum over its
--- patches." No cell is booked for two patches, and the patch that has it is of the panel that it shows.
+-- patches." No cell is booked to two patches, the patch that has a cell is of the panel that the cell shows, and each cell that shows a panel is some patch's. Whose it is: "Where two patches
+-- of one panel overlap in a plane, the earlier in the list has the cell."
 pub record ClosestPanels (bytes : List ℕ) (v : View) (after : Lent) : Type 0 where
   pub cells :
       (i j : ℕ) → i < viewWidth v → j < viewHeight v →
@@ -57,6 +58,11 @@ pub record ClosestPanels (bytes : List ℕ) (v : View) (after : Lent) : Type 0 w
       (k : ℕ) → k < length (patchesIn bytes) →
       getD (after .patchCounts) k 0 ≡ cellsWhere (viewWidth v) (viewHeight v) (λ (i j : ℕ). patchHas bytes v i j k)
   pub patchEntries : length (after .patchCounts) ≡ length (patchesIn bytes)
+  pub bookedFirst :
+      (i j k : ℕ) → T (patchHas bytes v i j k) ↔ HasCell (v .eye) (viewDirection v i j) (patchesIn bytes) k
+  pub bookedSome :
+      (i j : ℕ) → i < viewWidth v → j < viewHeight v → ¬ (cell v (after .picture) i j ≡ 0) →
+      (k : ℕ) × (k < length (patchesIn bytes)) × T (patchHas bytes v i j k)
   pub bookedOnce :
       (i j k m : ℕ) → k < length (patchesIn bytes) → m < length (patchesIn bytes) →
       T (patchHas bytes v i j k) → T (patchHas bytes v i j m) → k ≡ m

@@ -98,6 +98,14 @@ scenePieces =
     ++ (square (pos 100) (pos 80)
     ++ square (pos 100) (pos 50))))
 
+-- T with panel 5 for both squares, the nearer one of half-width 10: the farther piece stands first in the table
+abbrev pub sceneNear : List ℕ
+sceneNear =
+    sceneBytes
+    (nodeLine (upright (pos 100) (pos 50)) 1 none 0 1 ∷ nodeLine (upright (pos 50) (pos 10)) none none 1 1 ∷ [])
+    (patchLine 5 0 4 ∷ patchLine 5 4 4 ∷ [])
+    (square (pos 100) (pos 50) ++ square (pos 50) (pos 10))
+
 -- "A scene of 32 bytes with no node is legal and shows nothing."
 abbrev pub noNodes : List ℕ
 noNodes = sceneBytes [] [] []

@@ -15,7 +15,7 @@ use Rattle.model.specs.Call.{Call}
 use Rattle.model.specs.Questions.{surveyAnswer}
 use Rattle.model.specs.Survey.{callPatches, callPicture, callCounts, callPatchCells, callUnlit}
 use Rattle.model.proofs.Computing.{everything}
-use Rattle.model.proofs.Scenes.{sceneS, sceneT, sceneTless5, sceneTless7, scene3and5, sceneQuarters, sceneWall, sceneTwice, scenePieces, noNodes, sOfHalfWidth, turnedCall, fittingCall, usual}
+use Rattle.model.proofs.Scenes.{sceneS, sceneT, sceneTless5, sceneTless7, scene3and5, sceneQuarters, sceneWall, sceneTwice, scenePieces, sceneNear, noNodes, sOfHalfWidth, turnedCall, fittingCall, usual}
 
 -- what is seen of a call: its answer (0 is "done"), its picture, the used pairs of some rows, and the counts of some panels (of "nothing" at 0)
 pub record Outcome : Type 0 where
@@ -183,3 +183,17 @@ pub pieces-overlap :
     }
 unfolding everything booked
 pieces-overlap = refl
+
+-- A panel in two nodes: the nearer piece has its cells, though it stands later in the table.
+pub nearer-piece :
+    booked (fittingCall sceneNear origin 8 8 8) (5 ∷ []) ≡
+    record {
+      result = 0;
+      shown =
+          0 ∷ 0 ∷ 0 ∷ 0 ∷ 0 ∷ 0 ∷ 0 ∷ 0 ∷ 0 ∷ 0 ∷ 0 ∷ 0 ∷ 0 ∷ 0 ∷ 0 ∷ 0 ∷ 0 ∷ 0 ∷ 5 ∷ 5 ∷ 5 ∷ 5 ∷ 0 ∷ 0 ∷ 0 ∷ 0 ∷ 5 ∷ 5 ∷ 5 ∷ 5 ∷ 0 ∷ 0 ∷ 0 ∷ 0 ∷ 5 ∷ 5 ∷ 5 ∷ 5 ∷ 0 ∷ 0 ∷ 0 ∷ 0 ∷ 5 ∷ 5 ∷ 5 ∷ 5 ∷ 0 ∷ 0 ∷ 0 ∷ 0 ∷ 0 ∷ 0 ∷ 0 ∷ 0 ∷ 0 ∷ 0 ∷ 0 ∷ 0 ∷ 0 ∷ 0 ∷ 0 ∷ 0 ∷ 0 ∷ 0 ∷ [];
+      each = 12 ∷ 4 ∷ [];
+      counted = 16 ∷ [];
+      added = 16 ∷ [];
+    }
+unfolding everything booked
+nearer-piece = refl

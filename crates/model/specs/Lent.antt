@@ -1,4 +1,4 @@
--- What is lent to the survey call, and how long it is: a further buffer is one more field of each record here.
+-- What is lent to the survey call, and how long it is.
 use mathlib.Core.List.{List}
 use Prim.Native.Nat.{ℕ}
 use lib.ListN.{length}

@@ -1,4 +1,4 @@
--- What an accepted call leaves in the lent buffers, from the closest panels alone: for a width, a height and any direction of each cell.
+-- The picture, the counts, the unlit lists and the counter that an accepted call leaves, from the closest panels alone: for a width, a height and any direction of each cell.
 use mathlib.Core.List.{List, map, flatten}
 use Prim.Native.Nat.{ℕ, _+_}
 use lib.Dec.{eqb}

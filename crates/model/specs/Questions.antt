@@ -198,13 +198,13 @@ axesProper a =
     && ltZ (pos 0) (dot (a .right) (cross (a .forward) (a .up)))
 
 -- 11. "Has the picture (u16) width × height cells, the counts (u32) 1,025, the unlit lists (u16) height × 256?" Document 02, F-2: "A further lent table (u32, one
--- entry a patch)"; "Question 11 covers the new table's length." `patches` is how many the scene has, which has passed 1 to 9 by then.
+-- entry a patch)"; "Question 11 covers the new table's length." `patches` is the scene's patch count; the scene has passed 1 to 9 by then.
 unfoldable pub lengthsFit : Camera → ℕ → Lengths → Bool
-lengthsFit a patches l =
-    eqb (l .picture) (a .window .width * a .window .height)
+lengthsFit c patches l =
+    eqb (l .picture) (c .window .width * c .window .height)
     && eqb (l .counts) countEntries
     && eqb (l .patchCounts) patches
-    && eqb (l .unlit) (a .window .height * rowLength)
+    && eqb (l .unlit) (c .window .height * rowLength)
 
 -- 12. "Is the station counter below 4,294,967,295?"
 unfoldable pub counterBelowEnd : ℕ → Bool

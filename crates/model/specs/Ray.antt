@@ -48,7 +48,7 @@ distance eye d p = record { numerator = eyeProduct eye p; denominator = dot d (n
 abbrev pub below : Fraction → Fraction → Bool
 below f g = ltb (natAbs (f .numerator) * natAbs (g .denominator)) (natAbs (g .numerator) * natAbs (f .denominator))
 
--- patch p shows before patch q: it is nearer, or they are level and its panel number is lower
+-- patch p precedes patch q: it is nearer, or they are level and its panel number is lower
 unfoldable pub precedes : Vec → Vec → Patch → Patch → Bool
 precedes eye d p q =
     below (distance eye d p) (distance eye d q)

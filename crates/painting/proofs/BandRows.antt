@@ -19,12 +19,12 @@ use Rattle.painting.specs.declared.Band.{Band}
 use Rattle.scanline.specs.Shown.{shownAfter}
 use Rattle.scanline.specs.Laying.{walkOf}
 use Rattle.placing.specs.Framing.{Framed, withRow, RowPlaced, RowDone, RowsUpTo}
-use Rattle.placing.specs.Booked.{rowCells, AtMost, RowBooked}
+use Rattle.placing.specs.Booked.{AtMost}
 use Rattle.painting.specs.Bands.{BandPainted, BandBooked}
 use Rattle.scanline.proofs.FirstShown.{unlit-stays, shown-stays}
 use Rattle.placing.proofs.RowsPlaced.{still-framed, rows-go, rows-stay}
-use Rattle.placing.proofs.FirstBooked.{row-stays}
-use Rattle.placing.proofs.RowsBooked.{booked-as, book-go, row-adds}
+use Rattle.placing.proofs.FirstBooked.{rowCells, row-stays}
+use Rattle.placing.proofs.RowsBooked.{RowBooked, booked-as, book-go, row-adds}
 
 -- a full row is what the whole walk leaves
 full-placed :

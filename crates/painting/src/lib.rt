@@ -37,7 +37,7 @@ fn waits(whole: bool, full: bool) -> bool
     !full
 }
 
-// Paints the rows of a band with the part of the walk that is ready, and returns the row after the last one painted: the first that is not full while the
+// Paints the rows of a band with the part of the walk that is ready, and returns the row after the last one finished: the first that is not full while the
 // walk goes on. That row is painted anew later, so it is not booked yet. The patches that reach none of the rows are left out once for all, and those that do not reach
 // a row before it is painted.
 fn paint_band(
@@ -98,7 +98,7 @@ fn band_end(from: u16, height: u16) -> u16
 }
 
 // Band after band. Where a row is not full with the part of the walk that is ready, more of it is made ready, and the row is painted anew.
-// What the two tables hold at entry does not matter; what they hold at exit is left free.
+// What `edges` and `rows` hold at entry does not matter; what they hold at exit is left free.
 pub fn paint_rows(
     bytes: &[u8],
     l: Layout,

@@ -13,7 +13,10 @@ use Rattle.model.specs.Booking.{firstIs}
 use Rattle.model.specs.Questions.{unlitAfter}
 use Rattle.segments.proofs.Tallies.{tally-or, tally-congr}
 use Rattle.scanline.specs.Shown.{newlyLit}
-use Rattle.placing.specs.Booked.{rowCells}
+
+-- how many cells of a row are booked to patch n: those whose rays meet it, and no patch of the walk before it
+unfoldable pub rowCells : Vec → (ℕ → Vec) → (ℕ → Patch) → List ℕ → ℕ → ℕ → ℕ
+rowCells eye ray patch order width n = tally (λ (i : ℕ). firstIs eye (ray i) patch order n) (range 0 width)
 
 module _ (eye d : Vec) (patch : ℕ → Patch) (n : ℕ) where
   -- one patch more is the first where none before it is met

@@ -29,7 +29,7 @@ use Rattle.edges.specs.declared.Sight.{Sight}
 use Rattle.scanline.specs.Shown.{shownAfter}
 use Rattle.scanline.specs.Laying.{PatchDrawable, Drawable, walkOf}
 use Rattle.placing.specs.Framing.{withRow, RowDone}
-use Rattle.placing.specs.Booked.{rowCells}
+use Rattle.placing.proofs.FirstBooked.{rowCells}
 use Rattle.model.proofs.Tests.{is-true, both-true}
 use Rattle.readiness.specs.Ready.{InSight, Drawn, ReachKnown, Reached}
 

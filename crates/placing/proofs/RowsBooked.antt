@@ -20,8 +20,8 @@ use Rattle.model.proofs.Tests.{lt-or-ge}
 use Rattle.model.proofs.Ranges.{range-append}
 use Rattle.segments.proofs.Tallies.{tally-most, tally-clear}
 use Rattle.scanline.specs.Shown.{newlyLit, RowLit}
-use Rattle.placing.specs.Booked.{rowCells, addedTo, AtMost, Bookable, Books, RowBooked, BookedUpTo}
-use Rattle.placing.proofs.FirstBooked.{row-more, row-stays}
+use Rattle.placing.specs.Booked.{addedTo, AtMost, Bookable, Books, BookedUpTo}
+use Rattle.placing.proofs.FirstBooked.{rowCells, row-more, row-stays}
 
 -- the last of the numbers of a table, added
 sum-last : (f : ℕ → ℕ) (k : ℕ) → sum _+_ 0 (map f (range 0 (k + 1))) ≡ sum _+_ 0 (map f (range 0 k)) + f k
@@ -80,6 +80,12 @@ module _ {order lits booked : List ℕ} where
         record { same = inv .same; each = λ n l. inv .each n l ∙ ap (λ (m : ℕ). getD booked n 0 + addedTo order lits m n) e }
 
 -- ---- a row
+
+-- the cells of a row are added to the entries of their patches
+pub record RowBooked
+    (eye : Vec) (ray : ℕ → Vec) (patch : ℕ → Patch) (order : List ℕ) (width : ℕ) (booked booked′ : List ℕ) : Type 0 where
+  pub same : length booked′ ≡ length booked
+  pub each : (n : ℕ) → n < length booked → getD booked′ n 0 ≡ getD booked n 0 + rowCells eye ray patch order width n
 
 module _ {eye : Vec} {ray : ℕ → Vec} {patch : ℕ → Patch} {order : List ℕ} {width : ℕ} {lits : List ℕ} {laid : ℕ} (lit : RowLit eye ray patch order width lits laid) where
   -- what the patches so far newly lit are the cells booked to them

@@ -5,24 +5,20 @@ use mathlib.Core.List.{List, map, sum}
 use Prim.Native.Nat.{ℕ, _+_, _≤_, _<_}
 use lib.Dec.{eqb}
 use lib.ListN.{length, getD}
-use Rattle.model.specs.Lists.{range, tally}
+use Rattle.model.specs.Lists.{range}
 use Rattle.model.specs.Vector.{Vec}
 use Rattle.model.specs.Patch.{Patch}
 use Rattle.model.specs.Booking.{firstIs, cellsWhere}
 
--- how many cells of a row are booked to patch n: those whose rays meet no patch of the walk before it
-unfoldable pub rowCells : Vec → (ℕ → Vec) → (ℕ → Patch) → List ℕ → ℕ → ℕ → ℕ
-rowCells eye ray patch order width n = tally (λ (i : ℕ). firstIs eye (ray i) patch order n) (range 0 width)
-
--- the sum of the numbers in those of the first k places of a walk where n stands
+-- the sum of `lits` over those of the first k places where `order` has n
 unfoldable pub addedTo : List ℕ → List ℕ → ℕ → ℕ → ℕ
 addedTo order lits k n = sum _+_ 0 (map (λ (m : ℕ). cond (eqb (getD order m 0) n) (getD lits m 0) 0) (range 0 k))
 
--- no entry is above the cells of the rows that a number of rows has at most
+-- no entry is above `most`
 abbrev pub AtMost : List ℕ → ℕ → Type 0
 AtMost booked most = (n : ℕ) → n < length booked → getD booked n 0 ≤ most
 
--- each number of the walk has an entry, with room for what a row adds
+-- Each number of the walk has an entry. None is above 256 × 1,024, what 1,024 rows of 256 cells book at most: 32 bits have room for 1,024 numbers of 16 bits more.
 pub record Bookable (order lits booked : List ℕ) (laid : ℕ) : Type 0 where
   pub entries : (k : ℕ) → k < length order → getD order k 0 < length booked
   pub most : laid ≤ length order
@@ -34,12 +30,6 @@ pub record Bookable (order lits booked : List ℕ) (laid : ℕ) : Type 0 where
 pub record Books (order lits : List ℕ) (laid : ℕ) (booked booked′ : List ℕ) : Type 0 where
   pub same : length booked′ ≡ length booked
   pub each : (n : ℕ) → n < length booked → getD booked′ n 0 ≡ getD booked n 0 + addedTo order lits laid n
-
--- the cells of a row are added to the entries of their patches
-pub record RowBooked
-    (eye : Vec) (ray : ℕ → Vec) (patch : ℕ → Patch) (order : List ℕ) (width : ℕ) (booked booked′ : List ℕ) : Type 0 where
-  pub same : length booked′ ≡ length booked
-  pub each : (n : ℕ) → n < length booked → getD booked′ n 0 ≡ getD booked n 0 + rowCells eye ray patch order width n
 
 -- each patch's entry has its cells of the rows before row j
 pub record BookedUpTo

@@ -28,7 +28,7 @@ pub record RowPlaced
   pub cells-are : picture′ ≡ withRow width j (map (shownAfter eye ray walk) (range 0 width)) picture
   pub row-is : unlit′ ≡ withRow rowLength j (rowOf width (unlitAfter eye ray walk)) unlit
 
--- and, where `full` says so, no column of it is unlit
+-- and, where `full` is true, no column of it is unlit; where it is false nothing is said
 pub record RowDone
     (eye : Vec) (ray : ℕ → Vec) (walk : List Patch) (width j : ℕ) (picture unlit picture′ unlit′ : List ℕ) (full : Bool) : Type 0 where
   pub placed : RowPlaced eye ray walk width j picture unlit picture′ unlit′

@@ -1,4 +1,4 @@
--- What painting a row in its places asks.
+-- Painting a row in its places.
 use mathlib.Core.List.{List}
 use Prim.Native.Nat.{ℕ, _≤_, _<_}
 use lib.IntN.{ℤ}

@@ -28,7 +28,7 @@ fn put_row(row: [u16; 256], place: &mut [u16])
 
 // What painting a row in its places reports.
 pub struct Placed {
-    // Its first unlit segment has length 0. A row that is full and not told so would cost time alone.
+    // True only where the row is full: its first unlit segment has length 0. Where it is false nothing is said.
     pub full: bool,
     // How many patches of the walk were laid.
     pub laid: usize,

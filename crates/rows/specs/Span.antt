@@ -20,7 +20,8 @@ pub record Lays (unlit : ℕ → Bool) (first last panel : ℕ) (cells row′ ce
   pub row-is : row′ ≡ rowOf (length cells) (afterSpan unlit first last)
   pub cells-are : cells′ ≡ painted (λ (i : ℕ). unlit i && inSpan first last i) panel cells
 
--- what it reports: whether no column is unlit any more, and how many it newly lit, those that were unlit and lie in the span
+-- what it reports: whether no column is unlit any more, and how many it newly lit, those that were unlit and lie in the span. Document 02, F-2: "Laying a span on a
+-- row now also says how many cells it newly lit."
 pub record Reports (unlit : ℕ → Bool) (first last width : ℕ) (full : Bool) (lit : ℕ) : Type 0 where
   pub full-is : full ≡ allLit width (afterSpan unlit first last)
   pub lit-is : lit ≡ tally (λ (i : ℕ). unlit i && inSpan first last i) (range 0 width)

@@ -24,8 +24,8 @@ pub record RowPainted (eye : Vec) (ray : ℕ → Vec) (walk : List Patch) (width
 unfoldable pub newlyLit : Vec → (ℕ → Vec) → ℕ → List Patch → Patch → ℕ
 newlyLit eye ray width painted p = tally (λ (i : ℕ). unlitAfter eye ray painted i && met eye (ray i) p) (range 0 width)
 
--- The first `laid` patches of a walk were laid, and each place of the list holds what the patch there newly lit. Where some were not laid, the row is full
--- without them: they light nothing. What the list holds from place `laid` on is left free.
+-- The first `laid` patches of a walk were laid, and each of the first `laid` places of `lits` holds what the patch there newly lit. Where some were not laid, the
+-- row is full without them: they light nothing. What `lits` holds from place `laid` on is left free.
 pub record RowLit
     (eye : Vec) (ray : ℕ → Vec) (patch : ℕ → Patch) (order : List ℕ) (width : ℕ) (lits : List ℕ) (laid : ℕ) : Type 0 where
   pub most : laid ≤ length order

@@ -31,7 +31,7 @@ fn unlit_hull(row: &[u16; 256], width: usize) -> Span
     Span { first, end: width }
 }
 
-// Lays a span on a row, unless it is empty, and says whether the row is full now and how many cells were newly lit.
+// Lays a span on a row, unless it is empty, and says how many cells it newly lit, and that the row is full only where it is.
 fn lay_span(span: Span, panel: u16, row: &mut [u16; 256], cells: &mut [u16]) -> Laid
     requires { ⌜ (span .end ≤ length (now cells)) × Row (length (now cells)) (now row) ⌝ }
     ensures { λ r. ⌜ ColumnsLaid (covers span) panel (now (row .entry)) (now (cells .entry))
@@ -48,7 +48,7 @@ fn lay_span(span: Span, panel: u16, row: &mut [u16; 256], cells: &mut [u16]) -> 
     rows::lay(row, cells, first as u16, (end - 1) as u16, panel)
 }
 
-// Paints patch k in row j, over the columns that are unlit, and says whether the row is full now and how many were. Its span is sought from the
+// Paints patch k in row j, over the columns that are unlit, and says how many it newly lit, and that the row is full only where it is. Its span is sought from the
 // first of them on: a column before that shows a patch already. All that the code must know of the rays is in the edge functions: the sight is a parameter for the
 // contract.
 fn lay_patch(
