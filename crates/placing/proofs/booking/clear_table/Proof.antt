@@ -13,6 +13,9 @@ Inv-loop booked₀ n₀ booked n = Cleared booked₀ booked n
 abbrev μ-loop : tie.MeasureT-loop
 μ-loop booked₀ n₀ booked n = length booked₀ - n
 
+loop-again : tie.Need-loop-again Inv-loop μ-loop
+loop-again c = clear-goes (c .before .loop .inv) (c .loop-test .taken)
+
 loop-holds : tie.Need-loop-holds Inv-loop μ-loop
 loop-holds c = clear-starts _
 
@@ -27,9 +30,6 @@ add-n c = omega (arith, clear-length (c .before .loop .inv))
 
 loop-less : tie.Need-loop-less Inv-loop μ-loop
 loop-less c = omega (arith, clear-length (c .before .loop .inv))
-
-loop-again : tie.Need-loop-again Inv-loop μ-loop
-loop-again c = clear-goes (c .before .loop .inv) (c .loop-test .taken)
 
 same-length : tie.Need-same-length Inv-loop μ-loop
 same-length c = clear-length (c .before .loop .inv)
