@@ -9,7 +9,7 @@ use native.Mathlib.Omega.{arith}
 use lib.Dec.{eqb, eqb→eq, eqb-refl}
 use lib.ListN.{length, getD, length-map}
 use borrow.Author.Tests.{ne-eqb}
-use Rattle.model.specs.Lists.{range, tally, occurrences}
+use Rattle.model.specs.Lists.{range, occurrences}
 use Rattle.model.specs.Vector.{Vec}
 use Rattle.model.specs.Patch.{Patch, numbered}
 use Rattle.model.specs.Ray.{closest, noneMet}

@@ -1,14 +1,14 @@
 -- A table of the patches' cells: what a row adds to it, and rows one after the other.
 use mathlib.Core.Path.{_≡_, refl, sym, ap, ap₂, _∙_}
-use mathlib.Core.Logic.{_⊎_, inl, inr, ⊎-elim}
+use mathlib.Core.Logic.{_⊎_, inl, inr}
 use mathlib.Core.Bool.{Bool, true, false, cond}
-use mathlib.Core.List.{List, [], _∷_, _++_, map, map-append, sum, sum-append}
+use mathlib.Core.List.{List, [], _∷_, map, map-append, sum, sum-append}
 use Prim.Native.Nat.{ℕ, zero, suc, _+_, _*_, _≤_, _<_}
-use native.Mathlib.Nat.{add-zero, zero-add, add-assoc, mul-le-mul-right}
+use native.Mathlib.Nat.{add-zero, zero-add, add-assoc}
 use native.Mathlib.Numerals.{add-one}
 use native.Mathlib.Decide.{ℕ-discrete}
 use native.Mathlib.Omega.{arith}
-use lib.Dec.{eqb, eqb-refl}
+use lib.Dec.{eqb}
 use lib.ListN.{length, getD, set, take, drop, replicate, length-set, take-append-drop}
 use lib.Seq.{take-suc, take-all, getD-set-same, getD-set-other}
 use borrow.Author.Tests.{eq-eqb, ne-eqb}
@@ -19,7 +19,7 @@ use Rattle.model.specs.Booking.{firstIs, cellsWhere}
 use Rattle.model.proofs.Tests.{lt-or-ge}
 use Rattle.model.proofs.Ranges.{range-append}
 use Rattle.segments.proofs.Tallies.{tally-most, tally-clear}
-use Rattle.scanline.specs.Shown.{newlyLit, RowLit}
+use Rattle.scanline.specs.Shown.{RowLit}
 use Rattle.placing.specs.Booked.{addedTo, AtMost, Bookable, Books, BookedUpTo}
 use Rattle.placing.proofs.FirstBooked.{rowCells, row-more, row-stays}
 

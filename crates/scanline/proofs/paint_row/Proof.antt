@@ -1,5 +1,5 @@
 -- `paint_row` meets its contract: the first k patches of the walk are painted, and what each newly lit is written down.
-use mathlib.Core.Path.{_≡_, _∙_}
+use mathlib.Core.Path.{_∙_}
 use Prim.Native.Nat.{ℕ, _-_}
 use native.Mathlib.Omega.{arith}
 use borrow.Author.Needs.{needs}

@@ -1,7 +1,6 @@
 -- `book_row` meets its contract: the first k places are added.
 use Prim.Native.Nat.{_-_, _≤_, _<_}
 use native.Mathlib.Omega.{arith}
-use borrow.Author.Needs.{needs}
 use lib.ListN.{length, getD}
 use Rattle.placing.proofs.RowsBooked.{BooksUpTo, books-start, books-go, books-end}
 use Rattle.placing.proofs.booking.book_row.Statement.{statement}
