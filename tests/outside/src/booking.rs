@@ -5,33 +5,15 @@ use crate::axes::{Axes, LEVEL};
 use crate::call::{Call, View, COUNTS};
 use crate::mount::with_part;
 use crate::scene::{Patch, Scene};
-use crate::stations::{s, scene_of, site, square, t, VIEW};
+use crate::stations::{piece, s, scene_of, site, square, t, window, VIEW};
 use crate::trial::{accepted, refused, Trial};
 
 /// The rows of S.
 const S: &str = "0000 0550 0550 0000";
 
-/// A rectangle at some distance forward, between two ends each way.
-fn piece(panel: u16, forward: i16, x: [i16; 2], z: [i16; 2]) -> Patch {
-    let corners = [[x[0], z[0]], [x[1], z[0]], [x[1], z[1]], [x[0], z[1]]];
-    Patch {
-        panel,
-        corners: corners.map(|[x, z]| [x, forward, z]).to_vec(),
-    }
-}
-
 /// All patches in one node.
 fn level(patches: Vec<Patch>) -> Scene {
     scene_of(vec![site(patches)])
-}
-
-fn window(width: u16, height: u16, lens: u16) -> View {
-    View {
-        width,
-        height,
-        lens,
-        ..VIEW
-    }
 }
 
 fn shows(name: &str, scene: &Scene, view: View, rows: &str, cells: &[u32]) -> Trial {

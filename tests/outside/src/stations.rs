@@ -17,14 +17,27 @@ pub const VIEW: View = View {
     lens: 4,
 };
 
+/// The same with another window.
+pub fn window(width: u16, height: u16, lens: u16) -> View {
+    View {
+        width,
+        height,
+        lens,
+        ..VIEW
+    }
+}
+
+/// A rectangle at some distance forward, between two ends each way.
+pub fn piece(panel: u16, forward: i16, x: [i16; 2], z: [i16; 2]) -> Patch {
+    let corners = [[x[0], z[0]], [x[1], z[0]], [x[1], z[1]], [x[0], z[1]]];
+    Patch {
+        panel,
+        corners: corners.map(|[x, z]| [x, forward, z]).to_vec(),
+    }
+}
+
 pub fn square(panel: u16, half: i16, forward: i16) -> Patch {
-    let corners = vec![
-        [-half, forward, -half],
-        [half, forward, -half],
-        [half, forward, half],
-        [-half, forward, half],
-    ];
-    Patch { panel, corners }
+    piece(panel, forward, [-half, half], [-half, half])
 }
 
 /// A node on the plane of its first patch.

@@ -4,7 +4,7 @@ use crate::axes::{Axes, LEVEL};
 use crate::call::{Call, View};
 use crate::mount::with_part;
 use crate::scene::{Patch, Scene};
-use crate::stations::{scene_of, site, t, VIEW};
+use crate::stations::{piece, scene_of, site, t, window, VIEW};
 use crate::survey::counts;
 use crate::trial::{accepted, digits, Trial};
 use crate::vector::Point;
@@ -22,11 +22,7 @@ const fn axes(right: Point, forward: Point, up: Point) -> Axes {
 
 /// A rectangle at forward 100, between two corners.
 fn upright(panel: u16, low: [i16; 2], high: [i16; 2]) -> Patch {
-    let corners = [low, [high[0], low[1]], high, [low[0], high[1]]];
-    Patch {
-        panel,
-        corners: corners.map(|[x, z]| [x, 100, z]).to_vec(),
-    }
+    piece(panel, 100, [low[0], high[0]], [low[1], high[1]])
 }
 
 /// Panels 1 and 2 above, 3 and 4 below.
@@ -64,15 +60,6 @@ fn roof() -> Scene {
             .to_vec(),
     };
     scene_of(vec![site(vec![strip(6, 0, 50), strip(8, -50, 0)])])
-}
-
-fn window(width: u16, height: u16, lens: u16) -> View {
-    View {
-        width,
-        height,
-        lens,
-        ..VIEW
-    }
 }
 
 /// The station with its picture. No panel stands on two patches here, so its

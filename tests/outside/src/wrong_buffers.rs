@@ -25,38 +25,22 @@ pub const SPOILS: &[(&str, Difference, Spoil)] = &[
     (
         "counts added to those before",
         Difference::Counts,
-        |_, before, lent| {
-            for (own, old) in lent.counts.iter_mut().zip(&before.counts) {
-                *own = own.wrapping_add(*old);
-            }
-        },
+        |_, before, lent| add_to(&before.counts, &mut lent.counts),
     ),
     (
         "counts of panels not shown left",
         Difference::Counts,
-        |_, before, lent| {
-            for (own, old) in lent.counts.iter_mut().zip(&before.counts) {
-                *own = if *own == 0 { *old } else { *own };
-            }
-        },
+        |_, before, lent| keep_unseen(&before.counts, &mut lent.counts),
     ),
     (
         "patches' cells added to those before",
         Difference::PatchCounts,
-        |_, before, lent| {
-            for (own, old) in lent.patch_counts.iter_mut().zip(&before.patch_counts) {
-                *own = own.wrapping_add(*old);
-            }
-        },
+        |_, before, lent| add_to(&before.patch_counts, &mut lent.patch_counts),
     ),
     (
         "entries of patches not seen left",
         Difference::PatchCounts,
-        |_, before, lent| {
-            for (own, old) in lent.patch_counts.iter_mut().zip(&before.patch_counts) {
-                *own = if *own == 0 { *old } else { *own };
-            }
-        },
+        |_, before, lent| keep_unseen(&before.patch_counts, &mut lent.patch_counts),
     ),
     (
         "last patch's entry not written",
@@ -116,6 +100,19 @@ pub const SPOILS: &[(&str, Difference, Spoil)] = &[
 fn keep_last<T: Copy>(before: &[T], lent: &mut [T]) {
     if let (Some(own), Some(old)) = (lent.last_mut(), before.last()) {
         *own = *old;
+    }
+}
+
+fn add_to(before: &[u32], lent: &mut [u32]) {
+    for (own, old) in lent.iter_mut().zip(before) {
+        *own = own.wrapping_add(*old);
+    }
+}
+
+/// Entries without cells are as they were lent.
+fn keep_unseen(before: &[u32], lent: &mut [u32]) {
+    for (own, old) in lent.iter_mut().zip(before) {
+        *own = if *own == 0 { *old } else { *own };
     }
 }
 
