@@ -1,2 +1,2 @@
 -- A camera's directions as a raster's rays.
-mod Rays
+pub mod Rays

@@ -1,7 +1,7 @@
--- The directions of a camera's cells are the rays of a raster.
+-- The directions of a camera's cells are the rays of a raster, and the lines that its cells are read along are those just beside these rays.
 use mathlib.Core.Path.{_≡_, refl, _∙_}
 use mathlib.Core.List.{[], _∷_}
-use Prim.Native.Nat.{ℕ}
+use Prim.Native.Nat.{ℕ, _*_}
 use lib.IntN.{ℤ, pos, negsuc, _+ℤ_, _-ℤ_, _*ℤ_}
 use mir.Syntax.{w64}
 use mir.Val.{toZ, ofZ}
@@ -9,9 +9,12 @@ use Rattle.integer.specs.Magnitude.{Within}
 use Rattle.integer.proofs.Identity.{ring, reify}
 use Rattle.integer.proofs.Machine.{machine, casts}
 use Rattle.model.specs.Vector.{Vec, vec, plus, times}
-use Rattle.model.specs.View.{Camera as ModelCamera, direction}
+use Rattle.model.specs.View.{Axes, Camera as ModelCamera, direction}
+use Rattle.model.specs.Beside.{fine, cellLine}
 use Rattle.geometry.specs.declared.Vector.{Vector}
+use Rattle.geometry.specs.declared.Raster.{Raster}
 use Rattle.geometry.specs.Machine.{vecOf, VectorIs, NumberIs}
+use Rattle.geometry.specs.Raster.{lineAt}
 use Rattle.geometry.proofs.Results.{number}
 use Rattle.camera.specs.declared.Camera.{Camera}
 use Rattle.camera.specs.Machine.{cameraOf, CameraBounded}
@@ -81,7 +84,36 @@ module _ (c : Camera) (h : CameraBounded c) where
         rays = λ i j.
             (λ t. plus (plus ((e .value ∙ first-meant) t) (times (pos i) (f .value t))) (times (pos j) (g .value t)))
             ∙ direction-by-steps (cameraOf c) i j;
+        to-next-column = f .value;
+        to-next-row = g .value;
         bounded = record { origin-bounded = e .bounded; across-bounded = f .bounded; down-bounded = g .bounded };
         columns = refl;
         rows = refl;
       }
+
+-- ---- the lines just beside the rays
+
+-- one part: α (ray) + β (2 right) + γ (−2 up), as the sum with the two steps has it
+part-beside : (α β γ d r u : ℤ) → α *ℤ d +ℤ β *ℤ (pos 2 *ℤ r) +ℤ γ *ℤ (negsuc 1 *ℤ u) ≡ α *ℤ d +ℤ (pos 2 *ℤ β) *ℤ r -ℤ (pos 2 *ℤ γ) *ℤ u
+part-beside α β γ d r u = ring (α ∷ β ∷ γ ∷ d ∷ r ∷ u ∷ []) (search reify depth 40 fits 200000, tt)
+
+-- a cell is read along the raster's line
+pub line-is : (c : ModelCamera) {r : Raster} → RaysOf c r → (i j : ℕ) → lineAt r i j ≡ cellLine c i j
+unfolding lineAt cellLine
+line-is c h i j =
+    (λ t.
+    plus (plus (times (pos (fine * (fine * fine))) (h .rays i j t)) (times (pos (fine * fine)) (h .to-next-column t)))
+    (times (pos fine) (h .to-next-row t)))
+    ∙ (λ t. vec (part (d .x) (a .right .x) (a .up .x) t) (part (d .y) (a .right .y) (a .up .y) t) (part (d .z) (a .right .z) (a .up .z) t))
+  where
+    a : Axes
+    a = c .axes
+
+    d : Vec
+    d = direction c i j
+
+    part :
+        (d r u : ℤ) →
+        pos (fine * (fine * fine)) *ℤ d +ℤ pos (fine * fine) *ℤ (pos 2 *ℤ r) +ℤ pos fine *ℤ (negsuc 1 *ℤ u)
+        ≡ pos (fine * (fine * fine)) *ℤ d +ℤ pos (2 * (fine * fine)) *ℤ r -ℤ pos (2 * fine) *ℤ u
+    part d r u = part-beside (pos (fine * (fine * fine))) (pos (fine * fine)) (pos fine) d r u

@@ -3,4 +3,3 @@ pub mod Rooted
 pub mod Subtrees
 pub mod Nodes
 pub mod Corners
-pub mod Patches

@@ -8,7 +8,7 @@ use Rattle.model.specs.Tree.{leaf, node}
 use Rattle.model.specs.Format.{NodeRecord, Scene, decode, noChild}
 use Rattle.format.specs.Machine.{nodeOf}
 use Rattle.format.specs.Layout.{nodeNumber}
-use Rattle.format.specs.Bounds.{PlaneWithin}
+use Rattle.model.specs.Bounds.{PlaneWithin}
 use Rattle.format.proofs.Decoded.{node-count, node-at}
 use Rattle.format.proofs.InRange.{node-within, bounded}
 use Rattle.format.specs.declared.records.Node.{Node}

@@ -15,7 +15,7 @@ use Rattle.format.specs.declared.layout.Layout.{Layout}
 use Rattle.format.specs.declared.patch.Patch.{Patch}
 use Rattle.format.specs.Layout.{LaidOut, patchNumber, cornerNumber}
 use Rattle.format.specs.Patch.{PatchIs, cornerOf, patchOf}
-use Rattle.format.specs.Bounds.{VecWithin}
+use Rattle.model.specs.Bounds.{VecWithin}
 use Rattle.format.proofs.Tables.{length-table}
 use Rattle.format.proofs.Decoded.{tablePatch, patch-table, patch-numbered, patch-corners}
 use Rattle.model.proofs.Loops.{IsEvery, every-entry}

@@ -9,8 +9,9 @@ use lib.Dec.{T, T-not, eqb}
 use lib.ListN.{length, getD, take, drop, length-map}
 use Rattle.model.specs.Lists.{every, range, occurrences}
 use Rattle.model.specs.Patch.{numbered}
-use Rattle.model.specs.Ray.{IsClosest, closest}
-use Rattle.model.specs.View.{View, viewWidth, viewHeight, viewDirection}
+use Rattle.model.specs.Ray.{closest}
+use Rattle.model.specs.View.{View, viewWidth, viewHeight}
+use Rattle.model.specs.Beside.{ShownBeside, cellLine}
 use Rattle.model.specs.Lent.{Lent}
 use Rattle.model.specs.Format.{decode}
 use Rattle.model.specs.Row.{rowOf, rowLength}
@@ -23,17 +24,19 @@ use Rattle.model.proofs.Tests.{both}
 use Rattle.model.proofs.Ranges.{range-length, rows-part, rows-length, in-range}
 use Rattle.model.proofs.Totals.{total, total-cong}
 use Rattle.model.proofs.Answers.{AcceptedCall, accepted-call, all-yes, answer-yes, answer-done}
-use Rattle.model.proofs.Closest.{closest-right}
+use Rattle.model.proofs.Alike.{Sound}
+use Rattle.model.proofs.PatchTables.{table-sound, kept-sound}
+use Rattle.model.proofs.BesideCells.{beside-right, beside-only, beside-has}
 use Rattle.model.proofs.Counts.{counts-at}
 use Rattle.model.proofs.Pictures.{picture-length, picture-at, picture-total}
-use Rattle.model.proofs.Booked.{has-cell, booked-some, booked-once, booked-panel}
+use Rattle.model.proofs.Booked.{booked-some, booked-once, booked-panel}
 use Rattle.model.proofs.PanelSums.{patch-entries, patch-entry, panel-sum}
 use Rattle.model.proofs.Removal.{pictures-counts, cell-differs, cell-shows}
 use Rattle.segments.proofs.Rows.{row-length, row-congr}
 use Rattle.contract.proofs.Refusal.{left-old}
 use Rattle.model.proofs.PanelNumbers.{panel-bounded}
 use Rattle.contract.specs.Contract.{callOn, results, leftBy, Surveyed}
-use Rattle.demands.specs.Demands.{patchesIn, cell, patchHas, RefusesRightly, ClosestPanels, ChosenTakenAway, DemandThree, PairSurveyed}
+use Rattle.demands.specs.Demands.{patchesIn, cell, patchHas, RefusesRightly, ClosestPanels, ClosestSurveyed, ChosenTakenAway, DemandThree, PairSurveyed}
 
 -- an accepted call leaves the results
 pub accepted-leaves :
@@ -75,8 +78,17 @@ refuses-rightly {bytes} {v} {before} {after} {result} h =
     }
 
 module _ (bytes : List ℕ) (v : View) (before : Lent) (accepted : AcceptedCall (callOn bytes v before)) where
+  sound : Sound (patchesIn bytes)
+  sound = table-sound (accepted .scene)
+
+  at :
+      (i j : ℕ) → i < viewWidth v → j < viewHeight v →
+      cell v (callPicture (callOn bytes v before)) i j ≡ closest (v .eye) (cellLine (v .camera) i j) (patchesIn bytes)
+  unfolding callPicture
+  at = picture-at (v .eye) (viewWidth v) (viewHeight v) (cellLine (v .camera)) (patchesIn bytes)
+
   abbrev cellRow : ℕ → List ℕ
-  cellRow j = rowOf (viewWidth v) (λ (i : ℕ). eqb (closest (v .eye) (viewDirection v i j) (patchesIn bytes)) 0)
+  cellRow j = rowOf (viewWidth v) (λ (i : ℕ). eqb (closest (v .eye) (cellLine (v .camera) i j) (patchesIn bytes)) 0)
 
   unlit-row :
       (j : ℕ) → j < viewHeight v →
@@ -87,7 +99,7 @@ module _ (bytes : List ℕ) (v : View) (before : Lent) (accepted : AcceptedCall 
       rows-part rowLength cellRow (λ k. row-length (viewWidth v) _) 0 (viewHeight v) j h
       ∙ ap cellRow (zero-add j)
       ∙ row-congr (viewWidth v) _ _
-      (λ i k. ap (λ (n : ℕ). eqb n 0) (sym (picture-at (v .eye) (viewWidth v) (viewHeight v) (viewDirection v) (patchesIn bytes) i j k h)))
+      (λ i k. ap (λ (n : ℕ). eqb n 0) (sym (at i j k h)))
 
   -- the cells of patch k, and its entry in the table; and such a number where the patch is of panel n
   abbrev cellsOf : ℕ → ℕ
@@ -101,7 +113,7 @@ module _ (bytes : List ℕ) (v : View) (before : Lent) (accepted : AcceptedCall 
 
   entry : (k : ℕ) → k < length (patchesIn bytes) → entryOf k ≡ cellsOf k
   unfolding callPatchCells
-  entry = patch-entry (v .eye) (viewWidth v) (viewHeight v) (viewDirection v) (patchesIn bytes)
+  entry = patch-entry (v .eye) (viewWidth v) (viewHeight v) (cellLine (v .camera)) (patchesIn bytes)
 
   -- a panel's occurrences are the sum over the table's entries of its patches
   entries-sum :
@@ -109,7 +121,7 @@ module _ (bytes : List ℕ) (v : View) (before : Lent) (accepted : AcceptedCall 
       occurrences n (callPicture (callOn bytes v before)) ≡ sum _+_ 0 (map (ofPanel n entryOf) (range 0 (length (patchesIn bytes))))
   unfolding callPicture total
   entries-sum n h =
-      panel-sum (v .eye) (viewWidth v) (viewHeight v) (viewDirection v) (patchesIn bytes) n h
+      panel-sum (v .eye) (viewWidth v) (viewHeight v) (cellLine (v .camera)) (patchesIn bytes) n h
       ∙ total-cong (ofPanel n cellsOf) (ofPanel n entryOf) (range 0 (length (patchesIn bytes)))
       (λ k m.
       ap (λ (x : ℕ). cond (eqb (numbered (patchesIn bytes) k .panel) n) x 0)
@@ -121,28 +133,27 @@ module _ (bytes : List ℕ) (v : View) (before : Lent) (accepted : AcceptedCall 
       record {
         cells =
             λ i j h k.
-            subst (IsClosest (v .eye) (viewDirection v i j) (patchesIn bytes))
-            (sym (picture-at (v .eye) (viewWidth v) (viewHeight v) (viewDirection v) (patchesIn bytes) i j h k))
-            (closest-right (v .eye) (viewDirection v i j) (patchesIn bytes));
-        whole = picture-length (v .eye) (viewWidth v) (viewHeight v) (viewDirection v) (patchesIn bytes);
+            subst (ShownBeside v (patchesIn bytes) i j) (sym (at i j h k))
+            (beside-right v (accepted .view) (accepted .axes) sound i j);
+        cellsOnly = λ i j n h k s. beside-only v (accepted .view) (accepted .axes) sound i j s ∙ sym (at i j h k);
+        whole = picture-length (v .eye) (viewWidth v) (viewHeight v) (cellLine (v .camera)) (patchesIn bytes);
         counted = λ n h. counts-at (callPicture (callOn bytes v before)) n h;
         entries =
             length-map (range 0 countEntries) (λ (n : ℕ). occurrences n (callPicture (callOn bytes v before)))
             ∙ range-length 0 countEntries;
-        summed = picture-total (v .eye) (viewWidth v) (viewHeight v) (viewDirection v) (patchesIn bytes)
+        summed = picture-total (v .eye) (viewWidth v) (viewHeight v) (cellLine (v .camera)) (patchesIn bytes)
             (panel-bounded (decode bytes) (accepted .scene .panels));
         booked = entry;
-        patchEntries = patch-entries (v .eye) (viewWidth v) (viewHeight v) (viewDirection v) (patchesIn bytes);
-        bookedFirst = λ i j. has-cell (v .eye) (viewDirection v i j) (patchesIn bytes);
+        patchEntries = patch-entries (v .eye) (viewWidth v) (viewHeight v) (cellLine (v .camera)) (patchesIn bytes);
+        bookedFirst = λ i j. beside-has v (accepted .view) (accepted .axes) sound i j;
         bookedSome =
             λ i j hi hj f.
-            booked-some (v .eye) (viewDirection v i j) (patchesIn bytes)
-            (λ e. f (picture-at (v .eye) (viewWidth v) (viewHeight v) (viewDirection v) (patchesIn bytes) i j hi hj ∙ e));
-        bookedOnce = λ i j. booked-once (v .eye) (viewDirection v i j) (patchesIn bytes);
+            booked-some (v .eye) (cellLine (v .camera) i j) (patchesIn bytes)
+            (λ e. f (at i j hi hj ∙ e));
+        bookedOnce = λ i j. booked-once (v .eye) (cellLine (v .camera) i j) (patchesIn bytes);
         bookedPanel =
             λ i j k hi hj hk t.
-            picture-at (v .eye) (viewWidth v) (viewHeight v) (viewDirection v) (patchesIn bytes) i j hi hj
-            ∙ booked-panel (v .eye) (viewDirection v i j) (patchesIn bytes) k hk t;
+            at i j hi hj ∙ booked-panel (v .eye) (cellLine (v .camera) i j) (patchesIn bytes) k hk t;
         panelSum = λ n one h. counts-at (callPicture (callOn bytes v before)) n h ∙ entries-sum n one;
         rows = unlit-row;
         rowCount = rows-length rowLength cellRow (λ k. row-length (viewWidth v) _) 0 (viewHeight v) ∙ mul-comm rowLength (viewHeight v);
@@ -154,6 +165,7 @@ module _
     (before₁ before₂ : Lent)
     (chosen : ℕ → Bool)
     (taken : TakenAway chosen (patchesIn firstBytes) (patchesIn secondBytes))
+    (accepted : AcceptedCall (callOn firstBytes v before₁))
   where
     taken-away :
         ChosenTakenAway firstBytes chosen v (results (callOn firstBytes v before₁))
@@ -162,22 +174,22 @@ module _
     taken-away =
         let first = patchesIn firstBytes in
         let second = patchesIn secondBytes in
-        let same = pictures-counts chosen first second taken (v .eye) (viewWidth v) (viewHeight v) (viewDirection v) in
-        let at = picture-at (v .eye) (viewWidth v) (viewHeight v) (viewDirection v) first in
+        let same = pictures-counts chosen first second taken (v .eye) (viewWidth v) (viewHeight v) (cellLine (v .camera)) in
         record {
           equal = (λ e. same .0 (sym e), λ f. sym (same .1 f));
           closest =
               λ i j h k.
-              subst (IsClosest (v .eye) (viewDirection v i j) first) (sym (at i j h k)) (closest-right (v .eye) (viewDirection v i j) first);
+              subst (ShownBeside v first i j) (sym (at firstBytes v before₁ accepted i j h k))
+              (beside-right v (accepted .view) (accepted .axes) (table-sound (accepted .scene)) i j);
           differ =
               λ i j h k.
-              let c = cell-differs chosen first second taken (v .eye) (viewWidth v) (viewHeight v) (viewDirection v) i j h k in
+              let c = cell-differs chosen first second taken (v .eye) (viewWidth v) (viewHeight v) (cellLine (v .camera)) i j h k in
               (λ f. c .0 (λ e. f (sym e)), λ t e. c .1 t (sym e));
           shown =
               λ i j h k t.
-              subst (IsClosest (v .eye) (viewDirection v i j) (kept chosen first))
-              (sym (cell-shows chosen first second taken (v .eye) (viewWidth v) (viewHeight v) (viewDirection v) i j h k))
-              (closest-right (v .eye) (viewDirection v i j) (kept chosen first));
+              subst (ShownBeside v (kept chosen first) i j)
+              (sym (cell-shows chosen first second taken (v .eye) (viewWidth v) (viewHeight v) (cellLine (v .camera)) i j h k))
+              (beside-right v (accepted .view) (accepted .axes) (kept-sound chosen (table-sound (accepted .scene))) i j);
         }
 
 -- Demand 2.
@@ -190,6 +202,13 @@ closest-panels {bytes} {v} {before} h e =
     subst (ClosestPanels bytes v) (sym (accepted-leaves h e))
     (results-closest bytes v before (accepted-call (callOn bytes v before) .0 (sym (h .answered) ∙ e)))
 
+-- the equations and demand 2
+pub closest-surveyed :
+    {bytes : List ℕ} {v : View} {before after : Lent} {result : ℕ} →
+    Surveyed bytes v before after result →
+    ClosestSurveyed bytes v before after result
+closest-surveyed h = record { surveyed = h; closestPanels = closest-panels h }
+
 -- Demand 3.
 pub chosen-panels-taken-away :
     {firstBytes secondBytes : List ℕ} {v : View} {before₁ after₁ before₂ after₂ : Lent} {result₁ result₂ : ℕ} →
@@ -199,7 +218,8 @@ pub chosen-panels-taken-away :
 chosen-panels-taken-away {firstBytes} {secondBytes} {v} {before₁} {after₁} {before₂} {after₂} h k chosen e f taken =
     subst (λ (l : Lent). ChosenTakenAway firstBytes chosen v l after₂) (sym (accepted-leaves h e))
     (subst (λ (l : Lent). ChosenTakenAway firstBytes chosen v (results (callOn firstBytes v before₁)) l) (sym (accepted-leaves k f))
-    (taken-away firstBytes secondBytes v before₁ before₂ chosen taken))
+    (taken-away firstBytes secondBytes v before₁ before₂ chosen taken
+    (accepted-call (callOn firstBytes v before₁) .0 (sym (h .answered) ∙ e))))
 
 -- both calls, and demand 3
 pub pair-surveyed :
@@ -207,4 +227,4 @@ pub pair-surveyed :
     Surveyed firstBytes v before₁ after₁ result₁ →
     Surveyed secondBytes v before₂ after₂ result₂ →
     PairSurveyed firstBytes secondBytes v before₁ after₁ before₂ after₂ result₁ result₂
-pair-surveyed h k = record { first-call = h; second-call = k; demand-three = chosen-panels-taken-away h k }
+pair-surveyed h k = record { first-call = closest-surveyed h; second-call = closest-surveyed k; demand-three = chosen-panels-taken-away h k }

@@ -8,13 +8,13 @@ use lib.Dec.{T, eqb}
 use lib.ListN.{length, getD, take, drop}
 use Rattle.model.specs.Lists.{every, range, occurrences}
 use Rattle.model.specs.Patch.{Patch, numbered}
-use Rattle.model.specs.Ray.{IsClosest}
-use Rattle.model.specs.View.{View, viewWidth, viewHeight, viewDirection}
+use Rattle.model.specs.View.{View, viewWidth, viewHeight}
+use Rattle.model.specs.Beside.{ShownBeside, HasBeside, cellLine}
 use Rattle.model.specs.Lent.{Lent}
 use Rattle.model.specs.Format.{decode, patchTable}
 use Rattle.model.specs.Row.{rowOf, rowLength}
 use Rattle.model.specs.Picture.{countEntries}
-use Rattle.model.specs.Booking.{hasCell, HasCell, cellsWhere}
+use Rattle.model.specs.Booking.{hasCell, cellsWhere}
 use Rattle.model.specs.Call.{Call}
 use Rattle.model.specs.Questions.{Question, questions, surveyAnswer}
 use Rattle.model.specs.Removal.{isChosen, kept, TakenAway}
@@ -28,9 +28,9 @@ patchesIn bytes = patchTable (decode bytes)
 abbrev pub cell : View → List ℕ → ℕ → ℕ → ℕ
 cell v picture i j = getD picture (j * viewWidth v + i) 0
 
--- patch k of a scene has cell (i, j) of a view
+-- Patch k of a scene has cell (i, j) of a view. The test goes by the one line that an equation needs; `bookedFirst` below says it by the lines just beside.
 abbrev pub patchHas : List ℕ → View → ℕ → ℕ → ℕ → Bool
-patchHas bytes v i j k = hasCell (v .eye) (viewDirection v i j) (patchesIn bytes) k
+patchHas bytes v i j k = hasCell (v .eye) (cellLine (v .camera) i j) (patchesIn bytes) k
 
 -- Demand 1: "every call ends with a full picture or with the one numbered refusal that document 01 gives, a scene is accepted exactly if it keeps the rules there,
 -- and a refusal leaves picture, counts, unlit lists and station counter untouched." So it leaves everything lent, the table of the patches' cells too.
@@ -45,11 +45,14 @@ pub record RefusesRightly (bytes : List ℕ) (v : View) (before after : Lent) (r
 -- cell holds 0. All of it is exact in whole numbers, and each count is the number of such cells." Document 01: the counts "add up to width × height"; the unlit lists are the
 -- rows of the cells that hold 0. Document 02, F-2: "A further lent table (u32, one entry a patch) receives each patch's cells. A panel's count is the sum over its
 -- patches." No cell is booked to two patches, the patch that has a cell is of the panel that the cell shows, and each cell that shows a panel is some patch's. Whose it is: "Where two patches
--- of one panel overlap in a plane, the earlier in the list has the cell."
+-- of one panel overlap in a plane, the earlier in the list has the cell." F-3: what is met and what is closest is read by the lines just beside the cell's sight line, and one
+-- number alone is what they show.
 pub record ClosestPanels (bytes : List ℕ) (v : View) (after : Lent) : Type 0 where
   pub cells :
       (i j : ℕ) → i < viewWidth v → j < viewHeight v →
-      IsClosest (v .eye) (viewDirection v i j) (patchesIn bytes) (cell v (after .picture) i j)
+      ShownBeside v (patchesIn bytes) i j (cell v (after .picture) i j)
+  pub cellsOnly :
+      (i j n : ℕ) → i < viewWidth v → j < viewHeight v → ShownBeside v (patchesIn bytes) i j n → n ≡ cell v (after .picture) i j
   pub whole : length (after .picture) ≡ viewWidth v * viewHeight v
   pub counted : (n : ℕ) → n < countEntries → getD (after .counts) n 0 ≡ occurrences n (after .picture)
   pub entries : length (after .counts) ≡ countEntries
@@ -59,7 +62,7 @@ pub record ClosestPanels (bytes : List ℕ) (v : View) (after : Lent) : Type 0 w
       getD (after .patchCounts) k 0 ≡ cellsWhere (viewWidth v) (viewHeight v) (λ (i j : ℕ). patchHas bytes v i j k)
   pub patchEntries : length (after .patchCounts) ≡ length (patchesIn bytes)
   pub bookedFirst :
-      (i j k : ℕ) → T (patchHas bytes v i j k) ↔ HasCell (v .eye) (viewDirection v i j) (patchesIn bytes) k
+      (i j k : ℕ) → T (patchHas bytes v i j k) ↔ HasBeside v (patchesIn bytes) i j k
   pub bookedSome :
       (i j : ℕ) → i < viewWidth v → j < viewHeight v → ¬ (cell v (after .picture) i j ≡ 0) →
       (k : ℕ) × (k < length (patchesIn bytes)) × T (patchHas bytes v i j k)
@@ -81,7 +84,12 @@ pub record ClosestPanels (bytes : List ℕ) (v : View) (after : Lent) : Type 0 w
       ≡ rowOf (viewWidth v) (λ (i : ℕ). eqb (cell v (after .picture) i j) 0)
   pub rowCount : length (after .unlit) ≡ viewHeight v * rowLength
 
--- Document 02, F-1: "Closest panel and chosen panels are meant along these directions, and the two pictures compared are of one view."
+-- What the survey call promises: its equations, and demand 2 of every accepted call.
+pub record ClosestSurveyed (bytes : List ℕ) (v : View) (before after : Lent) (result : ℕ) : Type 0 where
+  pub surveyed : Surveyed bytes v before after result
+  pub closestPanels : result ≡ 0 → ClosestPanels bytes v after
+
+-- Document 02, F-1: "Closest panel and chosen panels are meant along these directions, and the two pictures compared are of one view." F-3: each direction is read by the lines just beside it.
 -- Demand 3, of two accepted calls with one view (station, axes and window), on a scene and on one that "has just the first's patches less all those of the chosen panels":
 -- "The two pictures are equal, cell by cell, exactly when every chosen panel's count, from the call on the first scene, is zero. Equal or not, each cell of the
 -- first holds its closest panel .., or 0; the pictures differ in exactly the cells where the first shows a chosen panel, and in each of these the second shows
@@ -91,13 +99,13 @@ pub record ChosenTakenAway (bytes : List ℕ) (chosen : ℕ → Bool) (v : View)
       (first .picture ≡ second .picture) ↔ ((n : ℕ) → T (isChosen chosen n) → getD (first .counts) n 0 ≡ 0)
   pub closest :
       (i j : ℕ) → i < viewWidth v → j < viewHeight v →
-      IsClosest (v .eye) (viewDirection v i j) (patchesIn bytes) (cell v (first .picture) i j)
+      ShownBeside v (patchesIn bytes) i j (cell v (first .picture) i j)
   pub differ :
       (i j : ℕ) → i < viewWidth v → j < viewHeight v →
       (¬ (cell v (first .picture) i j ≡ cell v (second .picture) i j)) ↔ T (isChosen chosen (cell v (first .picture) i j))
   pub shown :
       (i j : ℕ) → i < viewWidth v → j < viewHeight v → T (isChosen chosen (cell v (first .picture) i j)) →
-      IsClosest (v .eye) (viewDirection v i j) (kept chosen (patchesIn bytes)) (cell v (second .picture) i j)
+      ShownBeside v (kept chosen (patchesIn bytes)) i j (cell v (second .picture) i j)
 
 -- Demand 3, for any chosen panels: "All this holds whatever the two trees are and whatever the lent buffers held before." The calls' contracts stand beside it below.
 abbrev pub DemandThree :
@@ -107,9 +115,9 @@ DemandThree firstBytes secondBytes v first second firstResult secondResult =
     TakenAway chosen (patchesIn firstBytes) (patchesIn secondBytes) →
     ChosenTakenAway firstBytes chosen v first second
 
--- Both calls, each by the survey's contract, and demand 3 of them.
+-- Both calls, each as the survey call promises it, and demand 3 of them.
 pub record PairSurveyed
     (firstBytes secondBytes : List ℕ) (v : View) (before₁ after₁ before₂ after₂ : Lent) (result₁ result₂ : ℕ) : Type 0 where
-  pub first-call : Surveyed firstBytes v before₁ after₁ result₁
-  pub second-call : Surveyed secondBytes v before₂ after₂ result₂
+  pub first-call : ClosestSurveyed firstBytes v before₁ after₁ result₁
+  pub second-call : ClosestSurveyed secondBytes v before₂ after₂ result₂
   pub demand-three : DemandThree firstBytes secondBytes v after₁ after₂ result₁ result₂

@@ -1,24 +1,30 @@
--- A ray meets a patch exactly where the patch's edge functions are above 0.
+-- The line just beside a ray meets a patch exactly where the patch's edge functions are above 0 at the ray.
 use mathlib.Core.Path.{_≡_, refl, sym, ap, subst, _∙_}
 use mathlib.Core.Logic.{_≢_}
 use mathlib.Core.Bool.{false, _&&_}
-use mathlib.Core.List.{List, [], _∷_, map}
-use Prim.Native.Nat.{ℕ, zero, suc, _<_}
+use mathlib.Core.List.{List, [], _∷_, map, List·Memᴰ, Memᴰ·map}
+use Prim.Native.Nat.{ℕ, zero, suc, _*_, _<_}
 use native.Mathlib.Nat.{not-suc-le-zero}
 use native.Mathlib.Omega.{arith}
 use lib.IntN.{ℤ, pos, negsuc, _+ℤ_, _*ℤ_}
 use lib.ListN.{length, length-map}
-use lib.Signed.{ltZ}
+use lib.Signed.{ltZ, ltZ-yes, leZ-yes}
 use Rattle.integer.specs.Magnitude.{signOf}
 use Rattle.integer.proofs.Identity.{ring, reify}
+use Rattle.model.specs.Lists.{range}
 use Rattle.model.specs.Vector.{Vec, plus, dot, times}
 use Rattle.model.specs.Patch.{Patch, Edge, edges}
 use Rattle.model.specs.Ray.{eyeProduct, edgeVector, edgeNumber, met}
 use Rattle.model.specs.Format.{Run}
+use Rattle.model.specs.Beside.{fine}
+use Rattle.model.proofs.Tests.{same-test}
+use Rattle.model.proofs.Ranges.{of-map, of-range}
+use Rattle.model.proofs.Steep.{Steep, weighted}
 use Rattle.geometry.specs.declared.Raster.{Raster}
 use Rattle.geometry.specs.declared.EdgeFunction.{EdgeFunction}
 use Rattle.geometry.specs.Machine.{vecOf}
-use Rattle.geometry.specs.Raster.{rayAt, seenBy}
+use Rattle.geometry.specs.Raster.{rayAt, lineAt, inward, seenBy, FunctionBounded}
+use Rattle.geometry.proofs.CountsIn.{weighted-start}
 use Rattle.format.proofs.Tables.{length-table}
 use Rattle.tables.specs.Functions.{functionAt, functionsIn}
 use Rattle.spans.specs.Row.{numberIn, allAbove}
@@ -62,30 +68,71 @@ met-edges eye d p h = go (eyeProduct eye p) refl
         below : negsuc n ≢ pos 0
         below f = let z : _≡_ {A = ℕ} 0 1 = cc in omega arith
 
--- what a raster sees of an edge vector is its product with each ray
-pub cell-number : (r : Raster) (e : Vec) (i j : ℕ) → numberIn (seenBy r e) i j ≡ edgeNumber (rayAt r i j) e
-cell-number r e i j = go (vecOf (r .origin)) (vecOf (r .across)) (vecOf (r .down)) (pos i) (pos j)
+-- what a raster sees of an edge vector: its product with the ray, one more where the edge counts in
+ray-number :
+    (r : Raster) (e : Vec) (i j : ℕ) →
+    numberIn (seenBy r e) i j ≡ edgeNumber (rayAt r i j) e +ℤ inward (dot (vecOf (r .across)) e) (dot (vecOf (r .down)) e)
+ray-number r e i j =
+    go (vecOf (r .origin)) (vecOf (r .across)) (vecOf (r .down)) (pos i) (pos j) (inward (dot (vecOf (r .across)) e) (dot (vecOf (r .down)) e))
   where
     go :
-        (o a d : Vec) (x y : ℤ) →
-        dot a e *ℤ x +ℤ (dot d e *ℤ y +ℤ dot o e) ≡ dot (plus (plus o (times x a)) (times y d)) e
-    go o a d x y =
+        (o a d : Vec) (x y c : ℤ) →
+        dot a e *ℤ x +ℤ (dot d e *ℤ y +ℤ (dot o e +ℤ c)) ≡ dot (plus (plus o (times x a)) (times y d)) e +ℤ c
+    go o a d x y c =
         ring
-        (o .x ∷ o .y ∷ o .z ∷ a .x ∷ a .y ∷ a .z ∷ d .x ∷ d .y ∷ d .z ∷ e .x ∷ e .y ∷ e .z ∷ x ∷ y ∷ [])
+        (o .x ∷ o .y ∷ o .z ∷ a .x ∷ a .y ∷ a .z ∷ d .x ∷ d .y ∷ d .z ∷ e .x ∷ e .y ∷ e .z ∷ x ∷ y ∷ c ∷ [])
         (search reify depth 40 fits 200000, tt)
 
-all-seen : (r : Raster) (es : List Vec) (i j : ℕ) → allAbove (map (seenBy r) es) i j ≡ inside (rayAt r i j) es
+-- the product with the line just beside the ray
+line-number :
+    (r : Raster) (e : Vec) (i j : ℕ) →
+    edgeNumber (lineAt r i j) e
+    ≡ weighted (pos (fine * (fine * fine))) (pos (fine * fine)) (pos fine) (edgeNumber (rayAt r i j) e) (dot (vecOf (r .across)) e) (dot (vecOf (r .down)) e)
+unfolding lineAt
+line-number r e i j =
+    go (rayAt r i j) (vecOf (r .across)) (vecOf (r .down)) (pos (fine * (fine * fine))) (pos (fine * fine)) (pos fine)
+  where
+    go :
+        (d a b : Vec) (α β γ : ℤ) →
+        dot (plus (plus (times α d) (times β a)) (times γ b)) e ≡ weighted α β γ (dot d e) (dot a e) (dot b e)
+    go d a b α β γ =
+        ring
+        (d .x ∷ d .y ∷ d .z ∷ a .x ∷ a .y ∷ a .z ∷ b .x ∷ b .y ∷ b .z ∷ e .x ∷ e .y ∷ e .z ∷ α ∷ β ∷ γ ∷ [])
+        (search reify depth 40 fits 200000, tt)
+
+-- the line is near enough to the ray for numbers that are so small along the row and down
+line-steep : Steep (pos 480000000000) (pos (fine * (fine * fine))) (pos (fine * fine)) (pos fine)
+line-steep = record { size = leZ-yes tt; last = ltZ-yes tt; middle = ltZ-yes tt; first = ltZ-yes tt }
+
+-- so what it sees is above 0 exactly where the line passes on the edge's side
+line-seen :
+    (r : Raster) (e : Vec) (i j : ℕ) → FunctionBounded (seenBy r e) →
+    ltZ (pos 0) (numberIn (seenBy r e) i j) ≡ ltZ (pos 0) (edgeNumber (lineAt r i j) e)
+line-seen r e i j h =
+    let says = weighted-start line-steep (edgeNumber (rayAt r i j) e) (h .slope-within) (h .drop-within) in
+    ap (ltZ (pos 0)) (ray-number r e i j)
+    ∙ same-test _ _ (λ t. says .1 (ltZ-yes t) .lt) (λ t. says .0 (ltZ-yes t) .lt)
+    ∙ sym (ap (ltZ (pos 0)) (line-number r e i j))
+
+all-seen :
+    (r : Raster) (es : List Vec) (i j : ℕ) → ((f : EdgeFunction) → List·Memᴰ f (map (seenBy r) es) → FunctionBounded f) →
+    allAbove (map (seenBy r) es) i j ≡ inside (lineAt r i j) es
 unfolding allAbove inside
-all-seen r es i j = every-map (seenBy r) _ _ (λ e. ap (ltZ (pos 0)) (cell-number r e i j)) es
+all-seen r es i j h = every-map (seenBy r) _ _ es (λ e m. line-seen r e i j (h (seenBy r e) (Memᴰ·map (seenBy r) m)))
 
 pub met-seen :
     {s : Sight} {p : Patch} {run : Run} {table : List ℤ} → EdgesAt s p run table → 0 < run .count →
-    (i j : ℕ) → allAbove (functionsIn table (run .first) (run .count)) i j ≡ met (vecOf (s .eye)) (rayAt (s .raster) i j) p
+    (i j : ℕ) → allAbove (functionsIn table (run .first) (run .count)) i j ≡ met (vecOf (s .eye)) (lineAt (s .raster) i j) p
 met-seen {s} {p} {run} {table} h some i j =
     ap (λ (fs : List EdgeFunction). allAbove fs i j) (h .are)
-    ∙ all-seen (s .raster) (orientedEdges (vecOf (s .eye)) p) i j
-    ∙ met-edges (vecOf (s .eye)) (rayAt (s .raster) i j) p (omega (arith, many))
+    ∙ all-seen (s .raster) (orientedEdges (vecOf (s .eye)) p) i j (subst (λ (fs : List EdgeFunction). (f : EdgeFunction) → List·Memᴰ f fs → FunctionBounded f) (h .are) each)
+    ∙ met-edges (vecOf (s .eye)) (lineAt (s .raster) i j) p (omega (arith, many))
   where
+    each : (f : EdgeFunction) → List·Memᴰ f (functionsIn table (run .first) (run .count)) → FunctionBounded f
+    each =
+        of-map FunctionBounded (functionAt table) (range (run .first) (run .count))
+        (of-range (λ (k : ℕ). FunctionBounded (functionAt table k)) (run .first) (run .count) (h .bounded .each))
+
     many : length (orientedEdges (vecOf (s .eye)) p) ≡ run .count
     many =
         sym (length-map (orientedEdges (vecOf (s .eye)) p) (seenBy (s .raster)))

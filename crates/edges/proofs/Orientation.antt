@@ -2,7 +2,7 @@
 use mathlib.Core.Path.{_≡_, refl, sym, _∙_, ap, ap₂}
 use mathlib.Core.Logic.{_≢_}
 use mathlib.Core.Bool.{Bool, true, false, not, _&&_}
-use mathlib.Core.List.{List, [], _∷_, map}
+use mathlib.Core.List.{List, [], _∷_, map, List·Memᴰ, List·Memᴰ·head, List·Memᴰ·tail}
 use Prim.Native.Nat.{zero, suc, _*_}
 use native.Mathlib.Omega.{arith}
 use lib.Dec.{lt→ltb}
@@ -44,22 +44,22 @@ same-sign-test (negsuc k) n = exchanged {s = negsuc k} {t = negsuc 0} (record { 
 
 pub every-map :
     {A B : Type 0} (f : A → B) (test : B → Bool) (test′ : A → Bool) →
-    ((a : A) → test (f a) ≡ test′ a) →
     (xs : List A) →
+    ((a : A) → List·Memᴰ a xs → test (f a) ≡ test′ a) →
     every test (map f xs) ≡ every test′ xs
-every-map f test test′ h [] = refl
-every-map f test test′ h (a ∷ xs) = ap₂ _&&_ (h a) (every-map f test test′ h xs)
+every-map f test test′ [] h = refl
+every-map f test test′ (a ∷ xs) h =
+    ap₂ _&&_ (h a (List·Memᴰ·head refl)) (every-map f test test′ xs (λ b m. h b (List·Memᴰ·tail m)))
 
 met-oriented : (eye d : Vec) (p : Patch) → met eye d p ≡ (not (isZero (eyeProduct eye p)) && inside d (orientedEdges eye p))
 unfolding met inside orientedEdges
 met-oriented eye d p =
     ap (not (isZero (eyeProduct eye p)) &&_)
     (sym
-    (every-map (λ (e : Edge). times (signOf (eyeProduct eye p)) (edgeVector eye e)) _ _
-    (λ e.
+    (every-map (λ (e : Edge). times (signOf (eyeProduct eye p)) (edgeVector eye e)) _ _ (edges (p .corners))
+    (λ e m.
     ap (ltZ (pos 0)) (dot-times d (edgeVector eye e) (signOf (eyeProduct eye p)))
-    ∙ sym (same-sign-test (eyeProduct eye p) (edgeNumber d (edgeVector eye e))))
-    (edges (p .corners))))
+    ∙ sym (same-sign-test (eyeProduct eye p) (edgeNumber d (edgeVector eye e))))))
 
 -- with the eye in the patch's plane it is not met
 pub met-none : (eye d : Vec) (p : Patch) → eyeProduct eye p ≡ pos 0 → met eye d p ≡ false

@@ -10,28 +10,23 @@ use Rattle.model.specs.Vector.{Vec, Plane, origin}
 use Rattle.model.specs.Format.{NodeRecord, decode}
 use Rattle.model.specs.Questions.{pointInRange, planeInRange, coordinatesInRange}
 use Rattle.model.proofs.Tests.{both, every-true}
+use Rattle.model.proofs.Sizes.{parts-within}
 use Rattle.model.proofs.Ranges.{getD-member}
 use Rattle.geometry.specs.declared.Vector.{Vector}
 use Rattle.geometry.specs.Machine.{vecOf, Bounded}
-use Rattle.geometry.proofs.Sizes.{part-sizes}
 use Rattle.format.specs.declared.layout.Layout.{Layout}
 use Rattle.format.specs.Layout.{LaidOut, nodeNumber, cornerNumber}
-use Rattle.format.specs.Bounds.{VecWithin, PlaneWithin}
+use Rattle.model.specs.Bounds.{VecWithin, PlaneWithin}
 use Rattle.format.proofs.Decoded.{node-count, corner-count, node-at, corner-at}
-
-point-within : (v : Vec) → T (pointInRange v) → VecWithin 10000 v
-point-within v t =
-    let s = part-sizes 10000 v t in
-    record { x-within = s .0; y-within = s .1; z-within = s .2 }
 
 plane-within : (s : Plane) → T (planeInRange s) → PlaneWithin 10000 s
 plane-within s t =
     let abc = both (pointInRange (s .a) && pointInRange (s .b)) (pointInRange (s .c)) .0 t in
     let ab = both (pointInRange (s .a)) (pointInRange (s .b)) .0 (abc .0) in
     record {
-      a-within = point-within (s .a) (ab .0);
-      b-within = point-within (s .b) (ab .1);
-      c-within = point-within (s .c) (abc .1);
+      a-within = parts-within 10000 (s .a) (ab .0);
+      b-within = parts-within 10000 (s .b) (ab .1);
+      c-within = parts-within 10000 (s .c) (abc .1);
     }
 
 module _ {bytes : List ℕ} {l : Layout} (laid : LaidOut bytes l) (t : T (coordinatesInRange (decode bytes))) where
@@ -51,7 +46,7 @@ module _ {bytes : List ℕ} {l : Layout} (laid : LaidOut bytes l) (t : T (coordi
 
   pub corner-within : (k : ℕ) → k < l .corners → VecWithin 10000 (cornerNumber bytes l k)
   corner-within k h =
-      point-within (cornerNumber bytes l k)
+      parts-within 10000 (cornerNumber bytes l k)
       (subst (λ (c : Vec). T (pointInRange c)) (corner-at laid k origin h)
       (every-true pointInRange (decode bytes .corners) .0 (halves .1) _
       (getD-member (decode bytes .corners) k origin (rw (corner-count laid) h))))

@@ -2,4 +2,3 @@
 pub mod Machine
 pub mod Layout
 pub mod Patch
-pub mod Bounds

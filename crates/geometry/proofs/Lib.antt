@@ -2,3 +2,5 @@
 pub mod Results
 pub mod Zeros
 pub mod Sizes
+pub mod CountsIn
+pub mod EdgeNumbers

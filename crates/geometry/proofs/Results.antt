@@ -12,14 +12,6 @@ use Rattle.geometry.specs.declared.EdgeFunction.{EdgeFunction}
 use Rattle.geometry.specs.Machine.{vecOf, planeOf, VectorIs, NumberIs}
 use Rattle.geometry.specs.Raster.{FunctionIs}
 
--- A need from a fact of its place: `given (λ c. fact) (λ _ h. search ..)`. The place is bound as `_`, so that `search` looks at h alone: where
--- a function reads fields, its place holds more records than `search` enters.
-pub given : {C : Type 0} {H P : C → Type 0} → ((c : C) → H c) → ((c : C) → H c → P c) → (c : C) → P c
-given fact need c = need c (fact c)
-
-pub pair : {A B : Type 0} → A → B → A × B
-pair a b = (a, b)
-
 -- what the machine computed from bounded numbers: `number (search (machine, result) depth 40 fits 20000, tt, tt, refl)`
 pub number :
     {n : ℕ} {z r : ℤ} →
@@ -41,7 +33,7 @@ vector h k l =
 
 pub function :
     {e f : EdgeFunction} →
-    NumberIs 1351200000000000 (e .start) (f .start) →
+    NumberIs 1351200000000001 (e .start) (f .start) →
     NumberIs 480000000000 (e .slope) (f .slope) →
     NumberIs 480000000000 (e .drop) (f .drop) →
     FunctionIs e f

@@ -10,11 +10,10 @@ use mir.Syntax.{w64}
 use mir.Val.{hbits, toZ, ofZ}
 use mir.ValLaws.{toZ-ofZ}
 use borrow.Author.Tests.{le-leb, lt-leb}
-use Rattle.integer.specs.Magnitude.{Within}
-use Rattle.integer.proofs.Magnitude.{within-literal, within-more}
 use Rattle.model.specs.Vector.{Vec}
+use Rattle.model.specs.Bounds.{VecWithin}
 use Rattle.model.specs.Questions.{upTo, partsUpTo}
-use Rattle.model.proofs.Tests.{both}
+use Rattle.model.proofs.Sizes.{parts-within, vec-more}
 use Rattle.model.proofs.Loops.{IsThree, first-of-three, second-of-three, third-decides}
 use Rattle.geometry.specs.declared.Vector.{Vector}
 use Rattle.geometry.specs.Machine.{vecOf, Bounded}
@@ -58,14 +57,12 @@ module _ (n : ℕ) (v : Vec) where
   pub z-decides : {x y z : Bool} → x ≡ upTo n (v .x) → x ≡ true → y ≡ upTo n (v .y) → y ≡ true → z ≡ upTo n (v .z) → z ≡ partsUpTo n v
   z-decides = third-decides by-part
 
--- the sizes of the parts
-pub part-sizes : (n : ℕ) (v : Vec) → T (partsUpTo n v) → Within n (v .x) × Within n (v .y) × Within n (v .z)
-part-sizes n v t =
-    let xyz = both (upTo n (v .x) && upTo n (v .y)) (upTo n (v .z)) .0 t in
-    let xy = both (upTo n (v .x)) (upTo n (v .y)) .0 (xyz .0) in
-    (within-literal (xy .0), within-literal (xy .1), within-literal (xyz .1))
-
+-- how large its parts are
 pub parts-bounded : (n : ℕ) {m : ℕ} (v : Vector) → n ≤ m → T (partsUpTo n (vecOf v)) → Bounded m v
 parts-bounded n v h t =
-    let s = part-sizes n (vecOf v) t in
-    record { x-within = within-more (s .0) h; y-within = within-more (s .1) h; z-within = within-more (s .2) h }
+    let s = vec-more (parts-within n (vecOf v) t) h in
+    record { x-within = s .x-within; y-within = s .y-within; z-within = s .z-within }
+
+-- a machine vector's bounds are the model's
+pub vec-within : {n : ℕ} {v : Vector} → Bounded n v → VecWithin n (vecOf v)
+vec-within h = record { x-within = h .x-within; y-within = h .y-within; z-within = h .z-within }

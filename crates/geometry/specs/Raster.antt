@@ -1,9 +1,12 @@
--- The rays of a picture, and numbers that change evenly over it.
+-- The rays of a picture, the lines just beside them, and numbers that change evenly over it.
 use mathlib.Core.Path.{_≡_}
-use Prim.Native.Nat.{ℕ}
-use lib.IntN.{pos}
+use mathlib.Core.Bool.{Bool, cond, _&&_, _||_}
+use Prim.Native.Nat.{ℕ, _*_}
+use lib.IntN.{ℤ, pos, _+ℤ_}
+use lib.Signed.{ltZ}
 use Rattle.integer.specs.Magnitude.{Within}
-use Rattle.model.specs.Vector.{Vec, plus, times, dot}
+use Rattle.model.specs.Vector.{Vec, plus, times, dot, isZero}
+use Rattle.model.specs.Beside.{fine}
 use Rattle.geometry.specs.declared.Raster.{Raster}
 use Rattle.geometry.specs.declared.EdgeFunction.{EdgeFunction}
 use Rattle.geometry.specs.Machine.{vecOf, Bounded}
@@ -12,20 +15,36 @@ use Rattle.geometry.specs.Machine.{vecOf, Bounded}
 abbrev pub rayAt : Raster → ℕ → ℕ → Vec
 rayAt r i j = plus (plus (vecOf (r .origin)) (times (pos i) (vecOf (r .across)))) (times (pos j) (vecOf (r .down)))
 
+-- The line that its cell is read along, just beside the ray: with 1 / 10²⁶ of the way to the next column and 1 / 10⁵² of the way to the next row, multiplied out.
+unfoldable pub lineAt : Raster → ℕ → ℕ → Vec
+lineAt r i j =
+    plus (plus (times (pos (fine * (fine * fine))) (rayAt r i j)) (times (pos (fine * fine)) (vecOf (r .across))))
+    (times (pos fine) (vecOf (r .down)))
+
 -- How large a raster is at most: what views with parts within ±100 and windows up to 1,024 by 512 with lenses up to 4,096 need.
 pub record RasterBounded (r : Raster) : Type 0 where
   pub origin-bounded : Bounded 563000 (r .origin)
   pub across-bounded : Bounded 200 (r .across)
   pub down-bounded : Bounded 200 (r .down)
 
--- the products of the rays with a vector
+-- A number that is 0 at a ray is above 0 just beside it where it rises to the right or, level there, downward: an edge with such a number counts in.
+abbrev pub countsIn : ℤ → ℤ → Bool
+countsIn slope drop = ltZ (pos 0) slope || (isZero slope && ltZ (pos 0) drop)
+
+-- 1 where it does
+abbrev pub inward : ℤ → ℤ → ℤ
+inward slope drop = cond (countsIn slope drop) (pos 1) (pos 0)
+
+-- the products of the rays with an edge vector, each one more where the edge counts in: above 0 exactly where the line just beside the ray passes on the edge's side
 abbrev pub seenBy : Raster → Vec → EdgeFunction
 seenBy r e =
-    record { start = dot (vecOf (r .origin)) e; slope = dot (vecOf (r .across)) e; drop = dot (vecOf (r .down)) e }
+    let slope : ℤ = dot (vecOf (r .across)) e in
+    let drop : ℤ = dot (vecOf (r .down)) e in
+    record { start = dot (vecOf (r .origin)) e +ℤ inward slope drop; slope = slope; drop = drop }
 
 -- how large they are at most, for an edge vector, parts within 800,000,000
 pub record FunctionBounded (f : EdgeFunction) : Type 0 where
-  pub start-within : Within 1351200000000000 (f .start)
+  pub start-within : Within 1351200000000001 (f .start)
   pub slope-within : Within 480000000000 (f .slope)
   pub drop-within : Within 480000000000 (f .drop)
 

@@ -3,7 +3,7 @@ ghost use mathlib.Core.Path.{_≡_};
 ghost use Rattle.model.specs.Vector.{minus, dot, cross, planeNormal};
 ghost use Rattle.model.specs.Questions.{upTo, partsUpTo};
 ghost use Rattle.geometry.specs.Machine.{vecOf, planeOf, Bounded, VectorIs, NumberIs};
-ghost use Rattle.geometry.specs.Raster.{RasterBounded, FunctionIs, seenBy};
+ghost use Rattle.geometry.specs.Raster.{RasterBounded, FunctionIs, inward, seenBy};
 
 pub struct Vector {
     pub x: i64,
@@ -20,7 +20,8 @@ pub struct Raster {
     pub height: usize,
 }
 
-// A number for each ray of a raster: start + i · slope + j · drop at column i of row j. The products of the rays with one vector are such numbers.
+// A number for each ray of a raster: start + i · slope + j · drop at column i of row j. The products of the rays with one edge vector are such numbers; one more at
+// the start makes those of an edge that counts in, so that above 0 means on the edge's side for the line just beside the ray.
 pub struct EdgeFunction {
     pub start: i64,
     pub slope: i64,
@@ -115,14 +116,32 @@ pub fn edge_vector(eye: Vector, v: Vector, w: Vector) -> Vector
     plane_normal(eye, v, w)
 }
 
-// the products of a raster's rays with an edge vector
+// 1 where an edge counts in: its number rises to the right or, level there, downward
+fn counts_in(slope: i64, drop: i64) -> i64
+    ensures { λ r. ⌜ NumberIs 1 (inward slope drop) r ⌝ }
+{
+    if slope < 0 {
+        return 0;
+    }
+    if 0 < slope {
+        return 1;
+    }
+    if 0 < drop {
+        return 1;
+    }
+    0
+}
+
+// what a raster sees of an edge vector
 pub fn edge_function(r: Raster, edge: Vector) -> EdgeFunction
     requires { ⌜ RasterBounded r × Bounded 800000000 edge ⌝ }
     ensures { λ f. ⌜ FunctionIs (seenBy r (vecOf edge)) f ⌝ }
 {
+    let slope = dot_product(r.across, edge);
+    let drop = dot_product(r.down, edge);
     EdgeFunction {
-        start: dot_product(r.origin, edge),
-        slope: dot_product(r.across, edge),
-        drop: dot_product(r.down, edge),
+        start: dot_product(r.origin, edge) + counts_in(slope, drop),
+        slope,
+        drop,
     }
 }

@@ -15,6 +15,7 @@ pub mod CallLimits
 pub mod PanelNumbers
 -- the geometry of met patches
 pub mod Vectors
+pub mod Sizes
 pub mod Views
 pub mod Rounds
 pub mod Patches
@@ -42,3 +43,9 @@ pub mod Leads
 pub mod Booked
 pub mod Labels
 pub mod PanelSums
+-- the lines just beside a sight line
+pub mod Steep
+pub mod Alike
+pub mod Beside
+pub mod PatchTables
+pub mod BesideCells

@@ -1,15 +1,24 @@
 -- Runs that follow each other: each begins where the one before it ended, and the last ends where the table ends.
-use mathlib.Core.Path.{_≡_}
-use mathlib.Core.List.{List, [], _∷_, map, List·Memᴰ, List·Memᴰ·not-nil, Memᴰ·map}
+use mathlib.Core.Path.{_≡_, subst}
+use mathlib.Core.List.{List, [], _∷_, map, List·Memᴰ, List·Memᴰ·not-nil, Memᴰ·append-left, Memᴰ·append-right, Memᴰ·map}
 use Prim.Native.Nat.{ℕ, zero, suc, _+_, _≤_, _<_}
 use native.Mathlib.Nat.{add-zero, add-suc, suc-add}
 use native.Mathlib.Omega.{arith}
 use lib.Dec.{T, eqb, eqb→eq}
+use lib.ListN.{take, drop, take-append-drop}
 use Rattle.model.specs.Lists.{range}
-use Rattle.model.specs.Format.{Run}
+use Rattle.model.specs.Format.{Run, inRun}
 use Rattle.model.specs.Questions.{runsFollow}
 use Rattle.model.proofs.Tests.{both, of-cons}
 use Rattle.model.proofs.Ranges.{in-range}
+
+-- what the part of a list that a run names holds is in the list
+pub part-member : {A : Type 0} {a : A} (r : Run) (l : List A) → List·Memᴰ a (inRun r l) → List·Memᴰ a l
+part-member {a} r l m =
+    subst (List·Memᴰ a) (take-append-drop (r .first) l)
+    (Memᴰ·append-right (take (r .first) l)
+    (subst (List·Memᴰ a) (take-append-drop (r .count) (drop (r .first) l))
+    (Memᴰ·append-left (drop (r .count) (drop (r .first) l)) m)))
 
 abbrev pub runEnd : Run → ℕ
 runEnd r = r .first + r .count

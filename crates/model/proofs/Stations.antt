@@ -58,7 +58,8 @@ abbrev pub stations : List Station
 stations =
     shows (usual sceneS) (middle 5) (1 ∷ 0 ∷ []) ((0 ∷ 1 ∷ 3 ∷ 1 ∷ []) ∷ (0 ∷ 4 ∷ []) ∷ []) (5 ∷ 0 ∷ [])
     (4 ∷ 12 ∷ [])
-    ∷ shows (usual (sOfHalfWidth (pos 25))) blank [] [] (5 ∷ 0 ∷ []) (0 ∷ 16 ∷ [])
+    ∷ shows (usual (sOfHalfWidth (pos 25))) (0 ∷ 0 ∷ 0 ∷ 0 ∷ 0 ∷ 5 ∷ 0 ∷ 0 ∷ 0 ∷ 0 ∷ 0 ∷ 0 ∷ 0 ∷ 0 ∷ 0 ∷ 0 ∷ []) (1 ∷ 0 ∷ [])
+    ((0 ∷ 1 ∷ 2 ∷ 2 ∷ []) ∷ (0 ∷ 4 ∷ []) ∷ []) (5 ∷ 0 ∷ []) (1 ∷ 15 ∷ [])
     ∷ shows (usual (sOfHalfWidth (pos 26))) (middle 5) [] [] (5 ∷ []) (4 ∷ [])
     ∷ shows (fittingCall sceneS (vec (pos 0) (pos 100) (pos 0)) 4 4 4) blank [] [] [] []
     ∷ shows (fittingCall sceneS (vec (pos 0) (pos 200) (pos 0)) 4 4 4) blank [] [] [] []

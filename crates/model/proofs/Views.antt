@@ -1,4 +1,4 @@
--- The old view keeps its pictures and answers; and in an accepted view right, a cell's direction and up do not lie in one plane.
+-- The old view keeps its directions and answers; and in an accepted view right, a cell's direction and up do not lie in one plane.
 use mathlib.Core.Path.{_≡_, sym, _∙_, ap, fun-ext, subst}
 use mathlib.Core.Bool.{true, _&&_}
 use mathlib.Core.List.{[], _∷_}
@@ -9,9 +9,10 @@ use lib.Signed.{_<ℤ_}
 use Rattle.integer.proofs.Identity.{ring, reify}
 use Rattle.integer.proofs.Products.{*-pos}
 use Rattle.model.specs.Vector.{Vec, vec, plus, times}
-use Rattle.model.specs.View.{Window, Axes, View, levelAxes, direction, viewDirection}
+use Rattle.model.specs.View.{Window, Axes, View, levelAxes, direction}
+use Rattle.model.specs.Beside.{stepped, fine, cellLine}
 use Rattle.model.specs.Picture.{picture, cellPanel, unlitLists}
-use Rattle.model.specs.Call.{Call, callDirection}
+use Rattle.model.specs.Call.{Call, callLine}
 use Rattle.model.specs.Questions.{answer, sceneQuestions, callQuestions, questions, surveyAnswer, viewInRange, axesProper}
 use Rattle.model.specs.Survey.{callPatches, callPicture, callUnlit}
 use Rattle.model.proofs.Tests.{both}
@@ -24,6 +25,10 @@ use Rattle.model.proofs.CallLimits.{view-bounded, axes-bounded}
 -- document 01: "The cell's direction is (2i + 1 − width, lens, height − 1 − 2j), from the eye onward."
 abbrev pub levelDirection : Window → ℕ → ℕ → Vec
 levelDirection w i j = vec (pos (2 * i + 1) -ℤ pos (w .width)) (pos (w .lens)) (pos (w .height) -ℤ pos (1 + 2 * j))
+
+-- the line beside it that a cell is read along: the camera's right and up are the axes x and z
+abbrev pub levelLine : Window → ℕ → ℕ → Vec
+levelLine w i j = stepped levelAxes (levelDirection w i j) 2 fine 2 (fine * fine)
 
 -- one part of the sum of three terms: a level camera's axes leave one of them
 first-part : (a b c : ℤ) → a *ℤ pos 1 +ℤ b *ℤ pos 0 +ℤ c *ℤ pos 0 ≡ a
@@ -49,34 +54,38 @@ level-proper = tt
 
 -- a call of the old view
 module _ (c : Call) (level : c .camera .axes ≡ levelAxes) where
-  -- Every old call keeps its answer: that of the questions without 14. (Question 13 goes along the call's directions, which `level-directions` shows to be the old ones.)
+  -- Every old call keeps its answer: that of the questions without 14. (Question 13 goes along the call's lines, those of `level-lines`.)
   pub level-answer : surveyAnswer c ≡ answer (without 14 questions) c
   unfolding surveyAnswer questions sceneQuestions callQuestions
   level-answer =
       sym (without-same c 14 questions (subst (λ (a : Axes). T (axesProper a && true)) (sym level) (both (axesProper levelAxes) true .1 (level-proper, tt))))
 
-  pub level-directions : callDirection c ≡ levelDirection (c .camera .window)
+  pub level-directions : direction (c .camera) ≡ levelDirection (c .camera .window)
   level-directions =
       ap (λ (a : Axes). direction (record { axes = a; window = c .camera .window })) level
       ∙ fun-ext (λ i. fun-ext (λ j. level-direction (c .camera .window) i j))
 
-  -- Every old call keeps its picture and its unlit lists: those along document 01's directions.
+  -- Every old call has its picture and its unlit lists along document 01's directions, each read by the lines just beside it (document 02, F-3).
+  level-lines : callLine c ≡ levelLine (c .camera .window)
+  unfolding cellLine
+  level-lines = λ t i j. stepped (level t) (level-directions t i j) 2 fine 2 (fine * fine)
+
   pub level-picture :
       callPicture c
-      ≡ picture (c .eye) (c .camera .window .width) (c .camera .window .height) (levelDirection (c .camera .window)) (callPatches c)
+      ≡ picture (c .eye) (c .camera .window .width) (c .camera .window .height) (levelLine (c .camera .window)) (callPatches c)
   unfolding callPicture
   level-picture =
-      ap (λ (d : ℕ → ℕ → Vec). picture (c .eye) (c .camera .window .width) (c .camera .window .height) d (callPatches c)) level-directions
+      ap (λ (d : ℕ → ℕ → Vec). picture (c .eye) (c .camera .window .width) (c .camera .window .height) d (callPatches c)) level-lines
 
   pub level-unlit :
       callUnlit c
       ≡ unlitLists (c .camera .window .width) (c .camera .window .height)
-      (cellPanel (c .eye) (levelDirection (c .camera .window)) (callPatches c))
+      (cellPanel (c .eye) (levelLine (c .camera .window)) (callPatches c))
   unfolding callUnlit
   level-unlit =
       ap
       (λ (d : ℕ → ℕ → Vec).
-      unlitLists (c .camera .window .width) (c .camera .window .height) (cellPanel (c .eye) d (callPatches c))) level-directions
+      unlitLists (c .camera .window .width) (c .camera .window .height) (cellPanel (c .eye) d (callPatches c))) level-lines
 
 -- ---- any view
 
@@ -92,7 +101,7 @@ direction-between r f u a b c =
 -- other two, and no direction is zero.
 pub axes-apart :
     (v : View) → T (viewInRange v) → T (axesProper (v .camera .axes)) → (i j : ℕ) →
-    pos 0 <ℤ det (v .camera .axes .right) (viewDirection v i j) (v .camera .axes .up)
+    pos 0 <ℤ det (v .camera .axes .right) (direction (v .camera) i j) (v .camera .axes .up)
 axes-apart v t s i j =
     let a = v .camera .axes in
     let w = v .camera .window in

@@ -2,7 +2,8 @@
 use mathlib.Core.List.{List}
 use Prim.Native.Nat.{ℕ}
 use Rattle.model.specs.Vector.{Vec}
-use Rattle.model.specs.View.{Camera, View, viewDirection}
+use Rattle.model.specs.View.{Camera, View}
+use Rattle.model.specs.Beside.{cellLine}
 use Rattle.model.specs.Lent.{Lengths}
 
 -- the whole input of the survey call: the scene's bytes, the eye (document 01: "The station is the eye"), the camera, the lent buffers' lengths and the
@@ -18,6 +19,6 @@ pub record Call : Type 0 where
 abbrev pub callView : Call → View
 callView c = record { eye = c .eye; camera = c .camera }
 
--- the direction of each cell of a call
-abbrev pub callDirection : Call → ℕ → ℕ → Vec
-callDirection c i j = viewDirection (callView c) i j
+-- the line by which each cell of a call is read
+abbrev pub callLine : Call → ℕ → ℕ → Vec
+callLine c i j = cellLine (c .camera) i j

@@ -2,16 +2,18 @@
 -- names no document is from document 01.
 pub mod Lists
 pub mod Vector
+pub mod Bounds
 pub mod Patch
 pub mod Ray
 pub mod Tree
 pub mod Format
 pub mod View
+pub mod Booking
+pub mod Beside
 pub mod Lent
 pub mod Call
 pub mod Row
 pub mod Picture
-pub mod Booking
 pub mod Questions
 pub mod Accepted
 pub mod Survey

@@ -14,7 +14,7 @@ use Rattle.model.specs.Tree.{order, divides}
 use Rattle.model.specs.Format.{Header, Section, Run, NodeRecord, PatchRecord, Scene, headerOf, decode, sceneVersion, headerSize, nodeSize, patchSize, cornerSize, mostNodes, mostPatches, mostCorners, highestPanel, noChild, inRun, patchTable, patchTree}
 use Rattle.model.specs.View.{Axes, Camera, View}
 use Rattle.model.specs.Lent.{Lengths}
-use Rattle.model.specs.Call.{Call, callView, callDirection}
+use Rattle.model.specs.Call.{Call, callView, callLine}
 use Rattle.model.specs.Row.{segments, rowPairs, rowLength}
 use Rattle.model.specs.Picture.{countEntries}
 
@@ -225,7 +225,7 @@ unfoldable pub rowsFit : Call → Bool
 rowsFit c =
     every
     (λ (j : ℕ).
-    rowFits (c .camera .window .width) (c .eye) (λ (i : ℕ). callDirection c i j)
+    rowFits (c .camera .window .width) (c .eye) (λ (i : ℕ). callLine c i j)
     (order (c .eye) (patchTree (decode (c .scene))))) (range 0 (c .camera .window .height))
 
 -- The questions on the call, in the order of asking. Document 02, F-1: 14 is "put right after question 10".

@@ -49,7 +49,3 @@ viewWidth v = v .camera .window .width
 
 abbrev pub viewHeight : View → ℕ
 viewHeight v = v .camera .window .height
-
--- the direction of cell (i, j) of a view
-abbrev pub viewDirection : View → ℕ → ℕ → Vec
-viewDirection v i j = direction (v .camera) i j

@@ -11,7 +11,7 @@ use Rattle.model.specs.Format.{decode, patchNumbered}
 use Rattle.model.specs.Row.{rowLength}
 use Rattle.model.specs.Questions.{unlitAfter}
 use Rattle.geometry.specs.Machine.{vecOf}
-use Rattle.geometry.specs.Raster.{rayAt}
+use Rattle.geometry.specs.Raster.{lineAt}
 use Rattle.format.proofs.Tables.{same-table}
 use Rattle.segments.proofs.Rows.{row-congr}
 use Rattle.edges.specs.declared.Sight.{Sight}
@@ -48,19 +48,19 @@ full-placed {eye} {ray} done rest {width} {j} {picture} {unlit} full placed =
 -- the rest of a walk that a row does not wait for: none where the walk is whole, and any where the row is full
 module _
     (bytes : List ℕ) (s : Sight) (order : List ℕ) {j : ℕ} {picture unlit picture′ unlit′ : List ℕ} {whole full : Bool}
-    (done : RowDone (vecOf (s .eye)) (λ (i : ℕ). rayAt (s .raster) i j) (walkOf bytes order) (s .raster .width) j picture unlit picture′ unlit′ full)
+    (done : RowDone (vecOf (s .eye)) (λ (i : ℕ). lineAt (s .raster) i j) (walkOf bytes order) (s .raster .width) j picture unlit picture′ unlit′ full)
   where
     placed-all :
         (not whole && not full) ≡ false → (rest : List ℕ) → (whole ≡ true → rest ≡ []) →
-        RowPlaced (vecOf (s .eye)) (λ (i : ℕ). rayAt (s .raster) i j) (walkOf bytes (order ++ rest)) (s .raster .width) j picture unlit picture′ unlit′
+        RowPlaced (vecOf (s .eye)) (λ (i : ℕ). lineAt (s .raster) i j) (walkOf bytes (order ++ rest)) (s .raster .width) j picture unlit picture′ unlit′
     placed-all e rest none = go whole full e none (done .full-says)
       where
         Placed : List Patch → Type 0
-        Placed walk = RowPlaced (vecOf (s .eye)) (λ (i : ℕ). rayAt (s .raster) i j) walk (s .raster .width) j picture unlit picture′ unlit′
+        Placed walk = RowPlaced (vecOf (s .eye)) (λ (i : ℕ). lineAt (s .raster) i j) walk (s .raster .width) j picture unlit picture′ unlit′
 
         go :
             (w f : Bool) → (not w && not f) ≡ false → (w ≡ true → rest ≡ []) →
-            (f ≡ true → (i : ℕ) → i < s .raster .width → unlitAfter (vecOf (s .eye)) (λ (i : ℕ). rayAt (s .raster) i j) (walkOf bytes order) i ≡ false) →
+            (f ≡ true → (i : ℕ) → i < s .raster .width → unlitAfter (vecOf (s .eye)) (λ (i : ℕ). lineAt (s .raster) i j) (walkOf bytes order) i ≡ false) →
             Placed (walkOf bytes (order ++ rest))
         go true f e none says = subst (λ (ns : List ℕ). Placed (walkOf bytes ns)) (sym (ap (order ++_) (none refl) ∙ append-nil order)) (done .placed)
         go false true e none says =
@@ -100,9 +100,9 @@ pub record BandUpTo
   pub same-entries : length booked′ ≡ length booked
   pub rows :
       (rest : List ℕ) → (band .whole ≡ true → rest ≡ []) →
-      RowsUpTo (vecOf (band .sight .eye)) (rayAt (band .sight .raster)) (walkOf bytes (order ++ rest)) (band .sight .raster .width) (band .sight .raster .height)
+      RowsUpTo (vecOf (band .sight .eye)) (lineAt (band .sight .raster)) (walkOf bytes (order ++ rest)) (band .sight .raster .width) (band .sight .raster .height)
       picture unlit (band .from) →
-      RowsUpTo (vecOf (band .sight .eye)) (rayAt (band .sight .raster)) (walkOf bytes (order ++ rest)) (band .sight .raster .width) (band .sight .raster .height)
+      RowsUpTo (vecOf (band .sight .eye)) (lineAt (band .sight .raster)) (walkOf bytes (order ++ rest)) (band .sight .raster .width) (band .sight .raster .height)
       picture′ unlit′ j
   pub counted : BandBooked bytes order band booked booked′ j
 
@@ -125,7 +125,7 @@ module _ {bytes order : List ℕ} {band : Band} {picture unlit booked : List ℕ
       {picture′ unlit′ picture″ unlit″ booked′ : List ℕ} {j : ℕ} {full : Bool} (b : BandUpTo bytes order band picture unlit picture′ unlit′ booked booked′ j)
       (framed : Framed (band .sight .raster .width) (band .sight .raster .height) picture unlit) (h : j < band .sight .raster .height)
       (done :
-      RowDone (vecOf (band .sight .eye)) (λ (i : ℕ). rayAt (band .sight .raster) i j) (walkOf bytes order) (band .sight .raster .width) j picture′ unlit′ picture″ unlit″ full)
+      RowDone (vecOf (band .sight .eye)) (λ (i : ℕ). lineAt (band .sight .raster) i j) (walkOf bytes order) (band .sight .raster .width) j picture′ unlit′ picture″ unlit″ full)
     where
       abbrev now-framed : Framed (band .sight .raster .width) (band .sight .raster .height) picture′ unlit′
       now-framed = still-framed (b .same-cells) (b .same-unlit) framed
@@ -133,7 +133,7 @@ module _ {bytes order : List ℕ} {band : Band} {picture unlit booked : List ℕ
       pub band-go :
           {booked″ : List ℕ} {waits : Bool} → waits ≡ (not (band .whole) && not full) → waits ≡ false → j < band .to →
           length picture″ ≡ length picture′ → length unlit″ ≡ length unlit′ →
-          RowBooked (vecOf (band .sight .eye)) (λ (i : ℕ). rayAt (band .sight .raster) i j) (patchNumbered (decode bytes)) order (band .sight .raster .width) booked′ booked″ →
+          RowBooked (vecOf (band .sight .eye)) (λ (i : ℕ). lineAt (band .sight .raster) i j) (patchNumbered (decode bytes)) order (band .sight .raster .width) booked′ booked″ →
           BandUpTo bytes order band picture unlit picture″ unlit″ booked booked″ (j + 1)
       band-go e f k p u added =
           record {

@@ -12,7 +12,7 @@ use borrow.Author.Tests.{lt-ltb, eqb-true, eqb-false}
 use Rattle.model.proofs.Tests.{lt-or-ge}
 use Rattle.model.specs.Format.{decode, patchNumbered}
 use Rattle.geometry.specs.Machine.{vecOf}
-use Rattle.geometry.specs.Raster.{rayAt}
+use Rattle.geometry.specs.Raster.{lineAt}
 use Rattle.format.specs.declared.layout.Layout.{Layout}
 use Rattle.edges.specs.declared.Sight.{Sight}
 use Rattle.scanline.specs.Laying.{walkOf}
@@ -33,9 +33,9 @@ pub record Progress
   pub same-entries : length booked′ ≡ length booked
   pub ready-is : ReadyUpTo bytes l s order edges′ rows′ ready
   pub rows-are :
-      RowsUpTo (vecOf (s .eye)) (rayAt (s .raster)) (walkOf bytes order) (s .raster .width) (s .raster .height) picture′ unlit′ from
+      RowsUpTo (vecOf (s .eye)) (lineAt (s .raster)) (walkOf bytes order) (s .raster .width) (s .raster .height) picture′ unlit′ from
   pub low : AtMost booked′ (256 * from)
-  pub booked-are : BookedUpTo (vecOf (s .eye)) (rayAt (s .raster)) (patchNumbered (decode bytes)) order (s .raster .width) booked′ from
+  pub booked-are : BookedUpTo (vecOf (s .eye)) (lineAt (s .raster)) (patchNumbered (decode bytes)) order (s .raster .width) booked′ from
 
 module _ {bytes : List ℕ} {l : Layout} {s : Sight} {order : List ℕ} {edges : List ℤ} {rows picture unlit booked : List ℕ} where
   pub progress-start :
@@ -51,7 +51,7 @@ module _ {bytes : List ℕ} {l : Layout} {s : Sight} {order : List ℕ} {edges :
         rows-are = rows-start picture unlit;
         low = λ k h. omega (arith, ap (λ (l : List ℕ). getD l k 0) e ∙ all-zero n k);
         booked-are =
-            subst (λ (l : List ℕ). BookedUpTo (vecOf (s .eye)) (rayAt (s .raster)) (patchNumbered (decode bytes)) order (s .raster .width) l 0) (sym e)
+            subst (λ (l : List ℕ). BookedUpTo (vecOf (s .eye)) (lineAt (s .raster)) (patchNumbered (decode bytes)) order (s .raster .width) l 0) (sym e)
             (book-start n);
       }
 
@@ -90,21 +90,21 @@ module _ {bytes : List ℕ} {l : Layout} {s : Sight} {order : List ℕ} {edges :
           none t = drop-of-length-le order {i = ready} (omega (arith, eqb-true ready (length order) t))
 
           Rows : List ℕ → List ℕ → ℕ → List ℕ → Type 0
-          Rows cells lists j ns = RowsUpTo (vecOf (s .eye)) (rayAt (s .raster)) (walkOf bytes ns) (s .raster .width) (s .raster .height) cells lists j
+          Rows cells lists j ns = RowsUpTo (vecOf (s .eye)) (lineAt (s .raster)) (walkOf bytes ns) (s .raster .width) (s .raster .height) cells lists j
 
           Cells : List ℕ → ℕ → List ℕ → Type 0
-          Cells table j ns = BookedUpTo (vecOf (s .eye)) (rayAt (s .raster)) (patchNumbered (decode bytes)) ns (s .raster .width) table j
+          Cells table j ns = BookedUpTo (vecOf (s .eye)) (lineAt (s .raster)) (patchNumbered (decode bytes)) ns (s .raster .width) table j
 
       pub progress-end :
           s .raster .height ≤ from → Framed (s .raster .width) (s .raster .height) picture unlit →
-          RowsPainted (vecOf (s .eye)) (rayAt (s .raster)) (walkOf bytes order) (s .raster .width) (s .raster .height) picture′ unlit′
+          RowsPainted (vecOf (s .eye)) (lineAt (s .raster)) (walkOf bytes order) (s .raster .width) (s .raster .height) picture′ unlit′
       progress-end h framed = rows-end (p .rows-are) h (still-framed (p .same-cells) (p .same-unlit) framed)
 
       pub booked-end :
-          s .raster .height ≤ from → BookedUpTo (vecOf (s .eye)) (rayAt (s .raster)) (patchNumbered (decode bytes)) order (s .raster .width) booked′ (s .raster .height)
+          s .raster .height ≤ from → BookedUpTo (vecOf (s .eye)) (lineAt (s .raster)) (patchNumbered (decode bytes)) order (s .raster .width) booked′ (s .raster .height)
       booked-end h =
           let e : from ≡ s .raster .height = omega (arith, p .rows-are .bound) in
-          subst (BookedUpTo (vecOf (s .eye)) (rayAt (s .raster)) (patchNumbered (decode bytes)) order (s .raster .width) booked′) e (p .booked-are)
+          subst (BookedUpTo (vecOf (s .eye)) (lineAt (s .raster)) (patchNumbered (decode bytes)) order (s .raster .width) booked′) e (p .booked-are)
 
 -- each round paints a row or makes a patch ready
 pub progress-less :

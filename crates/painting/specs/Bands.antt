@@ -7,7 +7,7 @@ use lib.IntN.{ℤ}
 use lib.ListN.{length}
 use Rattle.model.specs.Format.{decode, patchNumbered}
 use Rattle.geometry.specs.Machine.{vecOf}
-use Rattle.geometry.specs.Raster.{rayAt}
+use Rattle.geometry.specs.Raster.{lineAt}
 use Rattle.format.specs.declared.layout.Layout.{Layout}
 use Rattle.edges.specs.declared.Sight.{Sight}
 use Rattle.painting.specs.declared.Band.{Band}
@@ -45,9 +45,9 @@ pub record BandPainted
   pub all : band .whole ≡ true → r ≡ band .to
   pub rows :
       (rest : List ℕ) → (band .whole ≡ true → rest ≡ []) →
-      RowsUpTo (vecOf (band .sight .eye)) (rayAt (band .sight .raster)) (walkOf bytes (order ++ rest)) (band .sight .raster .width) (band .sight .raster .height)
+      RowsUpTo (vecOf (band .sight .eye)) (lineAt (band .sight .raster)) (walkOf bytes (order ++ rest)) (band .sight .raster .width) (band .sight .raster .height)
       picture unlit (band .from) →
-      RowsUpTo (vecOf (band .sight .eye)) (rayAt (band .sight .raster)) (walkOf bytes (order ++ rest)) (band .sight .raster .width) (band .sight .raster .height)
+      RowsUpTo (vecOf (band .sight .eye)) (lineAt (band .sight .raster)) (walkOf bytes (order ++ rest)) (band .sight .raster .width) (band .sight .raster .height)
       picture′ unlit′ r
 
 -- the cells of just these rows are booked, row r not yet
@@ -55,5 +55,5 @@ pub record BandBooked (bytes order : List ℕ) (band : Band) (booked booked′ :
   pub low : AtMost booked′ (256 * r)
   pub rows :
       (rest : List ℕ) → (band .whole ≡ true → rest ≡ []) →
-      BookedUpTo (vecOf (band .sight .eye)) (rayAt (band .sight .raster)) (patchNumbered (decode bytes)) (order ++ rest) (band .sight .raster .width) booked (band .from) →
-      BookedUpTo (vecOf (band .sight .eye)) (rayAt (band .sight .raster)) (patchNumbered (decode bytes)) (order ++ rest) (band .sight .raster .width) booked′ r
+      BookedUpTo (vecOf (band .sight .eye)) (lineAt (band .sight .raster)) (patchNumbered (decode bytes)) (order ++ rest) (band .sight .raster .width) booked (band .from) →
+      BookedUpTo (vecOf (band .sight .eye)) (lineAt (band .sight .raster)) (patchNumbered (decode bytes)) (order ++ rest) (band .sight .raster .width) booked′ r

@@ -13,7 +13,7 @@ ghost use mathlib.Core.Bool.{not, _&&_};
 ghost use Prim.Native.Nat.{_≤_, _<_};
 ghost use Rattle.model.specs.Format.{decode, patchNumbered};
 ghost use Rattle.geometry.specs.Machine.{vecOf};
-ghost use Rattle.geometry.specs.Raster.{rayAt};
+ghost use Rattle.geometry.specs.Raster.{lineAt};
 ghost use Rattle.placing.specs.Framing.{RowsPainted};
 ghost use Rattle.placing.specs.Booked.{BookedUpTo};
 ghost use Rattle.scanline.specs.Laying.{walkOf};
@@ -111,9 +111,9 @@ pub fn paint_rows(
     booked: &mut [u32],
 )
     requires { ⌜ PictureAsked (now bytes) l sight (now order) (now edges) (now rows) (now picture) (now unlit) (now booked) ⌝ }
-    ensures painted { λ r. ⌜ RowsPainted (vecOf (sight .eye)) (rayAt (sight .raster)) (walkOf (now (bytes .entry)) (now (order .entry)))
+    ensures painted { λ r. ⌜ RowsPainted (vecOf (sight .eye)) (lineAt (sight .raster)) (walkOf (now (bytes .entry)) (now (order .entry)))
         (sight .raster .width) (sight .raster .height) (now (picture .exit)) (now (unlit .exit)) ⌝ }
-    ensures counted { λ r. ⌜ BookedUpTo (vecOf (sight .eye)) (rayAt (sight .raster)) (patchNumbered (decode (now (bytes .entry)))) (now (order .entry))
+    ensures counted { λ r. ⌜ BookedUpTo (vecOf (sight .eye)) (lineAt (sight .raster)) (patchNumbered (decode (now (bytes .entry)))) (now (order .entry))
         (sight .raster .width) (now (booked .exit)) (sight .raster .height) ⌝ }
 {
     clear_table(booked);

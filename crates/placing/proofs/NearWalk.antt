@@ -19,7 +19,7 @@ use Rattle.model.specs.Format.{decode, patchNumbered}
 use Rattle.model.specs.Row.{rowLength}
 use Rattle.model.specs.Questions.{unlitAfter}
 use Rattle.geometry.specs.Machine.{vecOf}
-use Rattle.geometry.specs.Raster.{rayAt}
+use Rattle.geometry.specs.Raster.{lineAt}
 use Rattle.format.specs.declared.layout.Layout.{Layout}
 use Rattle.format.proofs.Tables.{same-table}
 use Rattle.segments.proofs.Rows.{row-congr}
@@ -125,7 +125,7 @@ module _ {rows order near : List ℕ} {from to n : ℕ} (s : Selected rows from 
       eye = vecOf (sight .eye)
 
       abbrev ray : ℕ → Vec
-      ray i = rayAt (sight .raster) i j
+      ray i = lineAt (sight .raster) i j
 
       unmet : (i : ℕ) → Unmet eye (ray i) (patchNumbered (decode bytes)) (reaching rows from to) order
       unmet i k b e = r .each k b .missed j h (outside (spanAt rows p .first) (spanAt rows p .end) e) i

@@ -9,7 +9,7 @@ ghost use Prim.Native.Nat.{ℕ};
 ghost use lib.ListN.{length};
 ghost use Rattle.model.specs.Format.{decode, patchNumbered};
 ghost use Rattle.geometry.specs.Machine.{vecOf};
-ghost use Rattle.geometry.specs.Raster.{rayAt};
+ghost use Rattle.geometry.specs.Raster.{lineAt};
 ghost use Rattle.scanline.specs.Shown.{RowLit};
 ghost use Rattle.scanline.specs.Laying.{walkOf};
 ghost use Rattle.placing.specs.Framing.{RowDone};
@@ -47,9 +47,9 @@ pub fn place_row(
     lits: &mut [u16],
 ) -> Placed
     requires { ⌜ RowAsked (now bytes) l sight (now edges) (now order) (now picture) (now unlit) (now lits) j ⌝ }
-    ensures done { λ r. ⌜ RowDone (vecOf (sight .eye)) (λ (i : ℕ). rayAt (sight .raster) i j) (walkOf (now (bytes .entry)) (now (order .entry)))
+    ensures done { λ r. ⌜ RowDone (vecOf (sight .eye)) (λ (i : ℕ). lineAt (sight .raster) i j) (walkOf (now (bytes .entry)) (now (order .entry)))
         (sight .raster .width) j (now (picture .entry)) (now (unlit .entry)) (now (picture .exit)) (now (unlit .exit)) (r .full) ⌝ }
-    ensures counted { λ r. ⌜ RowLit (vecOf (sight .eye)) (λ (i : ℕ). rayAt (sight .raster) i j) (patchNumbered (decode (now (bytes .entry)))) (now (order .entry))
+    ensures counted { λ r. ⌜ RowLit (vecOf (sight .eye)) (λ (i : ℕ). lineAt (sight .raster) i j) (patchNumbered (decode (now (bytes .entry)))) (now (order .entry))
         (sight .raster .width) (now (lits .exit)) (r .laid) ⌝ }
 {
     let w = sight.raster.width;

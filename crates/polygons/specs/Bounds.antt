@@ -7,7 +7,7 @@ use Rattle.geometry.specs.declared.Vector.{Vector}
 use Rattle.geometry.specs.Machine.{VectorIs}
 use Rattle.format.specs.declared.patch.Patch.{Patch}
 use Rattle.format.specs.Patch.{cornerOf, patchOf}
-use Rattle.format.specs.Bounds.{VecWithin}
+use Rattle.model.specs.Bounds.{VecWithin}
 
 -- a patch in hand after questions 3 and 6
 pub record PatchBounded (p : Patch) : Type 0 where

@@ -7,12 +7,15 @@ use Prim.Native.Nat.{ℕ, _≤_, _<_}
 use native.Mathlib.Omega.{arith}
 use lib.Dec.{T}
 use lib.IntN.{pos, negsuc}
+use Rattle.integer.proofs.Magnitude.{within-literal}
 use Rattle.model.specs.Vector.{Vec}
+use Rattle.model.specs.Bounds.{VecWithin}
 use Rattle.model.specs.Patch.{Patch, Proper}
 use Rattle.model.specs.Ray.{met}
 use Rattle.model.proofs.Tests.{lt-or-ge}
+use Rattle.model.proofs.Alike.{Ranged}
 use Rattle.geometry.specs.declared.Raster.{Raster}
-use Rattle.geometry.specs.Raster.{rayAt}
+use Rattle.geometry.specs.Raster.{lineAt}
 use Rattle.spans.specs.declared.Span.{Span}
 use Rattle.spans.specs.Span.{covers, Limited}
 use Rattle.spans.proofs.Clipping.{covers-says}
@@ -45,19 +48,19 @@ module _
     (u : Without (record { first = 0; end = raster .height }) (sides .ahead) rest)
     (v : Without rest (sides .behind) r)
   where
-    pub reach-left : {p : Patch} → PlanesOf raster n → Proper p → p .corners ≡ corners → Reach eye raster p r
-    reach-left {p} planes proper e = record { missed = go }
+    pub reach-left : {p : Patch} → PlanesOf raster n → VecWithin 10000 eye → Proper p → Ranged p → p .corners ≡ corners → Reach eye raster p r
+    reach-left {p} planes near proper ranged e = record { missed = go }
       where
-        go : (j : ℕ) → j < raster .height → (r .first ≤ j → j < r .end → ⊥) → (i : ℕ) → met eye (rayAt raster i j) p ≡ false
+        go : (j : ℕ) → j < raster .height → (r .first ≤ j → j < r .end → ⊥) → (i : ℕ) → met eye (lineAt raster i j) p ≡ false
         go j h g i = first (covers (sides .ahead) j) refl
           where
-            second : (rest .first ≤ j) × (j < rest .end) → (c : Bool) → covers (sides .behind) j ≡ c → met eye (rayAt raster i j) p ≡ false
-            second m true t = row-missed planes eye (negsuc 0) j proper (rw e (b .behind-beside .all j (subst T (sym t) tt))) i
+            second : (rest .first ≤ j) × (j < rest .end) → (c : Bool) → covers (sides .behind) j ≡ c → met eye (lineAt raster i j) p ≡ false
+            second m true t = row-missed planes eye (negsuc 0) j (within-literal tt) near proper ranged (rw e (b .behind-beside .all j (subst T (sym t) tt))) i
             second m false t =
                 let l = v .left j (m .0) (m .1) (λ x y. subst T t (covers-says (sides .behind) j .1 (x, y))) in absurd (g (l .0) (l .1))
 
-            first : (c : Bool) → covers (sides .ahead) j ≡ c → met eye (rayAt raster i j) p ≡ false
-            first true t = row-missed planes eye (pos 1) j proper (rw e (b .ahead-beside .all j (subst T (sym t) tt))) i
+            first : (c : Bool) → covers (sides .ahead) j ≡ c → met eye (lineAt raster i j) p ≡ false
+            first true t = row-missed planes eye (pos 1) j (within-literal tt) near proper ranged (rw e (b .ahead-beside .all j (subst T (sym t) tt))) i
             first false t =
                 second (u .left j (omega arith) h (λ x y. subst T t (covers-says (sides .ahead) j .1 (x, y)))) (covers (sides .behind) j) refl
 

@@ -13,7 +13,7 @@ use Rattle.model.specs.Format.{decode, patchNumbered}
 use Rattle.geometry.specs.declared.Vector.{Vector}
 use Rattle.geometry.specs.declared.Raster.{Raster}
 use Rattle.geometry.specs.Machine.{vecOf, Bounded, VectorIs}
-use Rattle.geometry.specs.Raster.{rayAt}
+use Rattle.geometry.specs.Raster.{lineAt}
 use Rattle.format.specs.declared.layout.Layout.{Layout}
 use Rattle.spans.specs.declared.Span.{Span}
 use Rattle.spans.specs.Span.{covers, Shaped, Clipped}
@@ -75,4 +75,4 @@ pub record Reach (eye : Vec) (r : Raster) (p : Patch) (rows : Span) : Type 0 whe
       j < r .height →
       (rows .first ≤ j → j < rows .end → ⊥) →
       (i : ℕ) →
-      met eye (rayAt r i j) p ≡ false
+      met eye (lineAt r i j) p ≡ false

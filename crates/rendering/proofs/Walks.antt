@@ -9,7 +9,8 @@ use lib.Seq.{take-at}
 use Rattle.model.specs.Vector.{Vec}
 use Rattle.model.specs.Patch.{Patch}
 use Rattle.model.specs.Tree.{order}
-use Rattle.model.specs.View.{Camera, direction}
+use Rattle.model.specs.View.{Camera}
+use Rattle.model.specs.Beside.{cellLine}
 use Rattle.model.specs.Format.{decode, patchNumbered, numberTree}
 use Rattle.model.specs.Questions.{patchRunsFollow, cornerRunsFollow, runsProper}
 use Rattle.model.proofs.Tests.{both, true-of}
@@ -24,7 +25,7 @@ use Rattle.walk.specs.Walked.{WholeWalk}
 use Rattle.walk.proofs.Whole.{walk-length, walk-numbers}
 use Rattle.walk.proofs.Seen.{accepted}
 use Rattle.geometry.specs.declared.Raster.{Raster}
-use Rattle.geometry.specs.Raster.{rayAt}
+use Rattle.geometry.specs.Raster.{lineAt}
 use Rattle.edges.specs.declared.Sight.{Sight}
 use Rattle.edges.specs.Edges.{SightBounded}
 use Rattle.scanline.specs.Laying.{walkOf}
@@ -32,28 +33,29 @@ use Rattle.readiness.specs.Ready.{Paintable}
 use Rattle.placing.specs.Framing.{Framed, RowsPainted}
 use Rattle.placing.specs.Booked.{BookedUpTo}
 use Rattle.camera.specs.Rays.{RaysOf}
+use Rattle.camera.proofs.Rays.{line-is}
 use Rattle.rendering.specs.Painted.{Painted}
 use Rattle.rendering.proofs.Results.{walked, painted-picture, painted-unlit, painted-booked}
 
 pub walkable : {bytes : List ℕ} {l : Layout} → AcceptedScene bytes → LaidOut bytes l → Checked bytes l
 walkable h laid = checked laid (true-of (h .coordinates)) (true-of (h .children)) (true-of (h .runs))
 
--- rows painted along a raster with a camera's rays are painted along the camera's directions
+-- rows painted along the lines of a raster with a camera's rays are painted along the lines that the camera's cells are read along
 as-seen :
     {eye : Vec} {walk : List Patch} {a : Camera} {r : Raster} {cells unlit : List ℕ} → RaysOf a r →
-    RowsPainted eye (rayAt r) walk (r .width) (r .height) cells unlit →
-    RowsPainted eye (direction a) walk (a .window .width) (a .window .height) cells unlit
+    RowsPainted eye (lineAt r) walk (r .width) (r .height) cells unlit →
+    RowsPainted eye (cellLine a) walk (a .window .width) (a .window .height) cells unlit
 as-seen {eye} {walk} {a} {r} {cells} {unlit} rays seen =
-    subst (λ (d : ℕ → ℕ → Vec). RowsPainted eye d walk (a .window .width) (a .window .height) cells unlit) (λ t i j. rays .rays i j t)
-    (subst₂ (λ (w h : ℕ). RowsPainted eye (rayAt r) walk w h cells unlit) (rays .columns) (rays .rows) seen)
+    subst (λ (d : ℕ → ℕ → Vec). RowsPainted eye d walk (a .window .width) (a .window .height) cells unlit) (λ t i j. line-is a rays i j t)
+    (subst₂ (λ (w h : ℕ). RowsPainted eye (lineAt r) walk w h cells unlit) (rays .columns) (rays .rows) seen)
 
 as-booked :
     {eye : Vec} {patch : ℕ → Patch} {order : List ℕ} {a : Camera} {r : Raster} {booked : List ℕ} → RaysOf a r →
-    BookedUpTo eye (rayAt r) patch order (r .width) booked (r .height) →
-    BookedUpTo eye (direction a) patch order (a .window .width) booked (a .window .height)
+    BookedUpTo eye (lineAt r) patch order (r .width) booked (r .height) →
+    BookedUpTo eye (cellLine a) patch order (a .window .width) booked (a .window .height)
 as-booked {eye} {patch} {order} {a} {r} {booked} rays counted =
-    subst (λ (d : ℕ → ℕ → Vec). BookedUpTo eye d patch order (a .window .width) booked (a .window .height)) (λ t i j. rays .rays i j t)
-    (subst₂ (λ (w h : ℕ). BookedUpTo eye (rayAt r) patch order w booked h) (rays .columns) (rays .rows) counted)
+    subst (λ (d : ℕ → ℕ → Vec). BookedUpTo eye d patch order (a .window .width) booked (a .window .height)) (λ t i j. line-is a rays i j t)
+    (subst₂ (λ (w h : ℕ). BookedUpTo eye (lineAt r) patch order w booked h) (rays .columns) (rays .rows) counted)
 
 pub raster-framed :
     {a : Camera} {r : Raster} {picture unlit : List ℕ} → RaysOf a r → Framed (a .window .width) (a .window .height) picture unlit →
@@ -104,18 +106,18 @@ module _ {bytes : List ℕ} {l : Layout} {eye : Vec} {before after : List ℕ} {
     -- what the rows show, and the cells booked, are the result
     pub painted-all :
         {a : Camera} {r : Raster} {cells unlit booked : List ℕ} → RaysOf a r → length booked ≡ length (decode bytes .patches) →
-        RowsPainted eye (rayAt r) (walkOf bytes (take n after)) (r .width) (r .height) cells unlit →
-        BookedUpTo eye (rayAt r) (patchNumbered (decode bytes)) (take n after) (r .width) booked (r .height) →
+        RowsPainted eye (lineAt r) (walkOf bytes (take n after)) (r .width) (r .height) cells unlit →
+        BookedUpTo eye (lineAt r) (patchNumbered (decode bytes)) (take n after) (r .width) booked (r .height) →
         Painted bytes (record { eye = eye; camera = a }) cells unlit booked
     painted-all {a} {r} {cells} {unlit} {booked} rays e seen counted =
-        let p : RowsPainted eye (direction a) (walked bytes eye) (a .window .width) (a .window .height) cells unlit =
-        subst (λ (o : List ℕ). RowsPainted eye (direction a) (walkOf bytes o) (a .window .width) (a .window .height) cells unlit)
+        let p : RowsPainted eye (cellLine a) (walked bytes eye) (a .window .width) (a .window .height) cells unlit =
+        subst (λ (o : List ℕ). RowsPainted eye (cellLine a) (walkOf bytes o) (a .window .width) (a .window .height) cells unlit)
         walk-front (as-seen rays seen) in
-        let b : BookedUpTo eye (direction a) (patchNumbered (decode bytes)) (order eye (numberTree (decode bytes))) (a .window .width) booked (a .window .height) =
-        subst (λ (o : List ℕ). BookedUpTo eye (direction a) (patchNumbered (decode bytes)) o (a .window .width) booked (a .window .height))
+        let b : BookedUpTo eye (cellLine a) (patchNumbered (decode bytes)) (order eye (numberTree (decode bytes))) (a .window .width) booked (a .window .height) =
+        subst (λ (o : List ℕ). BookedUpTo eye (cellLine a) (patchNumbered (decode bytes)) o (a .window .width) booked (a .window .height))
         walk-front (as-booked rays counted) in
         record {
-          cells-are = painted-picture h eye (direction a) p;
-          unlit-are = painted-unlit h eye (direction a) p;
-          booked-are = painted-booked h eye (direction a) e b;
+          cells-are = painted-picture h eye (cellLine a) p;
+          unlit-are = painted-unlit h eye (cellLine a) p;
+          booked-are = painted-booked h eye (cellLine a) e b;
         }

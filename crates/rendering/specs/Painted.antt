@@ -3,7 +3,8 @@ use mathlib.Core.Path.{_≡_}
 use mathlib.Core.List.{List}
 use Prim.Native.Nat.{ℕ}
 use lib.ListN.{length}
-use Rattle.model.specs.View.{View, viewWidth, viewHeight, viewDirection}
+use Rattle.model.specs.View.{View, viewWidth, viewHeight}
+use Rattle.model.specs.Beside.{cellLine}
 use Rattle.model.specs.Format.{decode, patchTable}
 use Rattle.model.specs.Picture.{picture, cellPanel, unlitLists}
 use Rattle.model.specs.Booking.{patchCells}
@@ -25,8 +26,8 @@ pub record PaintingAsked (bytes : List ℕ) (eye : Vector) (camera : Camera) (pi
 -- the picture and the unlit lists of a view, from the closest panels, and the cells of each patch
 pub record Painted (bytes : List ℕ) (v : View) (cells unlit booked : List ℕ) : Type 0 where
   pub cells-are :
-      cells ≡ picture (v .eye) (viewWidth v) (viewHeight v) (viewDirection v) (patchTable (decode bytes))
+      cells ≡ picture (v .eye) (viewWidth v) (viewHeight v) (cellLine (v .camera)) (patchTable (decode bytes))
   pub unlit-are :
-      unlit ≡ unlitLists (viewWidth v) (viewHeight v) (cellPanel (v .eye) (viewDirection v) (patchTable (decode bytes)))
+      unlit ≡ unlitLists (viewWidth v) (viewHeight v) (cellPanel (v .eye) (cellLine (v .camera)) (patchTable (decode bytes)))
   pub booked-are :
-      booked ≡ patchCells (v .eye) (viewWidth v) (viewHeight v) (viewDirection v) (patchTable (decode bytes))
+      booked ≡ patchCells (v .eye) (viewWidth v) (viewHeight v) (cellLine (v .camera)) (patchTable (decode bytes))

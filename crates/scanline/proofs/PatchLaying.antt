@@ -10,7 +10,7 @@ use Rattle.model.specs.Ray.{met}
 use Rattle.model.specs.Format.{Run, decode, patchNumbered}
 use Rattle.model.specs.Row.{rowOf}
 use Rattle.geometry.specs.Machine.{vecOf}
-use Rattle.geometry.specs.Raster.{rayAt}
+use Rattle.geometry.specs.Raster.{lineAt}
 use Rattle.format.specs.declared.layout.Layout.{Layout}
 use Rattle.format.specs.declared.records.PatchRecord.{PatchRecord}
 use Rattle.format.specs.Machine.{runOf}
@@ -42,14 +42,14 @@ module _
         UnlitHull (length cells) row hull →
         RowSpan (functionsIn table (p .corners .first) (p .corners .count)) j hull r →
         ColumnsLaid (covers r) (p .panel) row cells row′ cells′ found →
-        PatchLaid (vecOf (s .eye)) (λ (i : ℕ). rayAt (s .raster) i j) (patchNumbered (decode bytes) k) row cells row′ cells′ found
+        PatchLaid (vecOf (s .eye)) (λ (i : ℕ). lineAt (s .raster) i j) (patchNumbered (decode bytes) k) row cells row′ cells′ found
     patch-laid j {row} {cells} {row′} {cells′} {found} {hull} {r} u h laid =
         subst
         (λ (n : ℕ).
-        ColumnsLaid (λ (i : ℕ). met (vecOf (s .eye)) (rayAt (s .raster) i j) (patchNumbered (decode bytes) k)) n row cells row′ cells′ found)
+        ColumnsLaid (λ (i : ℕ). met (vecOf (s .eye)) (lineAt (s .raster) i j) (patchNumbered (decode bytes) k)) n row cells row′ cells′ found)
         (is .panel-is) (columns-congr columns laid)
       where
         columns :
             (unlit : ℕ → Bool) → row ≡ rowOf (length cells) unlit → (i : ℕ) → i < length cells → unlit i ≡ true →
-            covers r i ≡ met (vecOf (s .eye)) (rayAt (s .raster) i j) (patchNumbered (decode bytes) k)
+            covers r i ≡ met (vecOf (s .eye)) (lineAt (s .raster) i j) (patchNumbered (decode bytes) k)
         columns unlit e i b t = h .exact i ∙ rw (u .all unlit e i b t) (met-seen edges-read (omega (arith, is .corners .three)) i j)

@@ -10,7 +10,7 @@ ghost use Prim.Native.Nat.{ℕ, _≤_};
 ghost use lib.ListN.{length, replicate};
 ghost use Rattle.model.specs.Format.{decode, patchNumbered};
 ghost use Rattle.geometry.specs.Machine.{vecOf};
-ghost use Rattle.geometry.specs.Raster.{rayAt};
+ghost use Rattle.geometry.specs.Raster.{lineAt};
 ghost use Rattle.spans.specs.Span.{covers};
 ghost use Rattle.rows.specs.Span.{Row};
 ghost use Rattle.scanline.specs.Shown.{RowPainted, RowLit};
@@ -62,7 +62,7 @@ fn lay_patch(
     cells: &mut [u16],
 ) -> Laid
     requires { ⌜ PatchAsked (now bytes) l sight (now table) k j (now row) (now cells) ⌝ }
-    ensures { λ r. ⌜ PatchLaid (vecOf (sight .eye)) (λ (i : ℕ). rayAt (sight .raster) i j) (patchNumbered (decode (now (bytes .entry))) k)
+    ensures { λ r. ⌜ PatchLaid (vecOf (sight .eye)) (λ (i : ℕ). lineAt (sight .raster) i j) (patchNumbered (decode (now (bytes .entry))) k)
         (now (row .entry)) (now (cells .entry)) (now (row .exit)) (now (cells .exit)) r ⌝ }
 {
     let p = patch_record(bytes, l, k);
@@ -101,9 +101,9 @@ pub fn paint_row(
     lits: &mut [u16],
 ) -> Painted
     requires { ⌜ RowAsked (now bytes) l sight (now table) (now order) j (now cells) (now lits) ⌝ }
-    ensures painted { λ r. ⌜ RowPainted (vecOf (sight .eye)) (λ (i : ℕ). rayAt (sight .raster) i j) (walkOf (now (bytes .entry)) (now (order .entry)))
+    ensures painted { λ r. ⌜ RowPainted (vecOf (sight .eye)) (λ (i : ℕ). lineAt (sight .raster) i j) (walkOf (now (bytes .entry)) (now (order .entry)))
         (length (now (cells .entry))) (now (cells .exit)) (r .row) ⌝ }
-    ensures counted { λ r. ⌜ RowLit (vecOf (sight .eye)) (λ (i : ℕ). rayAt (sight .raster) i j) (patchNumbered (decode (now (bytes .entry)))) (now (order .entry))
+    ensures counted { λ r. ⌜ RowLit (vecOf (sight .eye)) (λ (i : ℕ). lineAt (sight .raster) i j) (patchNumbered (decode (now (bytes .entry)))) (now (order .entry))
         (length (now (cells .entry))) (now (lits .exit)) (r .laid) ⌝ }
 {
     clear(cells);

@@ -17,7 +17,7 @@ use Rattle.format.specs.declared.layout.Layout.{Layout}
 use Rattle.format.specs.declared.records.Node.{Node}
 use Rattle.format.specs.Machine.{nodeOf}
 use Rattle.format.specs.Layout.{LaidOut, nodeNumber}
-use Rattle.format.specs.Bounds.{PlaneWithin}
+use Rattle.model.specs.Bounds.{PlaneWithin}
 use Rattle.model.proofs.Loops.{IsEvery, every-entry}
 use Rattle.format.proofs.InRange.{node-within}
 

@@ -7,7 +7,7 @@ ghost use mathlib.Core.Path.{_≡_};
 ghost use lib.Dec.{T};
 ghost use Rattle.format.specs.Machine.{nodeOf};
 ghost use Rattle.format.specs.Layout.{LaidOut};
-ghost use Rattle.format.specs.Bounds.{PlaneWithin};
+ghost use Rattle.model.specs.Bounds.{PlaneWithin};
 ghost use Rattle.model.specs.Format.{decode};
 ghost use Rattle.model.specs.Questions.{coordinatesInRange, offOneLine, planesProper};
 

@@ -7,7 +7,6 @@ use lib.Signed.{ltZ, _<ℤ_, _≤ℤ_}
 use Rattle.integer.proofs.Order.{lt-ltZ, le-ltZ}
 use Rattle.geometry.specs.declared.Vector.{Vector}
 use Rattle.geometry.specs.Machine.{vecOf, Bounded, NumberIs}
-use Rattle.format.specs.Bounds.{VecWithin}
 use Rattle.projection.specs.Projected.{ProjectedWithin}
 use Rattle.polygons.proofs.Axes.{Axis, x-axis, y-axis, z-axis, across}
 
@@ -19,9 +18,6 @@ pub turned-in : {z r : ℤ} {n : ℕ} → NumberIs n z r → pos 0 <ℤ r → lt
 turned-in is f = ap (ltZ (pos 0)) (sym (is .value)) ∙ lt-ltZ f
 
 -- ---- bounds
-pub within : {n : ℕ} {v : Vector} → Bounded n v → VecWithin n (vecOf v)
-within h = record { x-within = h .x-within; y-within = h .y-within; z-within = h .z-within }
-
 pub across-within : (axis : Axis) {v : Vector} → Bounded 10000 v → ProjectedWithin (across axis (vecOf v))
 across-within x-axis h = record { u-within = h .y-within; v-within = h .z-within }
 across-within y-axis h = record { u-within = h .z-within; v-within = h .x-within }

@@ -15,7 +15,7 @@ use Rattle.geometry.specs.declared.Vector.{Vector}
 use Rattle.geometry.specs.Machine.{vecOf, planeOf, VectorIs, NumberIs}
 use Rattle.format.specs.declared.patch.Patch.{Patch}
 use Rattle.format.specs.Patch.{cornerOf, patchOf}
-use Rattle.format.specs.Bounds.{VecWithin}
+use Rattle.model.specs.Bounds.{VecWithin}
 use Rattle.polygons.specs.Bounds.{PatchBounded, WithNormal}
 use Rattle.projection.specs.Projected.{wrap, projectedOf, ProjectedWithin, projectedAt, turnsProjected, turnsProjectedAt, convexProjected, asked}
 use Rattle.small_polygons.specs.Four.{FourBounded, FourFlat, FourWithin, patchOfFour, convexFour}
@@ -24,7 +24,8 @@ use Rattle.projection.specs.declared.Projection.{Projection}
 use Rattle.polygons.proofs.Corners.{flat-asked, three-passed, off-plane, on-plane}
 use Rattle.projection.proofs.Projected.{turnProjectedAt}
 use Rattle.polygons.proofs.Axes.{Axis, x-axis, y-axis, z-axis, along, across, Shown}
-use Rattle.small_polygons.proofs.FewCorners.{within, across-within}
+use Rattle.geometry.proofs.Sizes.{vec-within}
+use Rattle.small_polygons.proofs.FewCorners.{across-within}
 use Rattle.polygons.proofs.Along.{firsts, seconds, projection-bounded, first-table, second-table, convex-as-projected}
 
 -- ---- the turn at each corner
@@ -68,10 +69,10 @@ module _ {a b c d : Vector} (h : FourBounded a b c d) where
   quad-bounded = record { three = omega arith; eight = omega arith; corners-within = each }
     where
       each : (k : ℕ) → k < 4 → VecWithin 10000 (cornerOf (quad a b c d) k)
-      each zero l = within (h .a-bounded)
-      each (suc zero) l = within (h .b-bounded)
-      each (suc (suc zero)) l = within (h .c-bounded)
-      each (suc (suc (suc zero))) l = within (h .d-bounded)
+      each zero l = vec-within (h .a-bounded)
+      each (suc zero) l = vec-within (h .b-bounded)
+      each (suc (suc zero)) l = vec-within (h .c-bounded)
+      each (suc (suc (suc zero))) l = vec-within (h .d-bounded)
       each (suc (suc (suc (suc k)))) l = absurd (omega arith)
 
   module _ {n : Vector} (is : VectorIs 800000000 (planeNormal (planeOf a b c)) n) {r : ℤ}

@@ -14,7 +14,7 @@ use Rattle.geometry.specs.declared.Vector.{Vector}
 use Rattle.geometry.specs.Machine.{vecOf}
 use Rattle.format.specs.declared.patch.Patch.{Patch}
 use Rattle.format.specs.Patch.{cornerOf, patchOf}
-use Rattle.format.specs.Bounds.{VecWithin}
+use Rattle.model.specs.Bounds.{VecWithin}
 use Rattle.polygons.specs.Bounds.{PatchBounded, WithNormal}
 use Rattle.projection.specs.Projected.{projectedOf, ProjectedWithin, ThreeWithin, turnsProjected, convexProjected, asked}
 use Rattle.small_polygons.specs.Three.{ThreeBounded, ThreeNormal, patchOfThree, convexThree}
@@ -22,7 +22,8 @@ use Rattle.projection.specs.declared.Point.{Point}
 use Rattle.polygons.proofs.Corners.{flat-asked, three-passed}
 use Rattle.projection.proofs.Projected.{turned-projected}
 use Rattle.polygons.proofs.Axes.{Axis, x-axis, y-axis, z-axis, along, across, Shown}
-use Rattle.small_polygons.proofs.FewCorners.{within, across-within}
+use Rattle.geometry.proofs.Sizes.{vec-within}
+use Rattle.small_polygons.proofs.FewCorners.{across-within}
 use Rattle.polygons.proofs.Along.{firsts, seconds, projection-bounded, first-table, second-table, convex-as-projected}
 
 -- three equal tests are one
@@ -52,9 +53,9 @@ module _ {a b c : Vector} (h : ThreeBounded a b c) where
   tri-bounded = record { three = omega arith; eight = omega arith; corners-within = each }
     where
       each : (k : ℕ) → k < 3 → VecWithin 10000 (cornerOf (tri a b c) k)
-      each zero l = within (h .a-bounded)
-      each (suc zero) l = within (h .b-bounded)
-      each (suc (suc zero)) l = within (h .c-bounded)
+      each zero l = vec-within (h .a-bounded)
+      each (suc zero) l = vec-within (h .b-bounded)
+      each (suc (suc zero)) l = vec-within (h .c-bounded)
       each (suc (suc (suc k))) l = absurd (omega arith)
 
   pub three-flat : flat (patchOfThree a b c) ≡ true

@@ -8,7 +8,8 @@ ghost use mathlib.Core.Path.{_≡_};
 ghost use Rattle.model.specs.Vector.{vec};
 ghost use Rattle.model.specs.Questions.{surveyAnswer};
 ghost use Rattle.camera.specs.Machine.{axesOf};
-ghost use Rattle.contract.specs.Contract.{axesBy, cameraBy, viewFrom, lentOf, lengthsBy, gateCall, Surveyed};
+ghost use Rattle.contract.specs.Contract.{axesBy, cameraBy, viewFrom, lentOf, lengthsBy, gateCall};
+ghost use Rattle.demands.specs.Demands.{ClosestSurveyed};
 
 // three vectors by their nine parts
 fn axes_by(
@@ -115,7 +116,7 @@ pub extern "C" fn ring_survey(
     unlit: &mut [u16],
     counter: &mut u32,
 ) -> u32
-    ensures { λ r. ⌜ Surveyed (now (scene .entry)) (viewFrom (vec «eye_x» «eye_y» «eye_z»)
+    ensures { λ r. ⌜ ClosestSurveyed (now (scene .entry)) (viewFrom (vec «eye_x» «eye_y» «eye_z»)
         (cameraBy (axesBy (vec «right_x» «right_y» «right_z») (vec «forward_x» «forward_y» «forward_z») (vec «up_x» «up_y» «up_z»)) width height lens))
         (lentOf (now (picture .entry)) (now (counts .entry)) (now («patch_counts» .entry)) (now (unlit .entry)) (now (counter .entry)))
         (lentOf (now (picture .exit)) (now (counts .exit)) (now («patch_counts» .exit)) (now (unlit .exit)) (now (counter .exit))) r ⌝ }

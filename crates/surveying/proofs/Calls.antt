@@ -6,7 +6,8 @@ use native.Mathlib.Nat.{mul-le-mul}
 use native.Mathlib.Omega.{arith}
 use lib.Dec.{ltb→lt}
 use lib.ListN.{length, getD}
-use Rattle.model.specs.View.{View, viewWidth, viewHeight, viewDirection}
+use Rattle.model.specs.View.{View, viewWidth, viewHeight}
+use Rattle.model.specs.Beside.{cellLine}
 use Rattle.model.specs.Lent.{Lent, lengthsOf}
 use Rattle.model.specs.Format.{decode, patchTable}
 use Rattle.model.specs.Picture.{counts, countEntries}
@@ -85,11 +86,11 @@ module _
             record {
               numbered =
                   subst (λ (l : List ℕ). (k : ℕ) → k < length l → getD l k 0 < countEntries) (sym (painted .cells-are))
-                  (picture-counted (v .eye) (viewWidth v) (viewHeight v) (viewDirection v) (patchTable (decode bytes))
+                  (picture-counted (v .eye) (viewWidth v) (viewHeight v) (cellLine (v .camera)) (patchTable (decode bytes))
                   (panel-bounded (decode bytes) (yes .scene .panels)));
               few =
                   subst (λ (k : ℕ). k ≤ 32768)
-                  (sym (ap length (painted .cells-are) ∙ picture-length (v .eye) (viewWidth v) (viewHeight v) (viewDirection v) (patchTable (decode bytes))))
+                  (sym (ap length (painted .cells-are) ∙ picture-length (v .eye) (viewWidth v) (viewHeight v) (cellLine (v .camera)) (patchTable (decode bytes))))
                   (mul-le-mul (view .narrow) (view .low));
               entries = fitting .entries;
             }

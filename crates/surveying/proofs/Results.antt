@@ -9,7 +9,7 @@ use Rattle.model.specs.Patch.{Patch}
 use Rattle.model.specs.Tree.{order}
 use Rattle.model.specs.Format.{decode, patchTree}
 use Rattle.model.specs.Row.{rowPairs, segments}
-use Rattle.model.specs.Call.{Call, callView, callDirection}
+use Rattle.model.specs.Call.{Call, callView, callLine}
 use Rattle.model.specs.Questions.{viewInRange, unlitAfter, rowFits, rowsFit}
 use Rattle.model.proofs.Tests.{every-true}
 use Rattle.model.proofs.CallLimits.{view-bounded}
@@ -29,7 +29,7 @@ rows-always-fit c t =
     let narrow : w .width ≤ 256 = view-bounded (callView c) t .narrow in
     every-true
     (λ (j : ℕ).
-    rowFits (w .width) (c .eye) (λ (i : ℕ). callDirection c i j) (order (c .eye) (patchTree (decode (c .scene)))))
+    rowFits (w .width) (c .eye) (λ (i : ℕ). callLine c i j) (order (c .eye) (patchTree (decode (c .scene)))))
     (range 0 (w .height)) .1
-    (λ j m. row-fits (w .width) narrow (c .eye) (λ (i : ℕ). callDirection c i j)
+    (λ j m. row-fits (w .width) narrow (c .eye) (λ (i : ℕ). callLine c i j)
     (order (c .eye) (patchTree (decode (c .scene)))))

@@ -53,7 +53,7 @@ module _ (l : List ℤ) (k : ℕ) (f : EdgeFunction) where
             };
       }
     where
-      at : (l : List ℤ) (i : ℕ) {z : ℤ} → i < length l → Within 1351200000000000 z → getD (set l i (stored z)) i (pos 0) ≡ z
+      at : (l : List ℤ) (i : ℕ) {z : ℤ} → i < length l → Within 1351200000000001 z → getD (set l i (stored z)) i (pos 0) ≡ z
       at l i h w = getD-set-same l i _ (pos 0) h ∙ within-stored w64 w (lit< tt)
 
       start : getD put3 (3 * k) (pos 0) ≡ f .start

@@ -1,11 +1,11 @@
 -- What the tests say of each node record and each patch of the table holds of each node and each patch of the tree.
 use mathlib.Core.Path.{_≡_, refl, sym, ap, subst, _∙_}
-use mathlib.Core.List.{List, [], _∷_, map, map-map, List·Memᴰ, Memᴰ·append-left, Memᴰ·append-right, Memᴰ·map}
+use mathlib.Core.List.{List, [], _∷_, map, map-map, List·Memᴰ, Memᴰ·map}
 use Prim.Native.Nat.{ℕ, zero, suc, _<_}
 use native.Mathlib.Omega.{arith}
 use native.Mathlib.Decide.{decLt}
 use lib.Dec.{T}
-use lib.ListN.{length, take, drop, length-map, take-append-drop}
+use lib.ListN.{length, take, drop, length-map}
 use Rattle.model.specs.Vector.{Plane}
 use Rattle.model.specs.Patch.{Patch}
 use Rattle.model.specs.Tree.{Tree, leaf, node}
@@ -31,13 +31,6 @@ part-map {A} {B} f r l = ap (take (r .count)) (drop-map (r .first) l) ∙ take-m
     drop-map zero l = refl
     drop-map (suc n) [] = refl
     drop-map (suc n) (a ∷ l) = drop-map n l
-
-pub part-member : {A : Type 0} {a : A} (r : Run) (l : List A) → List·Memᴰ a (inRun r l) → List·Memᴰ a l
-part-member {a} r l m =
-    subst (List·Memᴰ a) (take-append-drop (r .first) l)
-    (Memᴰ·append-right (take (r .first) l)
-    (subst (List·Memᴰ a) (take-append-drop (r .count) (drop (r .first) l))
-    (Memᴰ·append-left (drop (r .count) (drop (r .first) l)) m)))
 
 -- ---- nodes
 

@@ -20,8 +20,9 @@ use Rattle.model.proofs.Closest.{closest-members}
 use Rattle.model.proofs.Visibility.{ProperNode, ProperTree, visible-panel}
 use Rattle.walk.proofs.Whole.{order-map, table-by-number, number-members}
 use Rattle.checked.proofs.Subtrees.{run, contents-map}
-use Rattle.checked.proofs.Patches.{table-proper}
-use Rattle.walk.proofs.Carried.{EveryNode, carried, run-patches, plane-proper, panels-rise, part-member}
+use Rattle.model.proofs.Runs.{part-member}
+use Rattle.model.proofs.PatchTables.{table-proper}
+use Rattle.walk.proofs.Carried.{EveryNode, carried, run-patches, plane-proper, panels-rise}
 
 -- questions 4 to 9, of a scene with so few nodes that 65,535 is no node's number (question 2)
 pub record ProperScene (s : Scene) : Type 0 where

@@ -15,7 +15,7 @@ returns c =
     same-axes (same-vector (e .right-x) (e .right-y) (e .right-z)) (same-vector (e .forward-x) (e .forward-y) (e .forward-z))
     (same-vector (e .up-x) (e .up-y) (e .up-z)) in
     let view = same-view (same-vector (e .eye-x) (e .eye-y) (e .eye-z)) axes in
-    pair-surveyed (surveyed-from view (first .ring-survey .ensures)) (surveyed-from view (second .ring-survey2 .ensures))
+    pair-surveyed (surveyed-from view (first .ring-survey .ensures .surveyed)) (surveyed-from view (second .ring-survey2 .ensures .surveyed))
 
 pub survey-pair-spec : {M : Type 1} → statement M
 survey-pair-spec =

@@ -22,7 +22,7 @@ returns c =
     let picture = table .before in
     let window = picture .before in
     let start = window .before .before .before .before .before in
-    surveyed-input (now (start .args .input)) (survey .ring-survey .ensures)
+    surveyed-input (now (start .args .input)) (survey .ring-survey .ensures .surveyed)
     (rest 12 (now (start .args .input)))
     (λ i.
     vec (coordinate (eye .before .before .i16-at .ok) (eye .before .before .i16-at .ensures) i)

@@ -6,7 +6,7 @@ use borrow.Author.Needs.{needs}
 use lib.ListN.{length}
 use Rattle.geometry.specs.Machine.{vecOf}
 use Rattle.model.specs.Format.{decode, patchNumbered}
-use Rattle.geometry.specs.Raster.{rayAt}
+use Rattle.geometry.specs.Raster.{lineAt}
 use Rattle.scanline.proofs.WalkPainted.{walk-starts, as-long, row-of-set, walk-ends, walk-goes, walk-full}
 use Rattle.scanline.proofs.Counted.{CountedUpTo, lit-as-long, count-starts, count-ends, count-goes, count-full}
 use Rattle.scanline.proofs.paint_row.Statement.{statement}
@@ -14,7 +14,7 @@ use Rattle.scanline.proofs.paint_row.Tie as tie
 
 abbrev Inv-loop : tie.InvT-loop
 Inv-loop bytes l order sight table j cells₀ lits₀ row₀ k₀ cells lits row k =
-    CountedUpTo (vecOf (sight .eye)) (λ (i : ℕ). rayAt (sight .raster) i j) (patchNumbered (decode bytes)) order (length cells₀) cells row lits₀ lits k
+    CountedUpTo (vecOf (sight .eye)) (λ (i : ℕ). lineAt (sight .raster) i j) (patchNumbered (decode bytes)) order (length cells₀) cells row lits₀ lits k
 
 abbrev μ-loop : tie.MeasureT-loop
 μ-loop bytes l order sight table j cells₀ lits₀ row₀ k₀ cells lits row k = length order - k
