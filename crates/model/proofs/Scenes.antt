@@ -1,4 +1,4 @@
--- The scenes of document 01's stations.
+-- The scenes of document 01's stations, and of those of the requests.
 use mathlib.Core.List.{List, [], _∷_, _++_}
 use Prim.Native.Nat.{ℕ, _*_}
 use lib.ListN.{length}
@@ -123,6 +123,37 @@ abbrev pub sceneWall : List ℕ
 sceneWall =
     sceneBytes (nodeLine wall none none 0 1 ∷ []) (patchLine 9 0 4 ∷ [])
     (wall .a ∷ wall .b ∷ wall .c ∷ vec (pos 100) (negℤ (pos 50)) (pos 50) ∷ [])
+
+-- one piece of panel 6, alone on the plane of its first three corners
+abbrev alone : Vec → Vec → Vec → List Vec → List ℕ
+alone a b c rest =
+    sceneBytes (nodeLine (record { a = a; b = b; c = c }) none none 0 1 ∷ []) (patchLine 6 0 (length (a ∷ b ∷ c ∷ rest)) ∷ []) (a ∷ b ∷ c ∷ rest)
+
+-- a triangle that goes from the middle of the picture to the right and down, more down than right and more right than down
+abbrev pub sceneWedge : List ℕ
+sceneWedge =
+    alone (vec (pos 0) (pos 100) (pos 0)) (vec (pos 20) (pos 100) (negℤ (pos 40))) (vec (pos 40) (pos 100) (negℤ (pos 20))) []
+
+-- a strip with its upper edge at the height of the eye
+abbrev pub sceneStrip : List ℕ
+sceneStrip =
+    alone (vec (negℤ (pos 30)) (pos 100) (negℤ (pos 10))) (vec (pos 30) (pos 100) (negℤ (pos 10))) (vec (pos 30) (pos 100) (pos 0))
+    (vec (negℤ (pos 30)) (pos 100) (pos 0) ∷ [])
+
+-- an upright wall from the edge before the eye, at forward 100, to the right and to a distance forward there
+abbrev openWall : ℤ → List Vec
+openWall y =
+    vec (pos 0) (pos 100) (negℤ (pos 60)) ∷ vec (pos 100) y (negℤ (pos 60)) ∷ vec (pos 100) y (pos 60) ∷ vec (pos 0) (pos 100) (pos 60) ∷ []
+
+abbrev openPlane : ℤ → Plane
+openPlane y = record { a = vec (pos 0) (pos 100) (negℤ (pos 60)); b = vec (pos 100) y (negℤ (pos 60)); c = vec (pos 100) y (pos 60) }
+
+-- two such walls, which meet in that edge: panel 1 goes back from it, panel 9 comes forward
+abbrev pub sceneWalls : List ℕ
+sceneWalls =
+    sceneBytes (nodeLine (openPlane (pos 150)) 1 none 0 1 ∷ nodeLine (openPlane (pos 80)) none none 1 1 ∷ [])
+    (patchLine 1 0 4 ∷ patchLine 9 4 4 ∷ [])
+    (openWall (pos 150) ++ openWall (pos 80))
 
 -- a call with buffers of the right lengths and the counter at 0, seen by a camera with these axes
 abbrev pub turnedCall : Axes → List ℕ → Vec → ℕ → ℕ → ℕ → Call

@@ -1,4 +1,4 @@
--- Document 01's starred stations, over scene bytes: one list under one statement; stations of turned cameras under another; and two of booked cells.
+-- Document 01's starred stations, over scene bytes: one list under one statement; stations of turned cameras and of joints under two more; and three of booked cells.
 use mathlib.Core.Path.{_≡_, refl}
 use mathlib.Core.Bool.{cond}
 use mathlib.Core.List.{List, [], _∷_, map, sum}
@@ -9,13 +9,13 @@ use lib.ListN.{length, getD, replicate}
 use Rattle.model.specs.Lists.{range}
 use Rattle.model.specs.Vector.{vec, origin}
 use Rattle.model.specs.Patch.{numbered}
-use Rattle.model.specs.View.{Axes}
+use Rattle.model.specs.View.{Axes, levelAxes}
 use Rattle.model.specs.Row.{usedPart}
 use Rattle.model.specs.Call.{Call}
 use Rattle.model.specs.Questions.{surveyAnswer}
 use Rattle.model.specs.Survey.{callPatches, callPicture, callCounts, callPatchCells, callUnlit}
 use Rattle.model.proofs.Computing.{everything}
-use Rattle.model.proofs.Scenes.{sceneS, sceneT, sceneTless5, sceneTless7, scene3and5, sceneQuarters, sceneWall, sceneTwice, scenePieces, sceneNear, noNodes, sOfHalfWidth, turnedCall, fittingCall, usual}
+use Rattle.model.proofs.Scenes.{sceneS, sceneT, sceneTless5, sceneTless7, scene3and5, sceneQuarters, sceneWall, sceneTwice, scenePieces, sceneNear, sceneWedge, sceneStrip, sceneWalls, noNodes, sOfHalfWidth, turnedCall, fittingCall, usual}
 
 -- what is seen of a call: its answer (0 is "done"), its picture, the used pairs of some rows, and the counts of some panels (of "nothing" at 0)
 pub record Outcome : Type 0 where
@@ -127,6 +127,21 @@ turned =
     ∷ shows (usual sceneWall) blank [] [] [] []
     ∷ []
 
+-- ---- sight lines along joints
+
+-- 3 by 3, lens 4, eye (0,0,0): the lines of the middle column and of the middle row run through x = 0 and z = 0
+abbrev middleLines : Axes → List ℕ → List ℕ → Station
+middleLines a bytes p = shows (turnedCall a bytes origin 3 3 4) p [] [] [] []
+
+abbrev pub jointed : List Station
+jointed =
+    middleLines levelAxes sceneQuarters (1 ∷ 2 ∷ 2 ∷ 3 ∷ 4 ∷ 4 ∷ 3 ∷ 4 ∷ 4 ∷ [])
+    ∷ middleLines rolled sceneQuarters (2 ∷ 4 ∷ 4 ∷ 1 ∷ 3 ∷ 3 ∷ 1 ∷ 3 ∷ 3 ∷ [])
+    ∷ middleLines levelAxes sceneWalls (0 ∷ 9 ∷ 9 ∷ 0 ∷ 9 ∷ 9 ∷ 0 ∷ 9 ∷ 9 ∷ [])
+    ∷ middleLines levelAxes sceneWedge (replicate 9 0)
+    ∷ middleLines levelAxes sceneStrip (0 ∷ 0 ∷ 0 ∷ 0 ∷ 6 ∷ 0 ∷ 0 ∷ 0 ∷ 0 ∷ [])
+    ∷ []
+
 -- ---- cells booked patch by patch
 
 -- what is seen of a call's patches: its answer and picture, the cells of each patch and, of some panels, the counts and the sums over their patches
@@ -150,7 +165,7 @@ booked c panels =
     ofPanel : ℕ → ℕ → ℕ
     ofPanel n k = cond (eqb (numbered (callPatches c) k .panel) n) (getD (callPatchCells c) k 0) 0
 
--- What the definitions say of each starred station is what document 01 says of it.
+-- What the definitions say of each starred station is what document 01 says of it; of half-width 25 what document 02's F-3 makes of it.
 pub starred-stations : map seen stations ≡ map (λ (s : Station). s .said) stations
 unfolding everything seen
 starred-stations = refl
@@ -163,6 +178,12 @@ rows-from-the-top = refl
 pub turned-stations : map seen turned ≡ map (λ (s : Station). s .said) turned
 unfolding everything seen
 turned-stations = refl
+
+-- Four panels that meet in a corner, seen level and rolled; of two walls that meet in an edge on the sight lines, the nearer one; a wedge that the lines just
+-- beside pass above, as the step down is small beside the step to the right; and a strip that the lines of one row only touch.
+pub joint-stations : map seen jointed ≡ map (λ (s : Station). s .said) jointed
+unfolding everything seen
+joint-stations = refl
 
 -- S's square twice: the earlier patch has all cells.
 pub square-twice :

@@ -126,7 +126,8 @@ fn without(rows: Span, s: Span) -> Span
     rows
 }
 
-// A row whose plane has all corners on one side does not meet the patch: what is left without these is the patch's reach.
+// A row whose plane has all corners on one side does not meet the patch, nor do the lines just beside its rays: what is left without these is the patch's reach. A
+// row whose plane only touches the patch stays, as those lines may meet it.
 pub fn patch_rows(
     bytes: &[u8],
     l: Layout,

@@ -7,14 +7,13 @@ use Rattle.geometry.proofs.edge_function.Tie as tie
 add-t7 : tie.Need-add-t7
 add-t7 c =
     let at = c .before .before .before .before in
-    sum-fits (at .pre .0) (at .pre .1) (c .before .dot-product3 .ensures) (c .before .before .before .dot-product .ensures)
-    (c .before .before .dot-product2 .ensures) (c .counts-in .ensures)
+    sum-fits (at .pre .0) (at .pre .1) (c .before .dot-product3 .ensures) (c .counts-in .ensures .bounded)
 
 returns : tie.Need-returns
 returns c =
     let at = c .before .before .before .before in
-    function-is (at .pre .0) (at .pre .1) (c .before .dot-product3 .ensures) (c .before .before .before .dot-product .ensures)
-    (c .before .before .dot-product2 .ensures) (c .counts-in .ensures)
+    function-is (at .pre .0) (at .pre .1) (c .before .dot-product3 .ensures) (c .counts-in .ensures .bounded)
+    (c .before .before .before .dot-product .ensures) (c .before .before .dot-product2 .ensures) (c .counts-in .ensures .value)
 
 pub edge-function-spec : {M : Type 1} → statement M
 edge-function-spec =
