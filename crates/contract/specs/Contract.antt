@@ -1,4 +1,4 @@
--- What the survey call promises, for every input.
+-- The equations that the survey call promises, for every input.
 use mathlib.Core.Path.{_≡_}
 use mathlib.Core.List.{List}
 use Prim.Native.Nat.{ℕ, zero, suc}

@@ -84,7 +84,7 @@ pub record ClosestPanels (bytes : List ℕ) (v : View) (after : Lent) : Type 0 w
       ≡ rowOf (viewWidth v) (λ (i : ℕ). eqb (cell v (after .picture) i j) 0)
   pub rowCount : length (after .unlit) ≡ viewHeight v * rowLength
 
--- What the survey call promises: its equations, and demand 2 of every accepted call.
+-- All that the survey call promises: its equations, and demand 2 of every accepted call.
 pub record ClosestSurveyed (bytes : List ℕ) (v : View) (before after : Lent) (result : ℕ) : Type 0 where
   pub surveyed : Surveyed bytes v before after result
   pub closestPanels : result ≡ 0 → ClosestPanels bytes v after

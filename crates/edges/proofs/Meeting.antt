@@ -23,7 +23,7 @@ use Rattle.model.proofs.Steep.{Steep, weighted}
 use Rattle.geometry.specs.declared.Raster.{Raster}
 use Rattle.geometry.specs.declared.EdgeFunction.{EdgeFunction}
 use Rattle.geometry.specs.Machine.{vecOf}
-use Rattle.geometry.specs.Raster.{rayAt, lineAt, inward, seenBy, FunctionBounded}
+use Rattle.geometry.specs.Raster.{rayAt, lineAt, countsIn, seenBy, FunctionBounded}
 use Rattle.geometry.proofs.CountsIn.{weighted-start}
 use Rattle.format.proofs.Tables.{length-table}
 use Rattle.tables.specs.Functions.{functionAt, functionsIn}
@@ -71,9 +71,9 @@ met-edges eye d p h = go (eyeProduct eye p) refl
 -- what a raster sees of an edge vector: its product with the ray, one more where the edge counts in
 ray-number :
     (r : Raster) (e : Vec) (i j : ℕ) →
-    numberIn (seenBy r e) i j ≡ edgeNumber (rayAt r i j) e +ℤ inward (dot (vecOf (r .across)) e) (dot (vecOf (r .down)) e)
+    numberIn (seenBy r e) i j ≡ edgeNumber (rayAt r i j) e +ℤ countsIn (dot (vecOf (r .across)) e) (dot (vecOf (r .down)) e)
 ray-number r e i j =
-    go (vecOf (r .origin)) (vecOf (r .across)) (vecOf (r .down)) (pos i) (pos j) (inward (dot (vecOf (r .across)) e) (dot (vecOf (r .down)) e))
+    go (vecOf (r .origin)) (vecOf (r .across)) (vecOf (r .down)) (pos i) (pos j) (countsIn (dot (vecOf (r .across)) e) (dot (vecOf (r .down)) e))
   where
     go :
         (o a d : Vec) (x y c : ℤ) →

@@ -1,7 +1,7 @@
 -- An edge that counts in: one more at the start says that the line just beside a ray passes on the edge's side.
 use mathlib.Core.Path.{_≡_, refl, sym}
 use mathlib.Core.Logic.{_↔_, _⊎_, inl, inr}
-use mathlib.Core.Bool.{Bool, true, false, cond, _&&_, _||_}
+use mathlib.Core.Bool.{Bool, true, false, cond, _&&_}
 use mathlib.Core.List.{[], _∷_}
 use Prim.Native.Nat.{ℕ}
 use lib.Dec.{T}
@@ -16,16 +16,16 @@ use Rattle.model.proofs.Patches.{is-zero}
 use Rattle.model.proofs.Tests.{both, either}
 use Rattle.model.proofs.Steep.{Steep, FirstAbove, weighted, weighted-says}
 use Rattle.geometry.specs.Machine.{NumberIs}
-use Rattle.geometry.specs.Raster.{countsIn, inward}
+use Rattle.geometry.specs.Raster.{growsBeside, countsIn}
 
 -- above 0, or 0 and the next above 0
 abbrev Rises : ℤ → ℤ → Type 0
 Rises y z = (pos 0 <ℤ y) ⊎ ((y ≡ pos 0) × (pos 0 <ℤ z))
 
-counts-in-says : (y z : ℤ) → T (countsIn y z) ↔ Rises y z
-counts-in-says y z = (λ t. to (e .0 t), λ l. e .1 (from l))
+grows-says : (y z : ℤ) → T (growsBeside y z) ↔ Rises y z
+grows-says y z = (λ t. to (e .0 t), λ l. e .1 (from l))
   where
-    e : T (countsIn y z) ↔ (T (ltZ (pos 0) y) ⊎ T (isZero y && ltZ (pos 0) z))
+    e : T (growsBeside y z) ↔ (T (ltZ (pos 0) y) ⊎ T (isZero y && ltZ (pos 0) z))
     e = either (ltZ (pos 0) y) (isZero y && ltZ (pos 0) z)
 
     to : T (ltZ (pos 0) y) ⊎ T (isZero y && ltZ (pos 0) z) → Rises y z
@@ -38,39 +38,39 @@ counts-in-says y z = (λ t. to (e .0 t), λ l. e .1 (from l))
 
 -- what the code tells by its comparisons
 module _ (y z : ℤ) where
-  pub counted : Rises y z → NumberIs 1 (inward y z) (pos 1)
-  counted h = go (countsIn y z) (counts-in-says y z .1 h)
+  pub counted : Rises y z → NumberIs 1 (countsIn y z) (pos 1)
+  counted h = go (growsBeside y z) (grows-says y z .1 h)
     where
       go : (b : Bool) → T b → NumberIs 1 (cond b (pos 1) (pos 0)) (pos 1)
       go true t = record { value = refl; bounded = within-literal tt }
       go false t = absurd t
 
-  pub uncounted : (Rises y z → ⊥) → NumberIs 1 (inward y z) (pos 0)
-  uncounted f = go (countsIn y z) (λ t. f (counts-in-says y z .0 t))
+  pub uncounted : (Rises y z → ⊥) → NumberIs 1 (countsIn y z) (pos 0)
+  uncounted f = go (growsBeside y z) (λ t. f (grows-says y z .0 t))
     where
       go : (b : Bool) → (T b → ⊥) → NumberIs 1 (cond b (pos 1) (pos 0)) (pos 0)
       go true g = absurd (g tt)
       go false g = record { value = refl; bounded = within-literal tt }
 
-  pub falling : y <ℤ pos 0 → NumberIs 1 (inward y z) (pos 0)
+  pub falling : y <ℤ pos 0 → NumberIs 1 (countsIn y z) (pos 0)
   falling h = uncounted no
     where
       no : Rises y z → ⊥
       no (inl k) = clashℤ k (<→≤ h)
       no (inr (e, _)) = clashℤ h (≡→≤ (sym e))
 
-  pub rising-down : pos 0 ≤ℤ y → y ≤ℤ pos 0 → pos 0 <ℤ z → NumberIs 1 (inward y z) (pos 1)
+  pub rising-down : pos 0 ≤ℤ y → y ≤ℤ pos 0 → pos 0 <ℤ z → NumberIs 1 (countsIn y z) (pos 1)
   rising-down h k l = counted (inr (≤ℤ-antisym k h, l))
 
-  pub level : y ≤ℤ pos 0 → z ≤ℤ pos 0 → NumberIs 1 (inward y z) (pos 0)
+  pub level : y ≤ℤ pos 0 → z ≤ℤ pos 0 → NumberIs 1 (countsIn y z) (pos 0)
   level h k = uncounted no
     where
       no : Rises y z → ⊥
       no (inl l) = clashℤ l h
       no (inr (_, l)) = clashℤ l k
 
-pub first-start : (x y z : ℤ) → FirstAbove x y z ↔ (pos 0 <ℤ (x +ℤ inward y z))
-first-start x y z = go (countsIn y z) (counts-in-says y z)
+pub first-start : (x y z : ℤ) → FirstAbove x y z ↔ (pos 0 <ℤ (x +ℤ countsIn y z))
+first-start x y z = go (growsBeside y z) (grows-says y z)
   where
     go : (b : Bool) → T b ↔ Rises y z → FirstAbove x y z ↔ (pos 0 <ℤ (x +ℤ cond b (pos 1) (pos 0)))
     go true says = (λ l. ≤-suc (at-least l), λ h. by (compared (pos 0) x) (<-suc h))
@@ -92,7 +92,7 @@ first-start x y z = go (countsIn y z) (counts-in-says y z)
 -- a product with a line just beside a ray is above 0 exactly when that with the ray, one more where the edge counts in, is
 pub weighted-start :
     {n : ℕ} {α β γ : ℤ} → Steep (pos n) α β γ → (x : ℤ) {y z : ℤ} → Within n y → Within n z →
-    (pos 0 <ℤ weighted α β γ x y z) ↔ (pos 0 <ℤ (x +ℤ inward y z))
+    (pos 0 <ℤ weighted α β γ x y z) ↔ (pos 0 <ℤ (x +ℤ countsIn y z))
 weighted-start s x {y} {z} hy hz =
     let a = weighted-says s hy hz in
     let b = first-start x y z in

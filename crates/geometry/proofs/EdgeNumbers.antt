@@ -9,7 +9,7 @@ use Rattle.model.specs.Vector.{dot}
 use Rattle.geometry.specs.declared.Vector.{Vector}
 use Rattle.geometry.specs.declared.Raster.{Raster}
 use Rattle.geometry.specs.Machine.{vecOf, Bounded, NumberIs}
-use Rattle.geometry.specs.Raster.{RasterBounded, FunctionIs, inward, seenBy}
+use Rattle.geometry.specs.Raster.{RasterBounded, FunctionIs, countsIn, seenBy}
 use Rattle.geometry.proofs.Results.{number, number-by, function}
 
 module _ {r : Raster} {e : Vector} (raster : RasterBounded r) (edge : Bounded 800000000 e) {start one : ℤ} (start-is : start ≡ dot (vecOf (r .origin)) (vecOf e)) (small : Within 1 one) where
@@ -25,7 +25,7 @@ module _ {r : Raster} {e : Vector} (raster : RasterBounded r) (edge : Bounded 80
       {slope drop : ℤ}
       (slope-is : slope ≡ dot (vecOf (r .across)) (vecOf e))
       (drop-is : drop ≡ dot (vecOf (r .down)) (vecOf e))
-      (counted : one ≡ inward (toZ w64 (ofZ w64 slope)) (toZ w64 (ofZ w64 drop)))
+      (counted : one ≡ countsIn (toZ w64 (ofZ w64 slope)) (toZ w64 (ofZ w64 drop)))
     where
       slope-number : NumberIs 480000000000 (dot (vecOf (r .across)) (vecOf e)) (toZ w64 (ofZ w64 slope))
       slope-number = number (search (machine, result) depth 40 fits 20000, tt, tt, refl)
@@ -43,5 +43,5 @@ module _ {r : Raster} {e : Vector} (raster : RasterBounded r) (edge : Bounded 80
       function-is =
           function
           (number-by sum-number
-          (ap (dot (vecOf (r .origin)) (vecOf e) +ℤ_) (counted ∙ ap₂ inward (slope-number .value) (drop-number .value))))
+          (ap (dot (vecOf (r .origin)) (vecOf e) +ℤ_) (counted ∙ ap₂ countsIn (slope-number .value) (drop-number .value))))
           slope-number drop-number

@@ -27,20 +27,21 @@ pub record RasterBounded (r : Raster) : Type 0 where
   pub across-bounded : Bounded 200 (r .across)
   pub down-bounded : Bounded 200 (r .down)
 
--- A number that is 0 at a ray is above 0 just beside it where it rises to the right or, level there, downward: an edge with such a number counts in.
-abbrev pub countsIn : ℤ → ℤ → Bool
-countsIn slope drop = ltZ (pos 0) slope || (isZero slope && ltZ (pos 0) drop)
+-- a number grows from column to column or, the same in all columns, from row to row: where it is 0 at a ray it is then above 0 just beside it
+abbrev pub growsBeside : ℤ → ℤ → Bool
+growsBeside slope drop = ltZ (pos 0) slope || (isZero slope && ltZ (pos 0) drop)
 
--- 1 where it does
-abbrev pub inward : ℤ → ℤ → ℤ
-inward slope drop = cond (countsIn slope drop) (pos 1) (pos 0)
+-- 1 for an edge that counts in: a ray that runs along it passes on the patch's side. These are a patch's left edges and, of those along a row, its upper ones.
+abbrev pub countsIn : ℤ → ℤ → ℤ
+countsIn slope drop = cond (growsBeside slope drop) (pos 1) (pos 0)
 
--- the products of the rays with an edge vector, each one more where the edge counts in: above 0 exactly where the line just beside the ray passes on the edge's side
+-- The products of the rays with an edge vector, one more where the edge counts in: above 0 exactly where the line just beside the ray passes on the side that the
+-- edge vector points to (`line-seen`, in `edges`).
 abbrev pub seenBy : Raster → Vec → EdgeFunction
 seenBy r e =
     let slope : ℤ = dot (vecOf (r .across)) e in
     let drop : ℤ = dot (vecOf (r .down)) e in
-    record { start = dot (vecOf (r .origin)) e +ℤ inward slope drop; slope = slope; drop = drop }
+    record { start = dot (vecOf (r .origin)) e +ℤ countsIn slope drop; slope = slope; drop = drop }
 
 -- how large they are at most, for an edge vector, parts within 800,000,000
 pub record FunctionBounded (f : EdgeFunction) : Type 0 where

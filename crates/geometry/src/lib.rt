@@ -3,7 +3,7 @@ ghost use mathlib.Core.Path.{_≡_};
 ghost use Rattle.model.specs.Vector.{minus, dot, cross, planeNormal};
 ghost use Rattle.model.specs.Questions.{upTo, partsUpTo};
 ghost use Rattle.geometry.specs.Machine.{vecOf, planeOf, Bounded, VectorIs, NumberIs};
-ghost use Rattle.geometry.specs.Raster.{RasterBounded, FunctionIs, inward, seenBy};
+ghost use Rattle.geometry.specs.Raster.{RasterBounded, FunctionIs, countsIn, seenBy};
 
 pub struct Vector {
     pub x: i64,
@@ -20,8 +20,7 @@ pub struct Raster {
     pub height: usize,
 }
 
-// A number for each ray of a raster: start + i · slope + j · drop at column i of row j. The products of the rays with one edge vector are such numbers; one more at
-// the start makes those of an edge that counts in, so that above 0 means on the edge's side for the line just beside the ray.
+// A number for each ray of a raster: start + i · slope + j · drop at column i of row j. The products of the rays with one edge vector are such numbers.
 pub struct EdgeFunction {
     pub start: i64,
     pub slope: i64,
@@ -116,9 +115,9 @@ pub fn edge_vector(eye: Vector, v: Vector, w: Vector) -> Vector
     plane_normal(eye, v, w)
 }
 
-// 1 where an edge counts in: its number rises to the right or, level there, downward
+// 1 for an edge that counts in: its number grows from column to column or, the same in all columns, from row to row
 fn counts_in(slope: i64, drop: i64) -> i64
-    ensures { λ r. ⌜ NumberIs 1 (inward slope drop) r ⌝ }
+    ensures { λ r. ⌜ NumberIs 1 (countsIn slope drop) r ⌝ }
 {
     if slope < 0 {
         return 0;
@@ -132,7 +131,8 @@ fn counts_in(slope: i64, drop: i64) -> i64
     0
 }
 
-// what a raster sees of an edge vector
+// The products of a raster's rays with an edge vector, one more where the edge counts in. All are whole numbers: where the product is 0, one more is above 0, and
+// where it is below 0 one more is not.
 pub fn edge_function(r: Raster, edge: Vector) -> EdgeFunction
     requires { ⌜ RasterBounded r × Bounded 800000000 edge ⌝ }
     ensures { λ f. ⌜ FunctionIs (seenBy r (vecOf edge)) f ⌝ }

@@ -1,6 +1,6 @@
 -- Directions that see every vector of a scene's size on the same side show the same: they meet the same patches, in one order of distances.
 use mathlib.Core.Path.{_≡_, refl, sym, _∙_, ap, ap₂, subst}
-use mathlib.Core.Logic.{_↔_, _≢_, _⊎_, inl, inr}
+use mathlib.Core.Logic.{_↔_, _≢_}
 use mathlib.Core.Bool.{not}
 use mathlib.Core.List.{List, [], _∷_, List·Memᴰ}
 use Prim.Native.Nat.{ℕ, zero, suc, _*_, _≤_, _<_}
@@ -26,7 +26,6 @@ use Rattle.model.proofs.Patches.{corner-mem, met-says}
 use Rattle.model.proofs.Sides.{distance-positive}
 use Rattle.model.proofs.Sizes.{vec-more, minus-within, times-within, cross-within, dot-within}
 use Rattle.model.proofs.Ranges.{getD-member}
-use Rattle.model.proofs.Tests.{lt-or-ge}
 
 -- how large the vectors are that decide what is met and which of two patches is nearer
 abbrev pub largest : ℕ
@@ -39,26 +38,29 @@ pub record Alike (D D′ : Vec) : Type 0 where
 pub alike-sym : {D D′ : Vec} → Alike D D′ → Alike D′ D
 alike-sym a = record { sides = λ h. (a .sides h .1, a .sides h .0) }
 
--- and so on the same side as any number
-alike-sign : {D D′ : Vec} → Alike D D′ → {v : Vec} → VecWithin largest v → (k : ℤ) → SameSign k (dot D v) → SameSign k (dot D′ v)
-alike-sign {D} {D′} a {v} h k g = go (compared (pos 0) k)
+-- what is on the same side of a vector and of its opposite has the same sign there as any number
+pub same-side :
+    (D D′ v : Vec) → (pos 0 <ℤ dot D v → pos 0 <ℤ dot D′ v) →
+    (pos 0 <ℤ dot D (times (negsuc 0) v) → pos 0 <ℤ dot D′ (times (negsuc 0) v)) →
+    (k : ℤ) → SameSign k (dot D v) → SameSign k (dot D′ v)
+same-side D D′ v ahead behind k g = go (compared (pos 0) k)
   where
-    back : Vec
-    back = times (negsuc 0) v
-
-    turned : (E : Vec) → dot E back ≡ negℤ (dot E v)
+    turned : (E : Vec) → dot E (times (negsuc 0) v) ≡ negℤ (dot E v)
     turned E = ring (E .x ∷ E .y ∷ E .z ∷ v .x ∷ v .y ∷ v .z ∷ []) (search reify depth 40 fits 200000, tt)
 
-    sized : VecWithin largest back
-    sized = vec-more (times-within {n = 1} {k = negsuc 0} (within-literal tt) h) (lit≤ tt)
-
     go : Compared (pos 0) k → SameSign k (dot D′ v)
-    go (less l) = record { agree = *-pos l (a .sides h .0 (same-pos l g)) }
+    go (less l) = record { agree = *-pos l (ahead (same-pos l g)) }
     go (same e) = absurd (same-≢ g (sym e))
     go (above l) =
         let x : pos 0 <ℤ negℤ (dot D v) = same-pos (neg-of-neg l) (same-neg g) in
-        let y : pos 0 <ℤ negℤ (dot D′ v) = subst (pos 0 <ℤ_) (turned D′) (a .sides sized .0 (subst (pos 0 <ℤ_) (sym (turned D)) x)) in
+        let y : pos 0 <ℤ negℤ (dot D′ v) = subst (pos 0 <ℤ_) (turned D′) (behind (subst (pos 0 <ℤ_) (sym (turned D)) x)) in
         record { agree = <-by (*-pos (neg-of-neg l) y) (ring (k ∷ dot D′ v ∷ []) (search reify depth 40 fits 200000, tt)) }
+
+pub turned-within : {v : Vec} → VecWithin largest v → VecWithin largest (times (negsuc 0) v)
+turned-within h = vec-more (times-within {n = 1} {k = negsuc 0} (within-literal tt) h) (lit≤ tt)
+
+alike-sign : {D D′ : Vec} → Alike D D′ → {v : Vec} → VecWithin largest v → (k : ℤ) → SameSign k (dot D v) → SameSign k (dot D′ v)
+alike-sign {D} {D′} a {v} h = same-side D D′ v (a .sides h .0) (a .sides (turned-within h) .0)
 
 -- ---- which of two distances is less
 -- of two fractions above 0 the first is below the second exactly when this number has the sign of the numerators' product
@@ -113,7 +115,7 @@ module _ {eye : Vec} (eye-within : VecWithin 10000 eye) where
         (cross-within (minus-within (ranged .corners (edge-ends l .0)) eye-within) (minus-within (ranged .corners (edge-ends l .1)) eye-within))
         (lit≤ tt)
 
-    alike-met : {D D′ : Vec} → Alike D D′ → T (met eye D p) → T (met eye D′ p)
+    pub alike-met : {D D′ : Vec} → Alike D D′ → T (met eye D p) → T (met eye D′ p)
     alike-met {D} {D′} a t =
         let m = met-says eye D p .0 t in
         met-says eye D′ p .1

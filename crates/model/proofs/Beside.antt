@@ -1,7 +1,7 @@
 -- The lines just beside a sight line all show the same, and the line that a cell is read along shows it too.
 use mathlib.Core.Path.{_≡_, sym, subst}
-use mathlib.Core.Logic.{_↔_}
-use mathlib.Core.List.{List, [], _∷_, List·Memᴰ}
+use mathlib.Core.Logic.{_↔_, _≢_, inl, inr}
+use mathlib.Core.List.{[], _∷_}
 use Prim.Native.Nat.{ℕ, suc, _+_, _*_, _≤_, _<_}
 use native.Mathlib.Nat.{mul-pos, mul-le-mul, le-refl, le-of-lt}
 use native.Mathlib.Omega.{arith}
@@ -13,7 +13,7 @@ use Rattle.integer.proofs.Magnitude.{within-more, within-negation}
 use Rattle.model.specs.Vector.{Vec, minus, plus, times, dot}
 use Rattle.model.specs.Bounds.{VecWithin}
 use Rattle.model.specs.View.{Axes, Camera, direction}
-use Rattle.model.specs.Beside.{Small, stepped, JustBeside, fine, cellLine}
+use Rattle.model.specs.Beside.{stepped, JustBeside, fine, cellLine}
 use Rattle.model.specs.Questions.{axesProper}
 use Rattle.model.proofs.Steep.{Steep, FirstAbove, weighted, weighted-says}
 use Rattle.model.proofs.CallLimits.{axes-bounded}
@@ -88,6 +88,17 @@ module _ (k : Camera) (axes : T (axesProper (k .axes))) (i j : ℕ) where
       (pos 0 <ℤ z) ↔ FirstAbove (dot (direction k i j) w) (dot (k .axes .right) w) (negℤ (dot (k .axes .up) w)))
       (sym (lean-dot (k .axes) (direction k i j) w α β γ))
       (weighted-says s (within-more (dot-within right h) (lit≤ tt)) (within-negation (within-more (dot-within up h) (lit≤ tt))))
+
+  -- where the sight line itself is on one side of a vector's plane, the line that the cell is read along is on that side
+  pub side-kept :
+      {w : Vec} → VecWithin largest w → dot (direction k i j) w ≢ pos 0 →
+      (pos 0 <ℤ dot (cellLine k i j) w) ↔ (pos 0 <ℤ dot (direction k i j) w)
+  unfolding cellLine
+  side-kept {w} h f = let l = leans fine-steep h in (λ g. first (l .0 g), λ g. l .1 (inl g))
+    where
+      first : FirstAbove (dot (direction k i j) w) (dot (k .axes .right) w) (negℤ (dot (k .axes .up) w)) → pos 0 <ℤ dot (direction k i j) w
+      first (inl g) = g
+      first (inr (e, _)) = absurd (f e)
 
   steep-alike : {α β γ α′ β′ γ′ : ℤ} → Steep (pos most) α β γ → Steep (pos most) α′ β′ γ′ → Alike (line α β γ) (line α′ β′ γ′)
   steep-alike s t = record { sides = λ h. (λ l. leans t h .1 (leans s h .0 l), λ l. leans s h .1 (leans t h .0 l)) }

@@ -1,17 +1,17 @@
 -- What questions 3, 6 and 8 say of each patch of the table.
 use mathlib.Core.Bool.{Bool, _&&_}
 use mathlib.Core.List.{List, map, List·Memᴰ}
-use Prim.Native.Nat.{ℕ}
+use Prim.Native.Nat.{ℕ, _<_}
 use lib.Dec.{T}
-use lib.ListN.{length}
+use lib.ListN.{length, length-map}
 use Rattle.model.specs.Lists.{every}
 use Rattle.model.specs.Patch.{Patch, cornersCounted, flat, strictlyConvex, Proper}
-use Rattle.model.specs.Format.{NodeRecord, PatchRecord, Scene, decode, patchOf, patchTable}
+use Rattle.model.specs.Format.{NodeRecord, PatchRecord, Scene, decode, patchOf, patchTable, patchNumbered}
 use Rattle.model.specs.Questions.{pointInRange, planeInRange, coordinatesInRange, runsFollow, patchRunsFollow, cornerRunsFollow, runsProper, patchesProper}
 use Rattle.model.specs.Accepted.{AcceptedScene}
 use Rattle.model.specs.Removal.{kept}
 use Rattle.model.proofs.Tests.{both, every-true}
-use Rattle.model.proofs.Ranges.{of-map}
+use Rattle.model.proofs.Ranges.{getD-member, of-map}
 use Rattle.model.proofs.Kept.{kept-members}
 use Rattle.model.proofs.Runs.{part-member}
 use Rattle.model.proofs.Sizes.{parts-within}
@@ -49,6 +49,11 @@ table-ranged s t =
   where
     corners : T (every pointInRange (s .corners))
     corners = both (every (λ (n : NodeRecord). planeInRange (n .plane)) (s .nodes)) (every pointInRange (s .corners)) .0 t .1
+
+-- a patch by its number is in the table
+pub numbered-listed : (s : Scene) (k : ℕ) → k < length (s .patches) → List·Memᴰ (patchNumbered s k) (patchTable s)
+unfolding patchTable patchNumbered
+numbered-listed s k h = getD-member (patchTable s) k _ (rw (length-map (s .patches) (patchOf (s .corners))) h)
 
 pub table-sound : {bytes : List ℕ} → AcceptedScene bytes → Sound (patchTable (decode bytes))
 table-sound {bytes} h =

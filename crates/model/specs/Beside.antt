@@ -8,8 +8,8 @@ use Rattle.model.specs.Ray.{IsClosest}
 use Rattle.model.specs.Booking.{HasCell}
 use Rattle.model.specs.View.{Axes, Camera, View, direction}
 
--- "any small enough step above 0": it holds of every step a / b above 0 and below 1 / bound (of every step above 0, where the bound is 0)
-pub record Small (P : ℕ → ℕ → Type 0) : Type 0 where
+-- "any small enough step above 0": P holds of every step a / b above 0 and below 1 / bound (of every step above 0, where the bound is 0)
+pub record AnySmallStep (P : ℕ → ℕ → Type 0) : Type 0 where
   pub bound : ℕ
   pub holds : (a b : ℕ) → 0 < a → a * bound < b → P a b
 
@@ -19,27 +19,28 @@ abbrev pub stepped : Axes → Vec → ℕ → ℕ → ℕ → ℕ → Vec
 stepped axes d a b c e =
     minus (plus (times (pos (b * e)) d) (times (pos (a * e)) (axes .right))) (times (pos (c * b)) (axes .up))
 
--- It holds of the lines just beside cell (i, j)'s direction: "the line from the eye whose direction has right times any small enough step above 0 added, and up
--- times any step above 0 small enough beside that taken away". What is small enough for the second step may depend on the first.
+-- P holds of the lines just beside the sight line of cell (i, j): of "the line from the eye whose direction has right times any small enough step above 0 added, and
+-- up times any step above 0 small enough beside that taken away". What is small enough for the second step may depend on the first.
 abbrev pub JustBeside : Camera → ℕ → ℕ → (Vec → Type 0) → Type 0
-JustBeside k i j P =
-    Small (λ (a b : ℕ). Small (λ (c e : ℕ). P (stepped (k .axes) (direction k i j) a b c e)))
+JustBeside camera i j P =
+    AnySmallStep
+    (λ (a b : ℕ). AnySmallStep (λ (c e : ℕ). P (stepped (camera .axes) (direction camera i j) a b c e)))
 
--- "A cell holds the panel met first, strictly inside, by the line": panel n, or 0 where no patch is met, is the closest along the lines just beside. ""Met" and
--- "closest" are read so from here on."
+-- "A cell holds the panel met first, strictly inside, by the line": number n, of a panel or 0 where no patch is met, is the closest along the lines just beside.
+-- ""Met" and "closest" are read so from here on."
 abbrev pub ShownBeside : View → List Patch → ℕ → ℕ → ℕ → Type 0
 ShownBeside v ps i j n = JustBeside (v .camera) i j (λ (line : Vec). IsClosest (v .eye) line ps n)
 
--- the patch, by its number, that has the cell (F-2), read so too
+-- the patch, by its number k, that has the cell (F-2), read so too
 abbrev pub HasBeside : View → List Patch → ℕ → ℕ → ℕ → Type 0
 HasBeside v ps i j k = JustBeside (v .camera) i j (λ (line : Vec). HasCell (v .eye) line ps k)
 
--- Steps that are small enough for every accepted scene and view: 2 / 10²⁶ for right and, beside it, 2 / 10⁵² for up. (2 times right leads to the next column,
--- 2 times up to the row above.)
+-- 10²⁶
 abbrev pub fine : ℕ
 fine = 100000000000000000000000000
 
--- The one line by which an equation names what a cell shows. That it shows what the lines just beside show, and that this is one panel, is proved
--- (`beside-right`, `beside-only`), not part of the rule.
+-- The one line by which an equation names what a cell shows: with the steps 2 / 10²⁶ for right and 2 / 10⁵² for up. (2 times right leads to the next column, 2 times up to
+-- the row above.) That these are small enough in every accepted scene and view, and that all lines just beside show one panel, is proved (`beside-right`, `beside-only`) and
+-- not part of the rule.
 unfoldable pub cellLine : Camera → ℕ → ℕ → Vec
-cellLine c i j = stepped (c .axes) (direction c i j) 2 fine 2 (fine * fine)
+cellLine camera i j = stepped (camera .axes) (direction camera i j) 2 fine 2 (fine * fine)

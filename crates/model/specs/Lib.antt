@@ -2,7 +2,6 @@
 -- names no document is from document 01.
 pub mod Lists
 pub mod Vector
-pub mod Bounds
 pub mod Patch
 pub mod Ray
 pub mod Tree
@@ -18,3 +17,5 @@ pub mod Questions
 pub mod Accepted
 pub mod Survey
 pub mod Removal
+-- no words of a document: how large coordinates are, for the contracts of the code
+pub mod Bounds

@@ -1,4 +1,5 @@
--- Sight lines (rays from the eye): which patches they meet, how far away, and the closest panel. Tree and walk have no part in the closest panel.
+-- Lines from the eye: which patches they meet, how far away, and the closest panel along a line. Tree and walk have no part in it. (A cell is read by the lines just beside
+-- its sight line: Beside.)
 use mathlib.Core.Path.{_≡_}
 use mathlib.Core.Bool.{Bool, true, false, not, cond, _&&_, _||_}
 use mathlib.Core.List.{List, [], _∷_, _++_, List·Memᴰ}

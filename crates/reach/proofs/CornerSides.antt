@@ -23,7 +23,7 @@ use Rattle.spans.proofs.Rows.{shaped-all, no-columns}
 use Rattle.model.proofs.Ranges.{range-append}
 use Rattle.reach.specs.declared.Planes.{Planes}
 use Rattle.reach.specs.declared.Sides.{Sides}
-use Rattle.reach.specs.Reach.{rowNormal, Beside, SidesBeside, SidesShaped, SidesClipped}
+use Rattle.reach.specs.Reach.{rowNormal, OnOneSide, SidesBeside, SidesShaped, SidesClipped}
 
 pub bounded-more : {n m : ℕ} {v : Vector} → n ≤ m → Bounded n v → Bounded m v
 bounded-more h b =
@@ -56,15 +56,15 @@ pub record BesideFirst (eye : Vec) (n : Planes) (corner : ℕ → Vec) (first co
   pub so-far : SidesBeside eye n (map corner (range first k)) height s
 
 module _ {eye : Vec} {n : Planes} {height : ℕ} where
-  beside-no-corner : (sign : ℤ) → Beside eye n sign [] height (record { first = 0; end = height })
+  beside-no-corner : (sign : ℤ) → OnOneSide eye n sign [] height (record { first = 0; end = height })
   beside-no-corner sign = record { all = λ j t c m. absurd (List·Memᴰ·not-nil m); shaped = shaped-all height }
 
   -- one corner more: in the rows left its number, slope · j + start, is above 0
   beside-corner :
       {sign : ℤ} {corners : List Vec} {s r : Span} {A B : ℤ} (c : Vec) →
       ((j : ℕ) → numberAt A B j ≡ dot (minus c eye) (rowNormal n sign j)) →
-      Beside eye n sign corners height s → Clipped A B s r →
-      Beside eye n sign (corners ++ c ∷ []) height r
+      OnOneSide eye n sign corners height s → Clipped A B s r →
+      OnOneSide eye n sign (corners ++ c ∷ []) height r
   beside-corner {sign} {corners} {s} {r} {A} {B} c is b clipped =
       record {
         all = λ j t.

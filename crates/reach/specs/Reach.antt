@@ -33,14 +33,14 @@ rowNormal n sign j = times sign (plus (vecOf (n .first)) (times (pos j) (vecOf (
 
 -- ---- the rows beside a patch
 -- in each row of the span every corner, seen from the eye, lies on the side of the row's plane that the normal, times the sign, points to
-pub record Beside (eye : Vec) (n : Planes) (sign : ℤ) (corners : List Vec) (height : ℕ) (r : Span) : Type 0 where
+pub record OnOneSide (eye : Vec) (n : Planes) (sign : ℤ) (corners : List Vec) (height : ℕ) (r : Span) : Type 0 where
   pub all :
       (j : ℕ) → T (covers r j) → (c : Vec) → List·Memᴰ c corners → pos 0 <ℤ dot (minus c eye) (rowNormal n sign j)
   pub shaped : Shaped height r
 
 pub record SidesBeside (eye : Vec) (n : Planes) (corners : List Vec) (height : ℕ) (r : Sides) : Type 0 where
-  pub ahead-beside : Beside eye n (pos 1) corners height (r .ahead)
-  pub behind-beside : Beside eye n (negsuc 0) corners height (r .behind)
+  pub ahead-beside : OnOneSide eye n (pos 1) corners height (r .ahead)
+  pub behind-beside : OnOneSide eye n (negsuc 0) corners height (r .behind)
 
 pub record SidesShaped (height : ℕ) (s : Sides) : Type 0 where
   pub ahead-shaped : Shaped height (s .ahead)
@@ -68,7 +68,7 @@ pub record Sighting (bytes : List ℕ) (l : Layout) (k : ℕ) (eye : Vector) (r 
   pub planes-of : PlanesOf r n
   pub height-limit : r .height ≤ 1024
 
--- Outside these rows no ray of the raster meets the patch. It need not be met in all of them: too wide a reach costs time alone.
+-- Outside these rows no line that a cell is read along meets the patch. It need not be met in all of them: too wide a reach costs time alone.
 pub record Reach (eye : Vec) (r : Raster) (p : Patch) (rows : Span) : Type 0 where
   pub missed :
       (j : ℕ) →

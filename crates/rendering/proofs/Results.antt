@@ -1,5 +1,5 @@
 -- The painted rows show the closest panels: the walk is gone.
-use mathlib.Core.Path.{_≡_, sym, _∙_, ap, subst, fun-ext}
+use mathlib.Core.Path.{_≡_, sym, _∙_, ap, fun-ext}
 use mathlib.Core.Bool.{Bool}
 use mathlib.Core.List.{List, map, flatten, List·Memᴰ}
 use Prim.Native.Nat.{ℕ, _<_, _≤_}
@@ -16,12 +16,9 @@ use Rattle.model.specs.Format.{Scene, decode, patchTable, patchOf, patchNumbere
 use Rattle.model.specs.Row.{rowOf}
 use Rattle.model.specs.Picture.{cells, picture, cellPanel, unlitLists}
 use Rattle.model.specs.Booking.{cellsWhere, patchCells}
-use Rattle.model.specs.Questions.{patchRunsFollow, cornerRunsFollow, runsProper, unlitAfter}
-use Rattle.model.proofs.Tests.{both}
-use Rattle.model.proofs.Ranges.{of-map, getD-member}
+use Rattle.model.specs.Questions.{unlitAfter}
 use Rattle.model.specs.Accepted.{AcceptedScene}
-use Rattle.walk.proofs.Whole.{walk-numbers}
-use Rattle.walk.proofs.Seen.{accepted, first-met-closest}
+use Rattle.walk.proofs.Seen.{accepted, of-walk, first-met-closest}
 use Rattle.walk.proofs.Numbered.{first-has}
 use Rattle.scanline.specs.Shown.{shownAfter}
 use Rattle.placing.specs.Framing.{RowsPainted}
@@ -39,16 +36,8 @@ walked bytes eye = map (patchNumbered (decode bytes)) (order eye (numberTree (de
 module _ (bytes : List ℕ) (h : AcceptedScene bytes) (eye : Vec) where
   -- every panel of the walk has a number above 0
   walked-positive : (p : Patch) → List·Memᴰ p (walked bytes eye) → 1 ≤ p .panel
-  unfolding runsProper patchNumbered patchTable
   walked-positive =
-      let s : Scene = decode bytes in
-      of-map (λ (p : Patch). 1 ≤ p .panel) (patchNumbered s) (order eye (numberTree s))
-      (λ k m.
-      panel-positive s (h .panels) (patchNumbered s k)
-      (getD-member (patchTable s) k _
-      (subst (λ (n : ℕ). k < n) (sym (length-map (s .patches) (patchOf (s .corners))))
-      (walk-numbers s (accepted h .few-nodes) (h .children)
-      (both (patchRunsFollow s) (cornerRunsFollow s) .0 (h .runs) .0) eye k m))))
+      of-walk (decode bytes) (accepted h) eye (λ (p : Patch). 1 ≤ p .panel) (panel-positive (decode bytes) (h .panels))
 
   -- a column shows its closest panel
   shows-closest : (ray : ℕ → Vec) (i : ℕ) → shownAfter eye ray (walked bytes eye) i ≡ closest eye (ray i) (patchTable (decode bytes))

@@ -70,6 +70,6 @@ pub record ColumnsLaid (columns : ℕ → Bool) (panel : ℕ) (row cells row′ 
   pub laid :
       (unlit : ℕ → Bool) → row ≡ rowOf (length cells) unlit → ColumnsPainted columns panel unlit cells row′ cells′ (r .full) (r .lit)
 
--- the same for a patch: the columns are those whose rays meet it
+-- the same for a patch: the columns are those whose lines meet it
 abbrev pub PatchLaid : Vec → (ℕ → Vec) → Patch → List ℕ → List ℕ → List ℕ → List ℕ → Laid → Type 0
 PatchLaid eye ray p row cells row′ cells′ r = ColumnsLaid (λ (i : ℕ). met eye (ray i) p) (p .panel) row cells row′ cells′ r

@@ -20,7 +20,7 @@ pub record RowPainted (eye : Vec) (ray : ℕ → Vec) (walk : List Patch) (width
   pub cells-are : cells ≡ map (shownAfter eye ray walk) (range 0 width)
   pub row-is : row ≡ rowOf width (unlitAfter eye ray walk)
 
--- how many columns a patch newly lights after some are painted: those whose rays meet it and none of these
+-- how many columns a patch newly lights after some are painted: those whose lines meet it and none of these
 unfoldable pub newlyLit : Vec → (ℕ → Vec) → ℕ → List Patch → Patch → ℕ
 newlyLit eye ray width painted p = tally (λ (i : ℕ). unlitAfter eye ray painted i && met eye (ray i) p) (range 0 width)
 

@@ -8,3 +8,4 @@ mod NearSide
 mod Descents
 pub mod Seen
 pub mod Numbered
+pub mod OffEdges

@@ -14,14 +14,14 @@ use Rattle.model.specs.Tree.{Tree, leaf, node, contents, mapTree, order, divide
 use Rattle.model.specs.Format.{Header, NodeRecord, Scene, headerOf, headerSize, nodeSize, patchSize, cornerSize, mostNodes, mostPatches, mostCorners, recordsOf, decode, noChild, patchTable, patchNumbered, numberTree, patchTree}
 use Rattle.model.specs.Questions.{sectionEnd, isSection, hasSections, planesProper, childrenProper, patchRunsFollow, cornerRunsFollow, runsProper, panelsInRange, panelsNeverFall, panelsProper, patchesProper, planesDivide}
 use Rattle.model.proofs.Tests.{both}
-use Rattle.model.proofs.Ranges.{range-length}
+use Rattle.model.proofs.Ranges.{range-length, of-map}
 use Rattle.model.specs.Accepted.{AcceptedScene}
 use Rattle.model.proofs.Closest.{closest-members}
 use Rattle.model.proofs.Visibility.{ProperNode, ProperTree, visible-panel}
-use Rattle.walk.proofs.Whole.{order-map, table-by-number, number-members}
+use Rattle.walk.proofs.Whole.{order-map, table-by-number, walk-numbers, number-members}
 use Rattle.checked.proofs.Subtrees.{run, contents-map}
 use Rattle.model.proofs.Runs.{part-member}
-use Rattle.model.proofs.PatchTables.{table-proper}
+use Rattle.model.proofs.PatchTables.{numbered-listed, table-proper}
 use Rattle.walk.proofs.Carried.{EveryNode, carried, run-patches, plane-proper, panels-rise}
 
 -- questions 4 to 9, of a scene with so few nodes that 65,535 is no node's number (question 2)
@@ -57,6 +57,16 @@ module _ (s : Scene) (h : ProperScene s) where
         panelsRise = panels-rise s (both (panelsInRange s) (panelsNeverFall s) .0 (h .panels) .1) n m;
         proper = λ p k. table-proper s (h .runs) (h .patches) p (part-member (n .patchRun) (patchTable s) k);
       })
+
+  -- what holds of each patch of the table holds of each patch of the walk
+  pub of-walk :
+      (eye : Vec) (P : Patch → Type 0) → ((p : Patch) → List·Memᴰ p (patchTable s) → P p) →
+      (p : Patch) →
+      List·Memᴰ p (map (patchNumbered s) (order eye (numberTree s))) →
+      P p
+  of-walk eye P each =
+      of-map P (patchNumbered s) (order eye (numberTree s))
+      (λ k m. each (patchNumbered s k) (numbered-listed s k (walk-numbers s (h .few-nodes) (h .children) patch-runs eye k m)))
 
   -- any patches in place of the tree's numbers, if they are proper and divided as those of the scene
   pub walk-closest :
