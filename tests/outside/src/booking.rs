@@ -4,17 +4,12 @@
 use crate::axes::{Axes, LEVEL};
 use crate::call::{Call, View, COUNTS};
 use crate::mount::with_part;
-use crate::scene::{Patch, Scene};
-use crate::stations::{piece, s, scene_of, site, square, t, window, VIEW};
+use crate::scene::Scene;
+use crate::stations::{hung, in_one_node, piece, s, square, t, window, VIEW};
 use crate::trial::{accepted, refused, Trial};
 
 /// The rows of S.
 const S: &str = "0000 0550 0550 0000";
-
-/// All patches in one node.
-fn level(patches: Vec<Patch>) -> Scene {
-    scene_of(vec![site(patches)])
-}
 
 fn shows(name: &str, scene: &Scene, view: View, rows: &str, cells: &[u32]) -> Trial {
     accepted(name, Call::new(scene.write(), view), rows, cells)
@@ -47,8 +42,13 @@ fn of_one_node() -> Vec<Trial> {
         ),
         (
             "out of sight, then the whole",
-            vec![square(5, 25, 100), whole()],
+            vec![square(5, 24, 100), whole()],
             vec![0, 4],
+        ),
+        (
+            "its edges on sight lines, then the whole",
+            vec![square(5, 25, 100), whole()],
+            vec![1, 3],
         ),
         (
             "the whole under a higher panel too",
@@ -56,13 +56,13 @@ fn of_one_node() -> Vec<Trial> {
             vec![4, 0],
         ),
     ]
-    .map(|(name, patches, cells)| shows(name, &level(patches), VIEW, S, &cells))
+    .map(|(name, patches, cells)| shows(name, &in_one_node(patches), VIEW, S, &cells))
     .into()
 }
 
 /// Each panel in two pieces that overlap, and the panels overlap as well.
 fn of_two_panels() -> Vec<Trial> {
-    let scene = level(vec![
+    let scene = in_one_node(vec![
         piece(3, 100, [-50, 0], [-50, 50]),
         piece(3, 100, [-80, -20], [-50, 50]),
         piece(5, 100, [-80, 80], [-80, 80]),
@@ -77,7 +77,7 @@ fn of_two_panels() -> Vec<Trial> {
         axes: upside_down,
         ..window(8, 4, 4)
     };
-    let both = level(vec![square(3, 50, 100), square(5, 50, 100)]);
+    let both = in_one_node(vec![square(3, 50, 100), square(5, 50, 100)]);
     let (rows, over) = (
         "00555500 00335500 00335500 00555500",
         "00555500 00553300 00553300 00555500",
@@ -91,26 +91,11 @@ fn of_two_panels() -> Vec<Trial> {
     ]
 }
 
-/// The first node's patches, and behind or before them the second's.
-fn hung(first: Vec<Patch>, second: Vec<Patch>, before: bool) -> Scene {
-    let mut sites = vec![site(first), site(second)];
-    // The normal of all of them points toward the eye.
-    match before {
-        true => sites[0].positive = 1,
-        false => sites[0].negative = 1,
-    }
-    scene_of(sites)
-}
-
 /// A nearer patch has the cell, wherever it stands in the list.
 fn of_two_nodes() -> Vec<Trial> {
-    let near = hung(vec![square(5, 50, 100)], vec![square(5, 10, 50)], true);
+    let near = hung(vec![square(5, 50, 100)], vec![square(5, 10, 50)]);
     let pieces = [[-50, 10], [10, 50]].map(|x| piece(5, 100, x, [-50, 50]));
-    let hidden = hung(
-        vec![piece(7, 50, [-20, 0], [-20, 20])],
-        pieces.to_vec(),
-        false,
-    );
+    let hidden = hung(vec![piece(7, 50, [-20, 0], [-20, 20])], pieces.to_vec());
     let back = View {
         eye: [0, 200, 0],
         axes: Axes {
@@ -146,8 +131,8 @@ fn of_two_nodes() -> Vec<Trial> {
 /// Rows lit from end to end: the span that lights the last cells counts too.
 fn of_full_rows() -> Vec<Trial> {
     let [left, right] = [[-50, 0], [0, 50]].map(|x| piece(5, 100, x, [-50, 50]));
-    let halves = level(vec![left, right.clone()]);
-    let half_first = level(vec![right, square(5, 50, 100)]);
+    let halves = in_one_node(vec![left, right.clone()]);
+    let half_first = in_one_node(vec![right, square(5, 50, 100)]);
     let (line, all) = ("5".repeat(256), "5".repeat(256 * 128));
     let (wide, whole) = (window(256, 1, 4_096), window(256, 128, 4_096));
     vec![
@@ -170,7 +155,7 @@ fn of_full_rows() -> Vec<Trial> {
 fn full() -> Scene {
     let mut patches = vec![piece(5, 100, [60, 61], [60, 61]); 1_023];
     patches.push(square(5, 50, 100));
-    level(patches)
+    in_one_node(patches)
 }
 
 /// A node and no patch.

@@ -7,9 +7,10 @@ use std::path::PathBuf;
 use crate::axes::Axes;
 use crate::block::{blocks, Block, Reading};
 use crate::call::{Call, View, COUNTS, ROW};
+use crate::ray::Sight;
 use crate::scene::patches_told;
-use crate::survey::{survey, Done, Due};
-use crate::trial::Trial;
+use crate::survey::{survey_by, Done, Due};
+use crate::trial::{Suite, Trial};
 
 /// A file, and how many blocks it has: one cut short is seen, and so is one
 /// that nobody reads.
@@ -28,10 +29,26 @@ const fn file(name: &'static str, blocks: usize, request: u32) -> File {
     }
 }
 
-const FILES: &[File] = &[file("F-1.txt", 187, 1), file("F-2.txt", 187, 2)];
+const FILES: &[File] = &[
+    file("F-1.txt", 187, 1),
+    file("F-2.txt", 187, 2),
+    file("F-3.txt", 187, 3),
+];
 
 /// The request that brought the patch table.
 const PATCH_TABLE: u32 = 2;
+/// The request by which joints no longer see through.
+const JOINTS: u32 = 3;
+
+impl File {
+    /// How its cases read a sight line.
+    fn sight(&self) -> Sight {
+        match self.request < JOINTS {
+            true => Sight::Plain,
+            false => Sight::Beside,
+        }
+    }
+}
 
 fn folder() -> PathBuf {
     PathBuf::from(env!("CARGO_MANIFEST_DIR")).join("../cases")
@@ -54,8 +71,8 @@ pub fn files() -> Reading<Vec<(&'static File, String)>> {
     FILES.iter().map(read).collect()
 }
 
-/// Each file's name and cases, every block read to its last line.
-pub fn stored() -> Reading<Vec<(&'static str, Vec<Trial>)>> {
+/// Each file's cases, every block read to its last line.
+pub fn stored() -> Reading<Vec<Suite>> {
     let mut all = Vec::new();
     for (file, text) in files()? {
         let File { name, blocks, .. } = file;
@@ -64,16 +81,21 @@ pub fn stored() -> Reading<Vec<(&'static str, Vec<Trial>)>> {
             return Err(format!("{name} has {} blocks, not {blocks}", trials.len()));
         }
         if file.request < PATCH_TABLE {
-            trials.iter_mut().for_each(complete);
+            let own = trials.iter_mut();
+            own.for_each(|trial| complete(trial, file.sight()));
         }
-        all.push((*name, trials));
+        all.push(Suite {
+            name,
+            sight: file.sight(),
+            trials,
+        });
     }
     Ok(all)
 }
 
 /// A file that knows of no patch table leaves its numbers to the model.
-fn complete(trial: &mut Trial) {
-    if let (Ok(due), Ok(own)) = (&mut trial.due.result, survey(&trial.call)) {
+fn complete(trial: &mut Trial, sight: Sight) {
+    if let (Ok(due), Ok(own)) = (&mut trial.due.result, survey_by(sight, &trial.call)) {
         due.patch_counts = own.patch_counts;
     }
 }

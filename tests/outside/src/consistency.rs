@@ -4,83 +4,42 @@ use crate::axes::LEVEL;
 use crate::call::{Call, Lent, View};
 use crate::compare::{check_pair, panel_sums_hold};
 use crate::fault::Faulty;
-use crate::gate::patch_normal;
 use crate::pairs::{parts, Pair};
 use crate::random::Random;
-use crate::ray::{direction, distance, eye_to_corner, holder, met};
-use crate::scene::{Patch, Scene};
+use crate::ray::{direction, holder, met, Line, Sight};
+use crate::scene::Scene;
 use crate::stations::{t, VIEW};
-use crate::survey::{holders, survey, Done};
+use crate::steps::{each_alone, pierces};
+use crate::survey::{holders, lines, survey, Done};
 use crate::vector::{cross, dot, minus, wide, Vector};
 use crate::walk::walk;
 
-/// Meeting told from the point where the line pierces the plane: ahead of the
-/// eye, and inside every edge.
-fn pierces(patch: &Patch, eye: Vector, along: Vector) -> bool {
-    let n = patch_normal(patch);
-    let (over, under) = (eye_to_corner(patch, eye), dot(along, n));
-    if over * under <= 0 {
-        return false;
-    }
-    // The point is eye + along · over / under; all below is times |under|.
-    let (over, under) = (over.abs(), under.abs());
-    let count = patch.corners.len();
-    (0..count).all(|k| {
-        let v = wide(patch.corners[k]);
-        let w = wide(patch.corners[(k + 1) % count]);
-        let from_v = [0, 1, 2].map(|a| under * (eye[a] - v[a]) + over * along[a]);
-        dot(n, cross(minus(w, v), from_v)) > 0
-    })
-}
-
-/// On every ray: both ways of meeting agree, and the first patch met on the
-/// walk has the cell.
+/// On every line: the first patch met on the walk has the cell, and of a line
+/// alone both ways of meeting agree.
 pub fn rays_agree(call: &Call) -> bool {
     let scene = Scene::read(&call.scene);
-    let (view, patches) = (&call.view, scene.patches());
-    let order = walk(&scene, view.eye);
-    let (width, eye) = (usize::from(view.width), wide(view.eye));
+    let patches = scene.patches();
+    let order = walk(&scene, call.view.eye);
+    let first_has = |line: &Line| {
+        let mut walked = order.iter().copied();
+        walked.find(|&k| met(&patches[k], line)) == holder(&patches, line)
+    };
+    let agree = |line: &Line| {
+        let along = line.along[0];
+        let mut all = patches.iter();
+        all.all(|p| met(p, line) == pierces(p, line.eye, along))
+    };
+    let [plain, beside] = [Sight::Plain, Sight::Beside].map(|sight| lines(sight, &call.view));
     order.len() == patches.len()
-        && (0..view.cells()).all(|at| {
-            let along = direction(view, at % width, at / width);
-            let is_met = |k: &usize| met(&patches[*k], eye, along);
-            let first = order.iter().copied().find(is_met);
-            let agree = |p: &Patch| met(p, eye, along) == pierces(p, eye, along);
-            first == holder(&patches, eye, along) && patches.iter().all(agree)
-        })
+        && plain.iter().all(|line| first_has(line) && agree(line))
+        && beside.iter().all(first_has)
 }
 
-/// Does patch k give the cell up to patch m, if both are met? Told by three
-/// sentences: closer, or level and of a lower panel, or level, of one panel
-/// and "the earlier in the list".
-fn gives_up(patches: &[Patch], [k, m]: [usize; 2], eye: Vector, along: Vector) -> bool {
-    let [own, other] = [k, m].map(|n| distance(&patches[n], eye, along));
-    let [panel, other_panel] = [k, m].map(|n| patches[n].panel);
-    let closer = other.over * own.under < own.over * other.under;
-    let level = other.over * own.under == own.over * other.under;
-    closer || (level && (other_panel < panel || (other_panel == panel && m < k)))
-}
-
-/// Each patch by itself: its cells are those where it is met and gives none up.
-/// A lit cell is had by one patch, an unlit one by none.
+/// Read plainly, each patch by itself has the cells that it is booked.
 pub fn booked_once(call: &Call) -> bool {
-    let (view, patches) = (&call.view, Scene::read(&call.scene).patches());
-    let done = survey(call).expect("an accepted scene");
-    let (width, eye) = (usize::from(view.width), wide(view.eye));
-    let mut table = vec![0; patches.len()];
-    let once = (0..view.cells()).all(|at| {
-        let along = direction(view, at % width, at / width);
-        let there = (0..patches.len()).filter(|&k| met(&patches[k], eye, along));
-        let there: Vec<usize> = there.collect();
-        let keeps = |k: &usize| {
-            let mut others = there.iter().filter(|&m| m != k);
-            !others.any(|&m| gives_up(&patches, [*k, m], eye, along))
-        };
-        let having: Vec<usize> = there.iter().copied().filter(keeps).collect();
-        having.iter().for_each(|&k| table[k] += 1);
-        having.len() == usize::from(done.picture[at] > 0)
-    });
-    once && table == done.patch_counts
+    let lines = lines(Sight::Plain, &call.view);
+    let along: Vec<Vector> = lines.iter().map(|line| line.along[0]).collect();
+    each_alone(call, Sight::Plain, &along)
 }
 
 /// In the old view "The cell's direction is (2i + 1 − width, lens, height − 1 −
@@ -123,7 +82,7 @@ pub fn turned_back(call: &Call) -> Option<bool> {
     };
     let shown = survey(call).expect("an accepted scene");
     (call.view.axes != LEVEL && shown.picture.iter().any(|&panel| panel > 0))
-        .then(|| Done::of(&holders(&patches, &level), &patches, &level) == shown)
+        .then(|| Done::of(&holders(Sight::Beside, &patches, &level), &patches, &level) == shown)
 }
 
 /// The second scene has "just the first's patches less all those of the chosen

@@ -53,10 +53,11 @@ impl Case {
 pub fn case(seed: u64, number: u64, size: Size) -> Case {
     let mut rng = Random::new(seed, number);
     let rng = &mut rng;
-    let kind = match rng.below(14) {
-        11 => Kind::Tiny,
-        12 => Kind::Thin,
-        13 => Kind::Pieces,
+    let kind = match rng.below(17) {
+        12 => Kind::Tiny,
+        13 => Kind::Thin,
+        14 => Kind::Pieces,
+        15 | 16 => Kind::Joints,
         k => KINDS[k],
     };
     match number % 10 {
@@ -68,7 +69,7 @@ pub fn case(seed: u64, number: u64, size: Size) -> Case {
             Case::Lengths(call)
         }
         8 => {
-            let kind = rng.pick(&[Kind::Tiny, Kind::Level, Kind::Pieces, Kind::Empty]);
+            let kind = rng.pick(&[Kind::Tiny, Kind::Joints, Kind::Pieces, Kind::Empty]);
             let mut all = ends(&scene_call(rng, kind, size));
             let which = (number / 10) as usize % all.len();
             Case::Ends(all.swap_remove(which))
@@ -107,6 +108,7 @@ fn kind_to_harm(rng: &mut Random) -> Kind {
         Kind::Medium,
         Kind::Far,
         Kind::Pieces,
+        Kind::Joints,
     ];
     let rare = [
         Kind::Empty,

@@ -13,6 +13,7 @@ use crate::wrong_booking::{Book, Painted, BOOKS};
 use crate::wrong_buffers::{Spoil, Trace, SPOILS, TRACES};
 use crate::wrong_camera::CAMERAS;
 use crate::wrong_gate::WRONG;
+use crate::wrong_joints::JOINTS;
 use crate::wrong_lengths::{LENGTHS, SHORT_LENGTHS};
 use crate::wrong_paint::{painted, Look, LOOKS};
 
@@ -63,7 +64,8 @@ impl Faulty {
 
     /// Wrong pictures, and right ones that are booked wrongly.
     fn painters() -> Vec<Faulty> {
-        let looks = LOOKS.iter().chain(CAMERAS).map(|&(name, look)| Faulty {
+        let looks = LOOKS.iter().chain(CAMERAS).chain(JOINTS);
+        let looks = looks.map(|&(name, look)| Faulty {
             look,
             ..Faulty::named(name, &[Difference::Picture])
         });

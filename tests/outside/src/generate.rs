@@ -1,6 +1,7 @@
 //! Random scenes with their trees, each from its seed alone.
 
 use crate::call::View;
+use crate::hinge;
 use crate::loose::{Loose, Site};
 use crate::random::Random;
 use crate::scene::{Patch, NONE};
@@ -21,10 +22,11 @@ pub enum Kind {
     Comb,
     Lining,
     Pieces,
+    Joints,
     Empty,
 }
 
-pub const KINDS: [Kind; 11] = [
+pub const KINDS: [Kind; 12] = [
     Kind::Tiny,
     Kind::Grid,
     Kind::Level,
@@ -35,6 +37,7 @@ pub const KINDS: [Kind; 11] = [
     Kind::Comb,
     Kind::Lining,
     Kind::Pieces,
+    Kind::Joints,
     Kind::Empty,
 ];
 
@@ -96,6 +99,10 @@ fn panelled(rng: &mut Random, kind: Kind, size: Size) -> (Vec<Patch>, Option<Vie
         Kind::Pieces => {
             let (pieces, view) = works::pieces(rng, size.work);
             (pieces, Some(view))
+        }
+        Kind::Joints => {
+            let (leaves, view) = hinge::hinged(rng);
+            (soup::numbered(rng, leaves), Some(view))
         }
         Kind::Empty => (Vec::new(), None),
         _ => {

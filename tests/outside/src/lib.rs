@@ -2,17 +2,19 @@
 //!
 //! The model: `vector`, `axes`, `scene`, `gate`, `ray`, `survey`, `bill`,
 //! `stations`; beside it `walk`.
-//! The cases: `random`, `polygon`, `soup`, `works`, `tree`, `loose`, `mount`,
-//! `view`, `generate`, `damage`, `stored`, `header`, `outer`, `pairs`.
-//! Cases with what is due known beforehand: `trial`, `turned`, `booking`, and
-//! from files `block`, `cases`.
-//! The comparison: `compare`, `differential`, `tally`; and what shows that it
-//! can fail: `fault`, `wrong_gate`, `wrong_lengths`, `wrong_questions`,
-//! `wrong_paint`, `wrong_camera`, `wrong_booking`, `wrong_buffers`, `altered`;
-//! and the model against itself: `consistency`.
+//! The cases: `random`, `polygon`, `soup`, `works`, `hinge`, `tree`, `loose`,
+//! `mount`, `view`, `generate`, `damage`, `stored`, `header`, `outer`, `pairs`.
+//! Cases with what is due known beforehand: `trial`, `turned`, `booking`,
+//! `joints`, and from files `block`, `cases`.
+//! The comparison: `compare`, `differential`, `tally`, `beside`; and what shows
+//! that it can fail: `fault`, `wrong_gate`, `wrong_lengths`, `wrong_questions`,
+//! `wrong_paint`, `wrong_joints`, `wrong_camera`, `wrong_booking`,
+//! `wrong_buffers`, `altered`; and the model against itself: `consistency`,
+//! `steps`.
 
 pub mod altered;
 pub mod axes;
+pub mod beside;
 pub mod bill;
 pub mod block;
 pub mod booking;
@@ -26,6 +28,8 @@ pub mod fault;
 pub mod gate;
 pub mod generate;
 pub mod header;
+pub mod hinge;
+pub mod joints;
 pub mod loose;
 pub mod mount;
 pub mod outer;
@@ -36,6 +40,7 @@ pub mod ray;
 pub mod scene;
 pub mod soup;
 pub mod stations;
+pub mod steps;
 pub mod stored;
 pub mod survey;
 pub mod tally;
@@ -50,6 +55,7 @@ pub mod wrong_booking;
 pub mod wrong_buffers;
 pub mod wrong_camera;
 pub mod wrong_gate;
+pub mod wrong_joints;
 pub mod wrong_lengths;
 pub mod wrong_paint;
 pub mod wrong_questions;

@@ -23,7 +23,7 @@ use outside::differential::{case, put, Case, Tally};
 use outside::gate::Gate;
 use outside::generate::{FULL, SMALL};
 use outside::random::Random;
-use outside::trial::hold_all;
+use outside::trial::hold_library;
 
 struct Options {
     cases: u64,
@@ -77,7 +77,7 @@ fn main() {
     let mut tally = Tally::default();
     let (numbers, known) = match options.only {
         Some(k) => (k..k + 1, 0),
-        None => (0..options.cases, hold_all(|_| Linked)),
+        None => (0..options.cases, hold_library(|| Linked)),
     };
     for k in numbers {
         let made = case(options.seed, k, size);
@@ -132,11 +132,14 @@ fn report(options: &Options, tally: &Tally) -> i32 {
     for (answer, times) in &tally.answers {
         println!("{times:8} answered {answer}");
     }
-    for (shown, name) in [(&tally.level, "level"), (&tally.turned, "turned")] {
+    for (name, shown) in tally.views() {
         println!(
             "{:8} {name} views accepted: {} cells, {} of them lit",
             shown.pictures, shown.cells, shown.lit
         );
+        for (pictures, cells, way) in shown.beside.told() {
+            println!("{pictures:8} {name} views have cells {way}: {cells}");
+        }
     }
     for (times, name) in tally.pieces.told() {
         println!("{times:8} views show {name}");
@@ -147,8 +150,7 @@ fn report(options: &Options, tally: &Tally) -> i32 {
     let mut silent = vec![0];
     silent.extend(Gate::of_the_paper().numbers());
     silent.retain(|answer| !tally.answers.contains_key(answer));
-    let mut unseen = tally.pieces.told().to_vec();
-    unseen.retain(|&(times, _)| times == 0);
+    let unseen = tally.never_shown();
     let thin = tally.cases >= 500 && !(silent.is_empty() && unseen.is_empty());
     if thin {
         println!("never answered: {silent:?}, never shown: {unseen:?}");

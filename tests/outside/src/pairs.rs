@@ -3,10 +3,9 @@
 use crate::call::{Call, Lent};
 use crate::generate::{make, second, Kind, Size};
 use crate::random::Random;
-use crate::ray::{closest, direction};
+use crate::ray::{closest, Sight};
 use crate::scene::{Patch, Scene};
-use crate::survey::{counts, holders, picture};
-use crate::vector::wide;
+use crate::survey::{counts, holders, lines, picture};
 
 #[derive(Clone, Debug)]
 pub struct Pair {
@@ -20,7 +19,8 @@ pub struct Pair {
 pub fn make_pair(rng: &mut Random, kind: Kind, size: Size) -> Pair {
     let made = make(rng, kind, size);
     let patches = made.loose.patches();
-    let shown = counts(&picture(&patches, &holders(&patches, &made.view)));
+    let holders = holders(Sight::Beside, &patches, &made.view);
+    let shown = counts(&picture(&patches, &holders));
     let chosen = choose(rng, &patches, &shown);
     let other = second(rng, &made.loose, &chosen);
     Pair {
@@ -55,8 +55,6 @@ fn choose(rng: &mut Random, patches: &[Patch], shown: &[u32]) -> Vec<u16> {
 
 /// The four parts of demand 3, on the results of both calls.
 pub fn parts(pair: &Pair, first: &Lent, second: &Lent) -> [bool; 4] {
-    let view = &pair.first.view;
-    let (width, eye) = (usize::from(view.width), wide(view.eye));
     let patches = Scene::read(&pair.first.scene).patches();
     let is_chosen = |panel: u16| pair.chosen.contains(&panel);
     let mut kept = patches.clone();
@@ -69,18 +67,17 @@ pub fn parts(pair: &Pair, first: &Lent, second: &Lent) -> [bool; 4] {
     let none_counted = chosen.all(|&panel| first.counts[usize::from(panel)] == 0);
     let mut held = [equal == none_counted, true, true, true];
 
-    for at in 0..view.cells() {
-        let along = direction(view, at % width, at / width);
+    for (at, line) in lines(Sight::Beside, &pair.first.view).iter().enumerate() {
         let (one, two) = (first.picture[at], second.picture[at]);
         // "each cell of the first holds its closest panel [...], or 0".
-        held[1] &= one == closest(&patches, eye, along);
+        held[1] &= one == closest(&patches, line);
         // "the pictures differ in exactly the cells where the first shows a
         // chosen panel".
         held[2] &= (one != two) == is_chosen(one);
         // "in each of these the second shows the closest of the panels kept,
         // or 0".
         if is_chosen(one) {
-            held[3] &= two == closest(&kept, eye, along);
+            held[3] &= two == closest(&kept, line);
         }
     }
     held

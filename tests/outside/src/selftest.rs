@@ -20,8 +20,9 @@ use outside::fault::Faulty;
 use outside::generate::{FULL, SMALL};
 use outside::random::Random;
 use outside::stations::stations;
-use outside::survey::Due;
-use outside::trial::hold_all;
+use outside::steps::steps_agree;
+use outside::survey::is_read_otherwise;
+use outside::trial::hold_model;
 
 const SEED: u64 = 20;
 
@@ -40,13 +41,13 @@ fn main() {
         println!("{} {name}", if held { "holds" } else { "FAILS" });
         failed += usize::from(!held);
     }
-    failed += hold_all(Due::of);
+    failed += hold_model();
     failed += alterations_show().unwrap_or_else(|why| {
         println!("FAILS {why}");
         1
     });
     failed += consistent(400);
-    failed += sound(300);
+    failed += sound(600);
     failed += faults(6_000);
     println!("selftest: {failed} failed");
     exit(i32::from(failed > 0));
@@ -61,18 +62,21 @@ fn alterations_show() -> Reading<usize> {
     Ok(missed + usize::from(!refused) + usize::from(seen == 0))
 }
 
-/// Rays, sums, bookings and pairs of made scenes.
+/// Rays, steps, sums, bookings and pairs of made scenes.
 fn consistent(cases: u64) -> usize {
-    let (mut scenes, mut pairs, mut back, mut failed) = (0, 0, 0, 0);
+    let (mut scenes, mut pairs, mut back, mut stepped, mut failed) = (0, 0, 0, 0, 0);
     for number in 0..cases {
         let made = case(SEED, number, SMALL);
         let mut rng = Random::new(SEED, !number);
         let held = match &made {
             Case::Scene(_, call) => {
                 scenes += 1;
-                let turned = turned_back(call);
+                let (turned, steps) = (turned_back(call), steps_agree(call));
                 back += usize::from(turned.is_some());
-                rays_agree(call) && sums_hold(call) && booked_once(call) && turned.unwrap_or(true)
+                stepped += usize::from(steps.is_some() && is_read_otherwise(call));
+                let others = [turned, steps].map(|held| held.unwrap_or(true));
+                let own = rays_agree(call) && sums_hold(call) && booked_once(call);
+                own && others == [true; 2]
             }
             Case::Two(_, pair) => {
                 pairs += 1;
@@ -85,8 +89,11 @@ fn consistent(cases: u64) -> usize {
             failed += 1;
         }
     }
-    println!("consistent: {scenes} scenes, {back} turned back, {pairs} pairs, {failed} failed");
-    failed + usize::from(scenes == 0 || back == 0 || pairs == 0)
+    println!(
+        "consistent: {scenes} scenes, {back} turned back, {stepped} by steps, {pairs} pairs, \
+         {failed} failed"
+    );
+    failed + usize::from([scenes, back, stepped, pairs].contains(&0))
 }
 
 /// No fault, no difference. Few cases: the comparison with the library itself runs on thousands.
@@ -100,7 +107,12 @@ fn sound(cases: u64) -> usize {
     println!("no fault: {cases} cases, {} differences", tally.failed);
     println!("answers: {:?}", tally.answers);
     println!("pieces: {:?}", tally.pieces.told());
-    tally.failed as usize
+    for (name, shown) in tally.views() {
+        println!("{name} views: {:?}", shown.beside.told());
+    }
+    let unseen = tally.never_shown();
+    println!("never shown: {unseen:?}");
+    tally.failed as usize + unseen.len()
 }
 
 /// Every fault is found, and by the difference it must show.

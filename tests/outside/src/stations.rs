@@ -6,7 +6,7 @@ use crate::call::{Call, View};
 use crate::loose::{Loose, Site};
 use crate::scene::{Patch, Scene, NONE};
 use crate::survey::{survey, used_pairs, Done};
-use crate::vector::Point;
+use crate::vector::{side, Point};
 
 /// "Eye and window as above unless said."
 pub const VIEW: View = View {
@@ -55,9 +55,25 @@ pub fn scene_of(sites: Vec<Site>) -> Scene {
     Loose { sites }.pack()
 }
 
+pub fn in_one_node(patches: Vec<Patch>) -> Scene {
+    scene_of(vec![site(patches)])
+}
+
+/// The first node's patches, and the second's on their side of its plane.
+pub fn hung(first: Vec<Patch>, second: Vec<Patch>) -> Scene {
+    let mut sites = vec![site(first), site(second)];
+    let corners = sites[1].patches.iter().flat_map(|p| &p.corners);
+    let is_positive = corners.into_iter().any(|&p| side(&sites[0].points, p) > 0);
+    match is_positive {
+        true => sites[0].positive = 1,
+        false => sites[0].negative = 1,
+    }
+    scene_of(sites)
+}
+
 /// S: "one node and patch, panel 5"; the half-width 50 unless said.
 pub fn s(half: i16) -> Scene {
-    scene_of(vec![site(vec![square(5, half, 100)])])
+    in_one_node(vec![square(5, half, 100)])
 }
 
 /// T: "S behind panel 7 at forward 50, half-width 20"; less one panel, or less
@@ -83,13 +99,14 @@ fn done(scene: &Scene, view: View) -> Done {
     seen(scene, view).expect("an accepted scene")
 }
 
-fn with_eye(eye: Point) -> View {
+pub fn with_eye(eye: Point) -> View {
     View { eye, ..VIEW }
 }
 
 /// Each station with what the model says of it.
 pub fn stations() -> Vec<(&'static str, bool)> {
     let mut list = starred();
+    list.extend(half_width_25());
     list.extend(unstarred());
     list
 }
@@ -98,7 +115,7 @@ fn starred() -> Vec<(&'static str, bool)> {
     let (of_s, of_t) = (done(&s(50), VIEW), done(&t(0), VIEW));
     let rows = [[0; 4], [0, 5, 5, 0], [0, 5, 5, 0], [0; 4]].concat();
     let blank = vec![0; 16];
-    let both = scene_of(vec![site(vec![square(3, 50, 100), square(5, 50, 100)])]);
+    let both = in_one_node(vec![square(3, 50, 100), square(5, 50, 100)]);
     let narrow = View {
         width: 1,
         height: 1,
@@ -113,7 +130,6 @@ fn starred() -> Vec<(&'static str, bool)> {
         ),
         ("* S: row 0 unlit", *used_pairs(&of_s.unlit, 0) == [0, 4]),
         ("S: no row 4", used_pairs(&of_s.unlit, 4).is_empty()),
-        ("* half-width 25", done(&s(25), VIEW).picture == blank),
         ("* half-width 26", done(&s(26), VIEW).counts[5] == 4),
         (
             "* eye on the plane",
@@ -135,6 +151,26 @@ fn starred() -> Vec<(&'static str, bool)> {
         }),
         ("* no nodes", done(&Scene::default(), VIEW).picture == blank),
         ("* S, 1 by 1", done(&s(50), narrow).picture == [5]),
+    ]
+}
+
+/// "In S with half-width 25 the cells now covered are to be worked out anew and
+/// stored."
+fn half_width_25() -> Vec<(&'static str, bool)> {
+    let Done {
+        picture,
+        counts,
+        unlit,
+        ..
+    } = done(&s(25), VIEW);
+    let rows = [[0; 4], [0, 5, 0, 0], [0; 4], [0; 4]].concat();
+    vec![
+        ("* half-width 25: rows", picture == rows),
+        (
+            "* half-width 25: row 1 unlit",
+            *used_pairs(&unlit, 1) == [0, 1, 2, 2],
+        ),
+        ("* half-width 25: counts", counts[5] == 1 && counts[0] == 15),
     ]
 }
 
@@ -169,13 +205,13 @@ fn leaning(top: Point) -> Scene {
 }
 
 fn unstarred() -> Vec<(&'static str, bool)> {
-    let at = |forward: i16| scene_of(vec![site(vec![square(5, 50, forward)])]);
+    let at = |forward: i16| in_one_node(vec![square(5, 50, forward)]);
     let wide = |width: u16| View { width, ..VIEW };
     let mut own = s(50);
     own.nodes[0].negative = 0;
     let mut midway = square(5, 50, 100);
     midway.corners.insert(1, [0, 100, -50]);
-    let midway = scene_of(vec![site(vec![square(4, 50, 100), midway])]);
+    let midway = in_one_node(vec![square(4, 50, 100), midway]);
     let text = "view 4 4 4\n5 4\nnothing 12\ntotal 16\n";
     vec![
         ("coordinate 10,000", seen(&at(10_000), VIEW).is_ok()),

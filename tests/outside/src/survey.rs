@@ -2,9 +2,8 @@
 
 use crate::call::{Call, Lent, Library, View, COUNTS, ROW};
 use crate::gate::Gate;
-use crate::ray::{direction, holder, panel_of, Holder};
+use crate::ray::{holder, panel_of, Holder, Line, Sight};
 use crate::scene::{Patch, Scene};
-use crate::vector::wide;
 
 #[derive(Clone, Debug, PartialEq, Eq)]
 pub struct Done {
@@ -16,17 +15,23 @@ pub struct Done {
 
 /// "The result is "done" or this number, no third form."
 pub fn survey(call: &Call) -> Result<Done, u32> {
+    survey_by(Sight::Beside, call)
+}
+
+/// The same with the sight lines read in one way or the other.
+pub fn survey_by(sight: Sight, call: &Call) -> Result<Done, u32> {
     match Gate::of_the_paper().judge(call) {
         0 => {
-            let patches = Scene::read(&call.scene).patches();
-            Ok(Done::of(
-                &holders(&patches, &call.view),
-                &patches,
-                &call.view,
-            ))
+            let (patches, view) = (Scene::read(&call.scene).patches(), &call.view);
+            Ok(Done::of(&holders(sight, &patches, view), &patches, view))
         }
         number => Err(number),
     }
+}
+
+/// Does any number of a call's result turn on how its sight lines are read?
+pub fn is_read_otherwise(call: &Call) -> bool {
+    survey_by(Sight::Plain, call) != survey(call)
 }
 
 /// What is due for a call: its result, and the counter after it.
@@ -38,7 +43,11 @@ pub struct Due {
 
 impl Due {
     pub fn of(call: &Call) -> Due {
-        let result = survey(call);
+        Due::by(Sight::Beside, call)
+    }
+
+    pub fn by(sight: Sight, call: &Call) -> Due {
+        let result = survey_by(sight, call);
         // "It rises by one with each accepted picture."
         let counter = call.counter + u32::from(result.is_ok());
         Due { result, counter }
@@ -65,11 +74,16 @@ impl Library for Due {
 }
 
 /// Who has each cell, row after row from the top, cell (i, j) at j × width + i.
-pub fn holders(patches: &[Patch], view: &View) -> Vec<Holder> {
-    let (width, eye) = (usize::from(view.width), wide(view.eye));
-    (0..view.cells())
-        .map(|at| holder(patches, eye, direction(view, at % width, at / width)))
-        .collect()
+pub fn holders(sight: Sight, patches: &[Patch], view: &View) -> Vec<Holder> {
+    let lines = lines(sight, view).into_iter();
+    lines.map(|line| holder(patches, &line)).collect()
+}
+
+/// The cells' lines in that order.
+pub fn lines(sight: Sight, view: &View) -> Vec<Line> {
+    let width = usize::from(view.width);
+    let line = |at: usize| Line::of(sight, view, at % width, at / width);
+    (0..view.cells()).map(line).collect()
 }
 
 /// The panels of the patches that have the cells.

@@ -3,6 +3,7 @@
 use std::collections::{BTreeMap, BTreeSet};
 
 use crate::axes::LEVEL;
+use crate::beside::Beside;
 use crate::call::{Call, Lent};
 use crate::compare::{Difference, Outcome};
 use crate::scene::Scene;
@@ -26,6 +27,7 @@ pub struct Shown {
     pub pictures: u64,
     pub cells: u64,
     pub lit: u64,
+    pub beside: Beside,
 }
 
 /// In how many accepted pictures the patch table says more than the counts.
@@ -53,8 +55,28 @@ impl Tally {
             shown.pictures += 1;
             shown.cells += call.view.cells() as u64;
             shown.lit += cells.filter(|&&panel| panel != 0).count() as u64;
-            self.pieces.add(&Scene::read(&call.scene), &outcome.lent);
+            let scene = Scene::read(&call.scene);
+            shown.beside.add(&scene.patches(), &call.view);
+            self.pieces.add(&scene, &outcome.lent);
         }
+    }
+}
+
+impl Tally {
+    /// What the pictures of a run should show, and these never did.
+    pub fn never_shown(&self) -> Vec<String> {
+        let pieces = self.pieces.told().into_iter();
+        let pieces = pieces.map(|(times, name)| (times, name.to_string()));
+        let beside = self.views().into_iter().flat_map(|(view, shown)| {
+            let ways = shown.beside.told().into_iter();
+            ways.map(move |(times, _, name)| (times, format!("{view}, cells {name}")))
+        });
+        let never = pieces.chain(beside).filter(|(times, _)| *times == 0);
+        never.map(|(_, name)| name).collect()
+    }
+
+    pub fn views(&self) -> [(&'static str, &Shown); 2] {
+        [("level", &self.level), ("turned", &self.turned)]
     }
 }
 

@@ -1,12 +1,16 @@
 //! Calls with what is due for them, known beforehand: the turned stations,
-//! those booked patch by patch, and the stored cases.
+//! those booked patch by patch, those of joints, and the stored cases.
 
+use crate::block::Reading;
 use crate::booking::booking;
-use crate::call::{Call, Library};
+use crate::call::{Call, Library, View};
 use crate::cases::stored;
 use crate::compare::check_due;
+use crate::joints::joints;
 use crate::random::Random;
-use crate::survey::{Done, Due};
+use crate::ray::Sight;
+use crate::scene::Scene;
+use crate::survey::{counts, is_read_otherwise, Done, Due};
 use crate::turned::turned;
 
 pub struct Trial {
@@ -34,6 +38,15 @@ pub fn accepted(name: &str, call: Call, rows: &str, cells: &[u32]) -> Trial {
     }
 }
 
+/// The station with its picture, where no panel stands on two patches: its count
+/// is that of its patch.
+pub fn shows(name: &str, scene: &Scene, view: View, rows: &str) -> Trial {
+    let counts = counts(&digits(rows));
+    let records = scene.records.iter();
+    let cells: Vec<u32> = records.map(|r| counts[usize::from(r.panel)]).collect();
+    accepted(name, Call::new(scene.write(), view), rows, &cells)
+}
+
 pub fn refused(name: &str, call: Call, number: u32) -> Trial {
     Trial {
         name: name.to_string(),
@@ -48,19 +61,74 @@ pub fn refused(name: &str, call: Call, number: u32) -> Trial {
 /// As many differences as are shown one by one.
 const SHOWN: usize = 20;
 
-/// All of them; gives how many fail.
-pub fn hold_all<L: Library>(library: impl Fn(&Call) -> L) -> usize {
-    let mut failed = hold("the turned stations", &turned(), &library);
-    failed += hold("the booked stations", &booking(), &library);
-    let files = stored().unwrap_or_else(|why| {
-        println!("FAILS {why}");
-        failed += 1;
-        Vec::new()
-    });
-    for (name, trials) in files {
-        failed += hold(name, &trials, &library);
+/// Trials, and how the numbers due in them read a sight line.
+pub struct Suite {
+    pub name: &'static str,
+    pub sight: Sight,
+    pub trials: Vec<Trial>,
+}
+
+fn suites() -> Reading<Vec<Suite>> {
+    let told = |name, sight, trials| Suite {
+        name,
+        sight,
+        trials,
+    };
+    let mut all = vec![
+        told("the turned stations", Sight::Beside, turned()),
+        told("the booked stations", Sight::Beside, booking()),
+        told("the joint stations", Sight::Beside, joints(Sight::Beside)),
+        told("the joints before F-3", Sight::Plain, joints(Sight::Plain)),
+    ];
+    all.extend(stored()?);
+    Ok(all)
+}
+
+/// All of them on the model, which reads sight lines as each of them does;
+/// gives how many fail.
+pub fn hold_model() -> usize {
+    each(|suite| {
+        let model = |call: &Call| Due::by(suite.sight, call);
+        hold(suite.name, &suite.trials, model)
+    })
+}
+
+/// All of them on a library, which reads sight lines as F-3 does; gives how
+/// many fail.
+pub fn hold_library<L: Library>(library: impl Fn() -> L) -> usize {
+    each(|mut suite| {
+        let thin = brought_up(&mut suite);
+        hold(suite.name, &suite.trials, |_: &Call| library()) + usize::from(thin)
+    })
+}
+
+fn each(held: impl Fn(Suite) -> usize) -> usize {
+    match suites() {
+        Ok(all) => all.into_iter().map(held).sum(),
+        Err(why) => {
+            println!("FAILS {why}");
+            1
+        }
     }
-    failed
+}
+
+/// What is due since F-3 of trials from before: what the trial says where no
+/// number is read otherwise, and what the model makes of the call elsewhere.
+/// Is there none of one sort? Then the trials say nothing of F-3.
+fn brought_up(suite: &mut Suite) -> bool {
+    if suite.sight == Sight::Beside {
+        return false;
+    }
+    let mut changed = 0;
+    for trial in &mut suite.trials {
+        if is_read_otherwise(&trial.call) {
+            changed += 1;
+            trial.due = Due::of(&trial.call);
+        }
+    }
+    let all = suite.trials.len();
+    println!("cases: F-3 changes {changed} of {all} of {}", suite.name);
+    changed == 0 || changed == all
 }
 
 /// Puts each trial to the library that is to answer its call, and says how

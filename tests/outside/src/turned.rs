@@ -5,14 +5,13 @@ use crate::call::{Call, View};
 use crate::mount::with_part;
 use crate::scene::{Patch, Scene};
 use crate::stations::{piece, scene_of, site, t, window, VIEW};
-use crate::survey::counts;
-use crate::trial::{accepted, digits, Trial};
+use crate::trial::{self, Trial};
 use crate::vector::Point;
 
 /// Quarter turns and half turns of the level view, named after what they do.
 const TO_THE_RIGHT: Axes = axes([0, -1, 0], [1, 0, 0], [0, 0, 1]);
-const ROLLED: Axes = axes([0, 0, -1], [0, 1, 0], [1, 0, 0]);
-const UPSIDE_DOWN: Axes = axes([-1, 0, 0], [0, 1, 0], [0, 0, -1]);
+pub const ROLLED: Axes = axes([0, 0, -1], [0, 1, 0], [1, 0, 0]);
+pub const UPSIDE_DOWN: Axes = axes([-1, 0, 0], [0, 1, 0], [0, 0, -1]);
 const BACKWARD: Axes = axes([-1, 0, 0], [0, -1, 0], [0, 0, 1]);
 const UPWARD: Axes = axes([1, 0, 0], [0, 0, 1], [0, -1, 0]);
 
@@ -26,7 +25,7 @@ fn upright(panel: u16, low: [i16; 2], high: [i16; 2]) -> Patch {
 }
 
 /// Panels 1 and 2 above, 3 and 4 below.
-fn quarters() -> Scene {
+pub fn quarters() -> Scene {
     scene_of(vec![site(vec![
         upright(1, [-100, 0], [0, 100]),
         upright(2, [0, 0], [100, 100]),
@@ -62,14 +61,8 @@ fn roof() -> Scene {
     scene_of(vec![site(vec![strip(6, 0, 50), strip(8, -50, 0)])])
 }
 
-/// The station with its picture. No panel stands on two patches here, so its
-/// count is that of its patch.
 fn shows(name: &str, scene: &Scene, view: View, axes: Axes, rows: &str) -> Trial {
-    let view = View { axes, ..view };
-    let counts = counts(&digits(rows));
-    let records = scene.records.iter();
-    let cells: Vec<u32> = records.map(|r| counts[usize::from(r.panel)]).collect();
-    accepted(name, Call::new(scene.write(), view), rows, &cells)
+    trial::shows(name, scene, View { axes, ..view }, rows)
 }
 
 pub fn turned() -> Vec<Trial> {
@@ -148,7 +141,7 @@ fn blank(name: &str, axes: Axes) -> Trial {
 fn refused(name: &str, axes: Axes, number: u32, change: impl Fn(&mut Call)) -> Trial {
     let mut call = blank(name, axes).call;
     change(&mut call);
-    crate::trial::refused(name, call, number)
+    trial::refused(name, call, number)
 }
 
 /// Each of the nine parts at its ends, and just beyond.

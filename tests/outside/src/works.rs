@@ -56,7 +56,8 @@ pub fn comb(rng: &mut Random, work: usize) -> (Vec<Corners>, View) {
     let depths: Vec<i64> = (0..1 + rng.below(3))
         .map(|_| rng.between(1, deepest))
         .collect();
-    let (parity, dense, whole) = (rng.below(2), rng.once_in(2), rng.once_in(2));
+    let (parity, dense) = (rng.below(2), rng.once_in(2));
+    let habit = [rng.once_in(2), rng.once_in(2)];
     let mut teeth = Vec::new();
     for i in 0..usize::from(view.width) {
         let lit = match dense {
@@ -65,14 +66,14 @@ pub fn comb(rng: &mut Random, work: usize) -> (Vec<Corners>, View) {
         };
         if lit {
             let depth = rng.pick(&depths);
-            teeth.extend(tooth(rng, &view, i, depth, whole));
+            teeth.extend(tooth(rng, &view, i, depth, habit));
         }
     }
     (teeth, view)
 }
 
 /// A camera whose directions stay small numbers.
-fn plain(rng: &mut Random) -> Axes {
+pub fn plain(rng: &mut Random) -> Axes {
     match rng.below(4) {
         0 | 1 => LEVEL,
         2 => mount::quarter(rng),
@@ -87,22 +88,31 @@ fn spread(axes: &Axes) -> i64 {
 }
 
 /// The tooth of column i, so many times the direction away. It stops short of
-/// the neighbour's sight line or ends exactly on it. One beyond the range, or
-/// of no height, falls out.
-fn tooth(rng: &mut Random, view: &View, i: usize, depth: i64, whole: bool) -> Option<Corners> {
+/// the neighbours' sight lines or ends exactly on them; on the left one's only
+/// where it may, as it lights that cell too. One beyond the range, or of no
+/// height, falls out.
+fn tooth(
+    rng: &mut Random,
+    view: &View,
+    i: usize,
+    depth: i64,
+    [whole, single]: [bool; 2],
+) -> Option<Corners> {
     let height = i64::from(view.height);
-    let reach = rng.pick(&[1, depth, 2 * depth - 1, 2 * depth, 2 * depth]);
+    let ends = [1, depth, 2 * depth - 1, 2 * depth, 2 * depth];
+    let left = rng.pick(if single { &ends[..3] } else { &ends });
+    let right = rng.pick(&ends);
     let up = match whole {
         true => depth * height,
         false => depth * rng.between(0, height) + rng.between(0, 1),
     };
     let middle = depth * (2 * i as i64 + 1 - i64::from(view.width));
-    let corner = |(side, above): (i64, i64)| {
-        let told = [middle + side * reach, depth * i64::from(view.lens), above];
+    let corner = |(aside, above): (i64, i64)| {
+        let told = [middle + aside, depth * i64::from(view.lens), above];
         let from = view.axes.sum(told.map(i128::from)).map(|n| n as i64);
         point([0, 1, 2].map(|k| i64::from(view.eye[k]) + from[k]))
     };
-    let square = [(-1, -up), (1, -up), (1, up), (-1, up)];
+    let square = [(-left, -up), (right, -up), (right, up), (-left, up)];
     let corners: Option<Corners> = square.into_iter().map(corner).collect();
     corners.filter(|_| up > 0)
 }
@@ -145,7 +155,9 @@ fn layer(rng: &mut Random, view: &View) -> Basis {
     let mut across = |cells: u16| {
         let half = depth * i64::from(cells);
         let step = rng.pick(&[half / 4 + 1, half / 2 + 1, half + 1]);
-        [rng.between(-half - 1, -half / 2), step]
+        // Often from the window's end on, so that rows are lit from end to end.
+        let start = rng.between(-half - 1, -half / 2);
+        [rng.pick(&[start, -half - 1]), step]
     };
     let ([left, right], [low, up]) = (across(view.width), across(view.height));
     let mut lean = || rng.pick(&[0, 0, 0, 0, 1, -1]);

@@ -2,8 +2,9 @@
 
 use crate::call::View;
 use crate::compare::Difference;
-use crate::ray::{distance, met, Holder};
+use crate::ray::{against, met, Holder, Sight};
 use crate::scene::{Patch, Scene};
+use crate::survey::{booked, holders};
 use crate::walk::walk;
 use crate::wrong_paint::Cell;
 
@@ -39,6 +40,10 @@ pub const BOOKS: &[(&str, &[Difference], Book)] = &[
     ("cells met, hidden or not", SUMS, |p| {
         let all = |cell: Cell| (0..p.patches.len()).filter(move |&m| p.is_met(cell, m));
         each_cell(p, |cell, _| all(cell).collect())
+    }),
+    ("by the lines themselves, joints open", SUMS, |p| {
+        let holders = holders(Sight::Plain, p.patches, &p.view);
+        booked(&holders, p.patches.len())
     }),
     ("by panel: all on its first patch", TABLE, |p| {
         let is_own = |k: usize| move |other: &Patch| other.panel == p.patches[k].panel;
@@ -104,12 +109,12 @@ pub const BOOKS: &[(&str, &[Difference], Book)] = &[
 
 impl Painted<'_> {
     fn is_met(&self, cell: Cell, k: usize) -> bool {
-        met(&self.patches[k], cell.eye(), cell.along())
+        met(&self.patches[k], &cell.line())
     }
 
     fn is_level(&self, cell: Cell, k: usize, m: usize) -> bool {
-        let [one, other] = [k, m].map(|n| distance(&self.patches[n], cell.eye(), cell.along()));
-        one.against(&other).is_eq()
+        let pair = [k, m].map(|n| &self.patches[n]);
+        against(pair, &cell.line()).is_eq()
     }
 
     /// The patches of the panel of patch k that the cell's line meets.

@@ -3,7 +3,7 @@
 use crate::axes::{Axes, LEVEL};
 use crate::call::View;
 use crate::ray::{direction, holder, Holder};
-use crate::scene::{Patch, Scene};
+use crate::scene::Scene;
 use crate::vector::{cross, dot, minus, wide, Point, Vector};
 use crate::wrong_paint::{Cell, Look};
 
@@ -66,15 +66,17 @@ pub const CAMERAS: &[(&str, Look)] = &[
         Cell { view, ..c }.holder(&s.patches())
     }),
     ("half a column off", |s, c| {
-        seen(s, c, minus(c.along(), wide(c.view.axes.right)))
+        seen(s, c, |view, along| minus(along, wide(view.axes.right)))
     }),
     ("half a row off", |s, c| {
-        seen(s, c, minus(c.along(), wide(c.view.axes.up)))
+        seen(s, c, |view, along| minus(along, wide(view.axes.up)))
     }),
     ("directions in 16 bits", |s, c| {
-        seen(s, c, c.along().map(|n| i128::from(n as i16)))
+        seen(s, c, |_, along| along.map(|n| i128::from(n as i16)))
     }),
-    ("rows that a level camera would need", level_rows),
+    ("rows that a level camera would need", |s, c| {
+        in_rows(s, c, LEVEL, touches)
+    }),
 ];
 
 /// What the cell shows under other vectors.
@@ -85,28 +87,29 @@ fn turned(scene: &Scene, cell: Cell, turn: fn(Axes) -> Axes) -> Holder {
 }
 
 /// What the cell shows along another direction.
-fn seen(scene: &Scene, cell: Cell, along: Vector) -> Holder {
-    holder(&scene.patches(), cell.eye(), along)
+fn seen(scene: &Scene, cell: Cell, other: fn(&View, Vector) -> Vector) -> Holder {
+    let mut line = cell.line();
+    line.along[0] = other(&cell.view, line.along[0]);
+    holder(&scene.patches(), &line)
 }
 
 fn part_of_each(axes: Axes, k: usize) -> Point {
     axes.vectors().map(|v| v[k])
 }
 
-/// A patch is tried only in the rows whose plane has corners of it on both
-/// sides; but the planes are those of a level camera.
-fn level_rows(scene: &Scene, cell: Cell) -> Holder {
-    let level = View {
-        axes: LEVEL,
-        ..cell.view
-    };
-    let plane = cross(wide(LEVEL.right), direction(&level, 0, cell.j));
-    let reaches = |patch: &Patch| {
-        let corners = patch.corners.iter();
-        let sides: Vec<i128> = corners
-            .map(|&p| dot(plane, minus(wide(p), cell.eye())))
-            .collect();
-        sides.iter().any(|&side| side > 0) && sides.iter().any(|&side| side < 0)
-    };
-    cell.holder_among(scene, |_, patch| reaches(patch))
+/// A patch is tried only in the rows that it reaches, as its corners' sides tell
+/// of the row's plane; the planes are those of a camera with these vectors.
+pub fn in_rows(scene: &Scene, cell: Cell, axes: Axes, reaches: fn(&[i128]) -> bool) -> Holder {
+    let other = View { axes, ..cell.view };
+    let plane = cross(wide(axes.right), direction(&other, 0, cell.j));
+    let side = |&p: &Point| dot(plane, minus(wide(p), wide(cell.view.eye)));
+    cell.holder_among(scene, |_, patch| {
+        let sides: Vec<i128> = patch.corners.iter().map(side).collect();
+        reaches(&sides)
+    })
+}
+
+/// Not all corners on one side of the row's plane, those on it counted to both.
+fn touches(sides: &[i128]) -> bool {
+    sides.iter().any(|&side| side >= 0) && sides.iter().any(|&side| side <= 0)
 }

@@ -1,11 +1,12 @@
 //! Painters that are right but for one thing.
 
-use crate::axes::LEVEL;
+use std::cmp::Ordering;
+
 use crate::call::View;
 use crate::gate::patch_normal;
-use crate::ray::{direction, edge_products, eye_to_corner, holder, met, Holder};
+use crate::ray::{against, edges, eye_to_corner, holder, met, Holder, Line, Sight};
 use crate::scene::{Patch, Scene};
-use crate::vector::{dot, wide, Vector};
+use crate::vector::dot;
 
 /// A cell of a view, from which one ray looks.
 #[derive(Clone, Copy)]
@@ -16,22 +17,18 @@ pub struct Cell {
 }
 
 impl Cell {
-    pub fn eye(&self) -> Vector {
-        wide(self.view.eye)
-    }
-
-    pub fn along(&self) -> Vector {
-        direction(&self.view, self.i, self.j)
+    pub fn line(&self) -> Line {
+        Line::of(Sight::Beside, &self.view, self.i, self.j)
     }
 
     /// Is the cell left of the window's centre?
-    fn is_left(&self) -> bool {
+    pub fn is_left(&self) -> bool {
         2 * self.i + 1 < usize::from(self.view.width)
     }
 
     /// Which of these patches has the cell in the model.
     pub fn holder(&self, patches: &[Patch]) -> Holder {
-        holder(patches, self.eye(), self.along())
+        holder(patches, &self.line())
     }
 
     /// Which of the scene's patches that pass a test; the others keep their
@@ -49,14 +46,6 @@ impl Cell {
 pub type Look = fn(&Scene, Cell) -> Holder;
 
 pub const LOOKS: &[(&str, Look)] = &[
-    ("edges count as inside", |s, c| by(s, c, touched, exact)),
-    ("edges count as inside, left of the centre", |s, c| {
-        by(s, c, if c.is_left() { touched } else { met }, exact)
-    }),
-    ("edges count as inside, in a turned view", |s, c| {
-        let level = c.view.axes == LEVEL;
-        by(s, c, if level { met } else { touched }, exact)
-    }),
     ("sign alone: mirrored and level patches", |s, c| {
         by(s, c, one_sign, exact)
     }),
@@ -65,12 +54,12 @@ pub const LOOKS: &[(&str, Look)] = &[
         by(s, c, all_but_one, exact)
     }),
     ("distance in whole numbers", |s, c| {
-        by(s, c, met, |a, b| (a.0 / a.1 - b.0 / b.1).signum())
+        by(s, c, met, |a, b| (a.0 / a.1).cmp(&(b.0 / b.1)))
     }),
     ("distance compared in 64 bits", |s, c| {
         by(s, c, met, |a, b| {
             let [one, two] = [a.0 * b.1, b.0 * a.1].map(|n| n as i64);
-            i128::from(one > two) - i128::from(one < two)
+            one.cmp(&two)
         })
     }),
     ("edges in 32 bits", |s, c| by(s, c, met_in_32_bits, exact)),
@@ -81,8 +70,8 @@ pub const LOOKS: &[(&str, Look)] = &[
         c.holder(&all)
     }),
     ("first stored is shown", |s, c| {
-        let all = s.patches();
-        all.iter().position(|p| met(p, c.eye(), c.along()))
+        let (all, line) = (s.patches(), c.line());
+        all.iter().position(|p| met(p, &line))
     }),
     ("root's patches only", |s, c| {
         c.holder_among(s, |k, _| s.run_of(0).contains(&k))
@@ -99,66 +88,65 @@ pub const LOOKS: &[(&str, Look)] = &[
     ("blank", |_, _| None),
 ];
 
+/// A distance: two numbers of one sign, without it.
 type Over = (i128, i128);
-type Meets = fn(&Patch, Vector, Vector) -> bool;
+type Meets = fn(&Patch, &Line) -> bool;
 
-/// The closest patch with another rule of meeting or of distance.
-fn by(scene: &Scene, cell: Cell, meets: Meets, against: fn(Over, Over) -> i128) -> Holder {
-    let (eye, along) = (cell.eye(), cell.along());
-    let mut best: Option<(Over, u16, usize)> = None;
-    for (k, patch) in scene.patches().iter().enumerate() {
-        let over = eye_to_corner(patch, eye).abs();
-        let under = dot(along, patch_normal(patch)).abs();
-        if under == 0 || !meets(patch, eye, along) {
-            continue;
-        }
-        let own = ((over, under), patch.panel, k);
-        best = match best {
-            Some(least) => match against(own.0, least.0) {
-                0 if own.1 < least.1 => Some(own),
-                -1 => Some(own),
-                _ => best,
-            },
-            None => Some(own),
+fn over(patch: &Patch, line: &Line) -> Over {
+    let under = dot(line.along[0], patch_normal(patch));
+    (eye_to_corner(patch, line.eye).abs(), under.abs())
+}
+
+/// The closest patch with another rule of meeting or of distance. Patches that
+/// are level on the line itself are told apart beside it, as they should be.
+pub fn by(scene: &Scene, cell: Cell, meets: Meets, rule: fn(Over, Over) -> Ordering) -> Holder {
+    let (patches, line) = (scene.patches(), cell.line());
+    let is_there = |p: &Patch| over(p, &line).1 > 0 && meets(p, &line);
+    let there = (0..patches.len()).filter(|&k| is_there(&patches[k]));
+    there.min_by(|&k, &m| {
+        let pair = [&patches[k], &patches[m]];
+        let [a, b] = pair.map(|patch| over(patch, &line));
+        let order = match exact(a, b) {
+            Ordering::Equal => against(pair, &line),
+            _ => rule(a, b),
         };
-    }
-    best.map(|(_, _, k)| k)
+        order.then((pair[0].panel, k).cmp(&(pair[1].panel, m)))
+    })
 }
 
-fn exact(a: Over, b: Over) -> i128 {
-    (a.0 * b.1 - b.0 * a.1).signum()
+pub fn exact(a: Over, b: Over) -> Ordering {
+    (a.0 * b.1).cmp(&(b.0 * a.1))
 }
 
-fn single(a: Over, b: Over) -> i128 {
-    let quotient = |f: Over| f.0 as f32 / f.1 as f32;
-    (quotient(a) > quotient(b)) as i128 - (quotient(a) < quotient(b)) as i128
+fn single(a: Over, b: Over) -> Ordering {
+    let [one, two] = [a, b].map(|f| f.0 as f32 / f.1 as f32);
+    one.total_cmp(&two)
 }
 
-fn touched(patch: &Patch, eye: Vector, along: Vector) -> bool {
-    let sign = eye_to_corner(patch, eye).signum();
-    sign != 0 && edge_products(patch, eye, along).all(|p| p.signum() * sign >= 0)
+fn met_in_32_bits(patch: &Patch, line: &Line) -> bool {
+    let sign = eye_to_corner(patch, line.eye).signum();
+    sign != 0
+        && edges(patch, line.eye).all(|edge| {
+            let short = line.along.map(|part| dot(part, edge) as i32);
+            let first = short.into_iter().find(|&n| n != 0);
+            first.map_or(0, |n| i128::from(n.signum())) == sign
+        })
 }
 
-fn met_in_32_bits(patch: &Patch, eye: Vector, along: Vector) -> bool {
-    let sign = eye_to_corner(patch, eye).signum();
-    let mut short = edge_products(patch, eye, along).map(|p| i128::from(p as i32));
-    sign != 0 && short.all(|p| p.signum() == sign)
-}
-
-fn one_sign(patch: &Patch, eye: Vector, along: Vector) -> bool {
-    let signs: Vec<i128> = edge_products(patch, eye, along).map(i128::signum).collect();
+fn one_sign(patch: &Patch, line: &Line) -> bool {
+    let signs: Vec<i128> = edges(patch, line.eye).map(|e| line.sign(e)).collect();
     signs[0] != 0 && signs.iter().all(|&sign| sign == signs[0])
 }
 
-fn faced(patch: &Patch, eye: Vector, along: Vector) -> bool {
-    eye_to_corner(patch, eye) < 0 && met(patch, eye, along)
+fn faced(patch: &Patch, line: &Line) -> bool {
+    eye_to_corner(patch, line.eye) < 0 && met(patch, line)
 }
 
-fn all_but_one(patch: &Patch, eye: Vector, along: Vector) -> bool {
-    let sign = eye_to_corner(patch, eye).signum();
-    let mut products = edge_products(patch, eye, along).take(patch.corners.len() - 1);
-    let forward = dot(along, patch_normal(patch)).signum() == sign;
-    sign != 0 && forward && products.all(|p| p.signum() == sign)
+fn all_but_one(patch: &Patch, line: &Line) -> bool {
+    let sign = eye_to_corner(patch, line.eye).signum();
+    let mut few = edges(patch, line.eye).take(patch.corners.len() - 1);
+    let forward = line.sign(patch_normal(patch)) == sign;
+    sign != 0 && forward && few.all(|edge| line.sign(edge) == sign)
 }
 
 /// The cells as one way of looking gives them.
