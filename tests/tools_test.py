@@ -1,5 +1,5 @@
-"""Tests of tools/: worked scenes, turned cameras, cells by patch, round trips, the gate, sample
-rings, pictures, the commands.
+"""Tests of tools/: worked scenes, turned cameras, joints, cells by patch, round trips, the gate,
+sample rings, pictures, the commands.
 
 Run by tools.sh. Each case is counted; a case that fails is named.
 """
@@ -13,6 +13,7 @@ import subprocess
 import sys
 import tempfile
 import zlib
+from fractions import Fraction
 
 sys.dont_write_bytecode = True
 ROOT = os.path.dirname(os.path.dirname(os.path.abspath(__file__)))
@@ -73,7 +74,8 @@ def middle(panel):
 
 def test_worked_scenes():
     check("square", picture(VIEW, NODE, FIVE), middle(5))
-    check("half-width 25", picture(VIEW, NODE, "patch 5 " + square(25, 100)), middle(0))
+    check("half-width 25", picture(VIEW, NODE, "patch 5 " + square(25, 100)),
+          rows_of("0000 0500 0000 0000"))
     check("half-width 26", picture(VIEW, NODE, "patch 5 " + square(26, 100)), middle(5))
     check("eye in the plane", picture("view 0,100,0 4 4 4", NODE, FIVE), middle(0))
     check("eye beyond", picture("view 0,200,0 4 4 4", NODE, FIVE), middle(0))
@@ -224,12 +226,168 @@ def test_moved_scenes():
             check("moved along %s" % (axes,), seen_along(moved(data, axes), axes), level)
 
 
-# --- cells by patch ------------------------------------------------------------------------------
+# --- joints --------------------------------------------------------------------------------------
+
+def patch_line(panel, corners):
+    return "patch %d " % panel + " ".join("%d,%d,%d" % corner for corner in corners)
+
 
 def piece(panel, forward, left, right, bottom, top):
     """The line of a patch across the bore."""
     corners = (left, bottom), (right, bottom), (right, top), (left, top)
-    return "patch %d " % panel + " ".join("%d,%d,%d" % (x, forward, z) for x, z in corners)
+    return patch_line(panel, [(x, forward, z) for x, z in corners])
+
+
+def wall(panel, *ends, high=60):
+    """An upright patch between two places (x, y) of the floor plan."""
+    (x, y), (u, v) = ends
+    return patch_line(panel, [(x, y, -high), (u, v, -high), (u, v, high), (x, y, high)])
+
+
+def roof(panel, *ends):
+    """A patch across the bore between two places (y, z)."""
+    (y, z), (v, w) = ends
+    return patch_line(panel, [(-60, y, z), (60, y, z), (60, v, w), (-60, v, w)])
+
+
+def triangle(*places):
+    """Panel 6 at forward 100, with corners (x, z)."""
+    return NODE, patch_line(6, [(x, 100, z) for x, z in places])
+
+
+def two_planes(first, second):
+    """Two nodes on the planes of their patches, the second's on its side of the first's plane."""
+    words, others = first.split()[2:], second.split()[2:]
+    points = [scene.point(word) for word in words[:3]]
+    before = any(gate.side(*points, scene.point(word)) > 0 for word in others)
+    child = " positive 1" if before else " negative 1"
+    return "node " + " ".join(words[:3]) + child, first, "node " + " ".join(others[:3]), second
+
+
+def floor(panel, left, right):
+    return patch_line(panel, [(left, 40, -20), (right, 40, -20), (right, 160, -20),
+                              (left, 160, -20)])
+
+
+FOUR = (NODE, piece(1, 100, -60, 0, 0, 60), piece(2, 100, 0, 60, 0, 60),
+        piece(3, 100, -60, 0, -60, 0), piece(4, 100, 0, 60, -60, 0))
+WIDE = piece(5, 100, -60, 60, -60, 60)
+NONE_OF_NINE, MIDDLE_ONE = "000 000 000", "000 060 000"
+HALVES = piece(1, 100, -60, 0, -60, 60), piece(2, 100, 0, 60, -60, 60)
+ROLLED, OVER = "0 0 -1  0 1 0  1 0 0", "-1 0 0  0 1 0  0 0 -1"
+
+# The lines of a scene, a window, the axes, and what shows: the rays read by themselves, and as the
+# lines just beside them. Middle rays of 3 by 3, lens 4, pass through x 0 and z 0.
+JOINTS = (
+    ("1 left, 2 right", (NODE, *HALVES), "3 3 4", LEVEL, "102 102 102", "122 122 122"),
+    ("2 left, 1 right",
+     (NODE, piece(1, 100, 0, 60, -60, 60), piece(2, 100, -60, 0, -60, 60)),
+     "3 3 4", LEVEL, "201 201 201", "211 211 211"),
+    ("1 above, 2 below",
+     (NODE, piece(1, 100, -60, 60, 0, 60), piece(2, 100, -60, 60, -60, 0)),
+     "3 3 4", LEVEL, "111 000 222", "111 222 222"),
+    ("four meet", FOUR, "3 3 4", LEVEL, "102 000 304", "122 344 344"),
+    ("two above a half", (*FOUR[:3], piece(3, 100, -60, 60, -60, 0)),
+     "3 3 4", LEVEL, "102 000 333", "122 333 333"),
+    ("four meet, rolled", FOUR, "3 3 4", ROLLED, "204 000 103", "244 133 133"),
+    ("four meet, upside down", FOUR, "3 3 4", OVER, "403 000 201", "433 211 211"),
+    ("four meet, half rolled", FOUR, "3 3 4", "1 0 1  0 2 0  -1 0 1",
+     "010 302 040", "112 322 442"),
+    ("four meet, right leaning", FOUR, "3 3 4", "1 0 -1  0 2 0  0 0 1",
+     "100 104 004", "124 144 344"),
+    ("walls of a corner",
+     two_planes(wall(1, (0, 100), (-100, 50)), wall(2, (0, 100), (100, 50))),
+     "3 3 4", LEVEL, "102 102 102", "122 122 122"),
+    ("walls open to the right",
+     two_planes(wall(1, (0, 100), (100, 150)), wall(9, (0, 100), (100, 80))),
+     "3 3 4", LEVEL, "009 009 009", "099 099 099"),
+    ("roofs open downward",
+     two_planes(roof(1, (100, 0), (150, -100)), roof(9, (100, 0), (80, -100))),
+     "3 3 4", LEVEL, "000 000 999", "000 999 999"),
+    ("a wedge down to the right", triangle((0, 0), (20, -40), (40, -20)),
+     "3 3 4", LEVEL, NONE_OF_NINE, NONE_OF_NINE),
+    ("a corner under a level edge", triangle((0, 0), (0, -40), (40, 0)),
+     "3 3 4", LEVEL, NONE_OF_NINE, MIDDLE_ONE),
+    ("a corner open to the right", triangle((0, 0), (40, -40), (40, 40)),
+     "3 3 4", LEVEL, NONE_OF_NINE, MIDDLE_ONE),
+    ("a corner over a level edge", triangle((0, 0), (40, 0), (40, 40)),
+     "3 3 4", LEVEL, NONE_OF_NINE, NONE_OF_NINE),
+    ("a strip below the middle row", (NODE, piece(6, 100, -30, 30, -10, 0)),
+     "3 3 4", LEVEL, NONE_OF_NINE, MIDDLE_ONE),
+    ("a strip above the middle row", (NODE, piece(6, 100, -30, 30, 0, 10)),
+     "3 3 4", LEVEL, NONE_OF_NINE, NONE_OF_NINE),
+    ("7 ahead on the left", (NODE + " negative 1", WIDE, FRONT, piece(7, 50, -30, 0, -30, 30)),
+     "3 3 4", LEVEL, "755 755 755", "755 755 755"),
+    ("7 ahead on the right", (NODE + " negative 1", WIDE, FRONT, piece(7, 50, 0, 30, -30, 30)),
+     "3 3 4", LEVEL, "557 557 557", "577 577 577"),
+    ("3 edge on before 5",
+     two_planes(piece(5, 100, 0, 60, -60, 60), wall(3, (0, 50), (0, 90), high=10)),
+     "3 3 4", LEVEL, "005 005 005", "055 055 055"),
+    ("the eye on an edge's line",
+     ("node 0,0,0 1,0,0 0,1,0", patch_line(6, [(0, 50, 0), (0, 90, 0), (40, 90, 0)])),
+     "3 3 4", LEVEL, NONE_OF_NINE, NONE_OF_NINE),
+    ("a floor in two strips", ("node 0,0,-20 1,0,-20 0,1,-20", floor(3, -40, 0), floor(4, 0, 40)),
+     "5 5 10", LEVEL, "00000 00000 00000 03040 33044", "00000 00000 00000 33440 33444"),
+    ("half-width 25", (NODE, "patch 5 " + square(25, 100)),
+     "4 4 4", LEVEL, "0000 0000 0000 0000", "0000 0500 0000 0000"))
+
+
+def along_each(view, whole, axes, line_at):
+    """The picture along lines that a function tells, with no row's patches left out."""
+    window, patches = view[3:], rays.seen_from(view[:3], whole)
+    return rays.panels_of(whole, [
+        [rays.closest_patch(line_at(window, axes, column, row), patches)
+         for column in range(window[0])] for row in range(window[1])])
+
+
+def ray_alone(window, axes, column, row):
+    """A line that nothing is added to."""
+    return (rays.ray_of(window, axes, column, row),)
+
+
+def test_joints():
+    for name, lines, window, numbers, old, now in JOINTS:
+        axes = axes_of(numbers)
+        view, whole = gate.check_input(input_of(lines, window), axes)
+        check("joints: " + name, rays.survey(view, whole, axes), rows_of(now))
+        check("joints read plainly: " + name, along_each(view, whole, axes, ray_alone),
+              rows_of(old))
+
+
+# Steps for right and for up, small enough for the scenes here.
+STEPS = tuple((Fraction(a, 10 ** 12), Fraction(c, 10 ** 24))
+              for a, c in ((1, 1), (7, 2), (Fraction(1, 9), Fraction(1, 900))))
+
+
+def stepped(steps):
+    """Lines of one ray, with "right times any small enough step above 0 added, and up times any
+    step above 0 small enough beside that taken away".
+    """
+    def line_at(window, axes, column, row):
+        ray, (right, _, up) = rays.ray_of(window, axes, column, row), axes
+        return (tuple(d + steps[0] * r - steps[1] * u for d, r, u in zip(ray, right, up)),)
+    return line_at
+
+
+def check_steps(name, view, whole, axes):
+    """Rays with such steps show what the rule shows."""
+    for steps in STEPS:
+        check("steps %s %s: %s" % (*steps, name), along_each(view, whole, axes, stepped(steps)),
+              rays.survey(view, whole, axes))
+
+
+def test_steps():
+    for name, lines, window, numbers, _, _ in JOINTS:
+        axes = axes_of(numbers)
+        check_steps(name, *gate.check_input(input_of(lines, window), axes), axes)
+    draws = random.Random(6)
+    for trial in range(20):
+        whole = scene.unpack(scene.build(text_of(*random_pieces(draws))))
+        axes = draws.choice((scene.LEVEL, random_axes(draws)))
+        check_steps("pieces %d" % trial, (0, 0, 0, 4, 4, 4), whole, axes)
+
+
+# --- cells by patch ------------------------------------------------------------------------------
 
 
 HALF = piece(5, 100, -50, 0, -50, 50)
@@ -299,10 +457,15 @@ def test_panel_sums():
         check_sums("turned ring " + options, SMALL_WINDOW, made(options), axes_of(SKEWED))
 
 
+def distance(ray, patch):
+    """Along one ray, a fraction of two whole numbers."""
+    return Fraction(patch.eye_product, gate.dot(ray, patch.normal))
+
+
 def shows_before(ray, one, other):
     """The rule for two patches that are met: the nearer, the lower panel, the earlier."""
-    if one.distance(ray) != other.distance(ray):
-        return one.distance(ray) < other.distance(ray)
+    if distance(ray, one) != distance(ray, other):
+        return distance(ray, one) < distance(ray, other)
     if one.panel != other.panel:
         return one.panel < other.panel
     return one.number < other.number
@@ -324,7 +487,7 @@ def random_pieces(draws):
 
 def first_shown(ray, patches):
     """The numbers of the met patches that show before every other one."""
-    met = [patch for patch in patches if patch.is_met(ray)]
+    met = [patch for patch in patches if patch.is_met((ray,))]
     return [one.number for one in met
             if all(shows_before(ray, one, other) for other in met if other is not one)]
 
@@ -337,7 +500,8 @@ def test_rule_by_twos():
         patches = rays.seen_from(view[:3], whole)
         found = [[[] if cell is None else [cell] for cell in row]
                  for row in rays.closest_patches(view, whole)]
-        wanted = [[first_shown(rays.ray_of(view[3:], scene.LEVEL, column, row), patches)
+        line_at = stepped(STEPS[0])
+        wanted = [[first_shown(line_at(view[3:], scene.LEVEL, column, row)[0], patches)
                    for column in range(4)] for row in range(4)]
         check("pieces by twos, %d" % trial, found, wanted)
 
@@ -618,12 +782,9 @@ def test_stored_ring():
 def test_row_bound():
     """Leaving patches out of a row by its plane changes nothing."""
     view, whole = SMALL_WINDOW[:3] + (16, 8, 10), made("--facets 1")
-    all_seen = rays.seen_from(view[:3], whole)
     for axes in (scene.LEVEL, axes_of(SKEWED)):
-        plain = [[rays.closest_patch(rays.ray_of(view[3:], axes, i, j), all_seen)
-                  for i in range(16)] for j in range(8)]
-        check("rows without the bound along %s" % (axes,),
-              rays.closest_patches(view, whole, axes), plain)
+        check("rows without the bound along %s" % (axes,), rays.survey(view, whole, axes),
+              along_each(view, whole, axes, rays.line_of))
 
 
 # --- pictures ------------------------------------------------------------------------------------

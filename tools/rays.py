@@ -26,6 +26,19 @@ the camera: its vectors right, forward and up; without it the view is level, (1,
     total 16
     patch 0: 7 4
     patch 1: 5 0
+
+A sight line along a joint is read as the lines just beside it: right of it, and below it where
+that still runs along the joint. Of four panels that meet on the middle line of three by three:
+
+    $ scene.py build samples/quarters.txt - | tail -c +13 >four.scene
+    $ scene.py view four.scene - 0 0 0 3 3 4 | rays.py -
+    view 3 3 4
+    1 1
+    2 2
+    3 2
+    4 4
+    nothing 0
+    total 9
 """
 
 import collections
@@ -51,30 +64,49 @@ class Seen:
         turned = self.from_eye[1:] + self.from_eye[:1]
         self.edges = [cross(v, w) for v, w in zip(self.from_eye, turned)]
 
-    def is_met(self, ray):
+    def is_met(self, line):
         """Does every edge number have the sign of the eye product, none of them 0?"""
         for edge in self.edges:
-            if dot(ray, edge) * self.eye_product <= 0:
+            if weight(line, edge) * self.eye_product <= 0:
                 return False
         return True
 
-    def distance(self, ray):
-        return Fraction(self.eye_product, dot(ray, self.normal))
+    def farness(self, line):
+        """Less where the patch is met closer: minus one over the distance, which is the direction's
+        product with the normal over the eye product. A step adds to it, so it is a fraction for the
+        ray and for each step; of two patches the first fractions that differ tell which is closer.
+        """
+        return [Fraction(dot(part, self.normal), -self.eye_product) for part in line]
 
     def may_meet(self, plane):
-        """A plane of rays through the eye with all corners strictly on one side meets nothing."""
+        """A plane of rays through the eye with all corners strictly on one side meets nothing, and
+        neither do rays just beside it. One that only touches the patch may have such rays inside.
+        """
         sides = [dot(corner, plane) for corner in self.from_eye]
         return min(sides) <= 0 <= max(sides)
 
 
-def closest_patch(ray, patches):
+def weight(line, vector):
+    """A number with the sign of the line's product with a vector. The line is a ray and what is
+    added to it in steps, the first any small enough, the next any small enough beside that: where
+    the ray's own product is not 0 no step outweighs it, and where it is 0 the first step decides.
+    """
+    for part in line:
+        product = dot(part, vector)
+        if product:
+            return product
+    return 0
+
+
+def closest_patch(line, patches):
     """The number of the patch met at the least distance, of the lowest panel where several are
     level. "Where two patches of one panel overlap in a plane, the earlier in the list has the
     cell." None where no patch is met.
     """
-    met = [(patch.distance(ray), patch.panel, patch.number)
-           for patch in patches if patch.is_met(ray)]
-    return min(met)[2] if met else None
+    met = [patch for patch in patches if patch.is_met(line)]
+    if len(met) > 1:
+        met.sort(key=lambda patch: (patch.farness(line), patch.panel, patch.number))
+    return met[0].number if met else None
 
 
 def ray_of(window, axes, column, row):
@@ -84,6 +116,14 @@ def ray_of(window, axes, column, row):
     width, height, lens = window
     times = (2 * column + 1 - width, lens, height - 1 - 2 * row)
     return tuple(dot(times, parts) for parts in zip(*axes))
+
+
+def line_of(window, axes, column, row):
+    """A cell's line: its direction with "right times any small enough step above 0 added, and up
+    times any step above 0 small enough beside that taken away", the view's own right and up.
+    """
+    right, _, up = axes
+    return ray_of(window, axes, column, row), right, tuple(-part for part in up)
 
 
 def row_plane(window, axes, row):
@@ -104,7 +144,7 @@ def closest_patches(view, scene, axes=scenes.LEVEL):
     for row in range(window[1]):
         plane = row_plane(window, axes, row)
         near = [patch for patch in patches if patch.may_meet(plane)]
-        rows.append([closest_patch(ray_of(window, axes, column, row), near)
+        rows.append([closest_patch(line_of(window, axes, column, row), near)
                      for column in range(window[0])])
     return rows
 
