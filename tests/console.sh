@@ -122,10 +122,33 @@ turned "1 0 -1 0 2 0 1 0 1" bars "9 7 8" "0 0 0"
 turned "-97 31 -12 25 100 -8 -9 14 -100" ring "64 32 40" "0 20 0" "300 1000 -200"
 turned "-4 3 0 -3 -4 1 0 1 6" ring "64 32 40" "300 1000 -200" "40 4700 -100"
 
+# Sight lines along joints and through corners: four panels that meet, level and turned; walls that meet on a line and open to
+# the right; a floor in two strips; S with half-width 25.
+node='node 0,100,0 1,100,0 0,100,1' nearer='node 0,50,0 1,50,0 0,50,1'
+fold='0,100,-60 100,150,-60 100,150,60' front='0,100,-60 100,80,-60 100,80,60'
+made walls "node $fold positive 1" "patch 1 $fold 0,100,60" "node $front" "patch 9 $front 0,100,60"
+made floor 'node 0,0,-20 1,0,-20 0,1,-20' 'patch 3 -40,40,-20 0,40,-20 0,160,-20 -40,160,-20' \
+    'patch 4 0,40,-20 40,40,-20 40,160,-20 0,160,-20'
+made narrow "$node" "$(piece 5 100 -25 25 -25 25)"
+level quarters "3 3 4" "0 0 0" "10 -40 0" "0 50 10"
+turned "0 0 -1 0 1 0 1 0 0" quarters "3 3 4" "0 0 0"
+turned "-1 0 0 0 1 0 0 0 -1" quarters "3 3 4" "0 0 0"
+turned "1 0 1 0 2 0 -1 0 1" quarters "3 3 4" "0 0 0"
+turned "1 0 -1 0 2 0 0 0 1" quarters "3 3 4" "0 0 0"
+level walls "3 3 4" "0 0 0" "0 200 0"
+turned "-1 0 0 0 -1 0 0 0 1" walls "3 3 4" "0 200 0"
+level floor "5 5 10" "0 0 0" "0 0 -20"
+level narrow "4 4 4" "0 0 0"
+prints "$(printf '%s\n' 'view 4 4 4' '5 1' 'nothing 15' 'total 16' 'patch 0: 5 1' 'unlit 0: (0,4)' 'unlit 1: (0,1) (2,2)' \
+    'unlit 2: (0,4)' 'unlit 3: (0,4)')" -u -p "$work/narrow.scene" 4 4 4 0 0 0
+prints "$(printf '%s\n' 'view 3 3 4' '1 1' '2 2' '3 2' '4 4' 'nothing 0' 'total 9')" "$work/quarters.scene" 3 3 4 0 0 0
+prints "$(printf '%s\n' 'view 3 3 4' '1 2' '2 1' '3 4' '4 2' 'nothing 0' 'total 9')" \
+    -a 0 0 -1 0 1 0 1 0 0 "$work/quarters.scene" 3 3 4 0 0 0
+prints "$(printf '%s\n' 'view 3 3 4' '9 6' 'nothing 3' 'total 9')" "$work/walls.scene" 3 3 4 0 0 0
+
 # Which piece of a panel was seen: a square that stands twice; its left half before and after the whole; pieces of two panels
 # that overlap; pieces of one panel one behind the other; a piece that is hidden; no patch, without a node and with one; the ring
 # with each patch twice.
-node='node 0,100,0 1,100,0 0,100,1' nearer='node 0,50,0 1,50,0 0,50,1'
 square=$(piece 5 100 -50 50 -50 50) half=$(piece 5 100 -50 0 -50 50)
 made twice "$node" "$square" "$square"
 made half_first "$node" "$half" "$square"
