@@ -7,6 +7,11 @@
  * were seen. Everything is exact in whole numbers. One length unit is 5 mm; x is to the right, y
  * forward along the bore, z up. The camera may look any way: three vectors say how it is turned.
  *
+ * Joints. Where a cell's sight line runs along an edge or through a corner, the cell is read as the
+ * lines just beside it: to the right of it, toward the next column, and where these still run along
+ * the edge, below it, toward the next row. What is closest is told along the same lines, so that a
+ * cell on the joint of two panels shows one of them.
+ *
  * Link with libsurvey.a:   cc -Iinclude console.c -Llib -lsurvey
  *
  * What is lent. The calls only use the memory for as long as they run and keep no pointer. Every
