@@ -130,11 +130,20 @@ static const struct view rolled = {
 static const struct view upside_down = {
     {0, 0, 0, -1, 0, 0, 0, 1, 0, 0, 0, -1, 4, 2, 4}, {4, 4, 3, 3, 2, 2, 1, 1}};
 static const struct view aside = {
-    {-80, 0, -30, RING_LEVEL_VIEW, 6, 4, 5},
+    {-81, 0, -30, RING_LEVEL_VIEW, 6, 4, 5},
     {0, 0, 0, 1, 1, 2, 0, 0, 0, 3, 3, 4, 0, 0, 0, 3, 3, 4, 0, 0, 0, 3, 3, 4}};
 static const struct view oblique = {
     {-19, -49, 26, 9, 2, -7, 3, 12, -4, 11, -1, 8, 6, 4, 5},
     {0, 2, 2, 0, 0, 0, 1, 1, 2, 4, 0, 0, 0, 1, 3, 4, 4, 0, 0, 0, 3, 3, 0, 0}};
+
+/* The middle lines run along the joints, and one of them through the corner where all four panels
+ * meet: "A cell holds the panel met first [...] by the line from the eye whose direction has right
+ * times any small enough step above 0 added, and up times any step above 0 small enough beside that
+ * taken away." Level, and rolled by a quarter turn. */
+static const struct view joints = {
+    {0, 0, 0, RING_LEVEL_VIEW, 3, 3, 4}, {1, 2, 2, 3, 4, 4, 3, 4, 4}};
+static const struct view joints_rolled = {
+    {0, 0, 0, 0, 0, -1, 0, 1, 0, 1, 0, 0, 3, 3, 4}, {2, 4, 4, 1, 3, 3, 1, 3, 3}};
 
 /* The gate paints nothing. But no two numbers can change places in all three of these, except those
  * of the eye, without a refusal: question 14 lets them just pass, and what passes as a part of the
@@ -320,5 +329,6 @@ int main(int argc, char **argv)
         return !(strcmp(argv[1], "gate") ? shows(oblique, one, other) : all_pass(one, other));
     }
     return !(shows_nothing() && asks_axes() && asks_table() && all_pass(0, 0) && holds(level) &&
-             holds(rolled) && holds(upside_down) && holds(aside) && holds(oblique));
+             holds(rolled) && holds(upside_down) && holds(aside) && holds(oblique) &&
+             holds(joints) && holds(joints_rolled));
 }
