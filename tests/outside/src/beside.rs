@@ -6,7 +6,7 @@ use crate::gate::patch_normal;
 use crate::ray::{apart, edges, eye_to_corner, holder, met, Line, Sight};
 use crate::scene::Patch;
 use crate::survey::lines;
-use crate::vector::{dot, Vector};
+use crate::vector::{dot, wide, Vector};
 
 /// The ways in which something may be decided beside a line.
 const WAYS: [&str; 6] = [
@@ -65,7 +65,7 @@ struct Told<'a> {
 
 impl Told<'_> {
     fn of<'a>(patches: &'a [Patch], view: &View) -> Told<'a> {
-        let eye = crate::vector::wide(view.eye);
+        let eye = wide(view.eye);
         let (flat, open): (Vec<&Patch>, Vec<&Patch>) =
             patches.iter().partition(|p| eye_to_corner(p, eye) == 0);
         Told {
@@ -79,14 +79,8 @@ impl Told<'_> {
     fn ways(&self, line: &Line) -> [bool; WAYS.len()] {
         let own = holder(self.patches, line);
         let alone = Line::alone(line.eye, line.along[0]);
-        let mut ways = [
-            own != holder(self.patches, &alone),
-            false,
-            false,
-            false,
-            false,
-            false,
-        ];
+        let mut ways = [false; WAYS.len()];
+        ways[0] = own != holder(self.patches, &alone);
         let Some(own) = own.map(|k| &self.patches[k]) else {
             return ways;
         };

@@ -47,10 +47,9 @@ fn any_line(rng: &mut Random, view: &View) -> Place {
 
 /// A line between two places on sight lines, often of one column or one row.
 struct Hinge {
-    /// The directions of the two, and how often the first one leads to the
-    /// first place.
+    /// The directions of the two, and how many times these lead to the places.
     lines: [Place; 2],
-    depth: i64,
+    depths: [i64; 2],
 }
 
 impl Hinge {
@@ -59,17 +58,20 @@ impl Hinge {
         let mut other = any_line(rng, view);
         let shared = rng.pick(&[0, 2, 1]);
         other[shared] = one[shared];
-        if other == one {
+        let near = rng.between(1, 5);
+        let far = rng.between(1, 5);
+        let depths = [near, rng.pick(&[near, far])];
+        if other == one && depths[0] == depths[1] {
             other[2 - 2 * rng.below(2)] += rng.pick(&[-2, 2]);
         }
         Hinge {
             lines: [one, other],
-            depth: rng.between(1, 5),
+            depths,
         }
     }
 
     fn ends(&self) -> [Place; 2] {
-        self.lines.map(|line| line.map(|n| self.depth * n))
+        [0, 1].map(|end| times(self.depths[end], self.lines[end]))
     }
 
     /// A patch with an edge on the hinge, or in its plane before it.
@@ -82,10 +84,9 @@ impl Hinge {
         match rng.below(5) {
             0 => vec![p, q, moved(p, away)],
             1 => self.edge_on(rng),
-            // The edge goes on beyond the sight lines, or stops between them.
+            // The edge goes on as far again.
             2 => {
-                let apart = [0, 1, 2].map(|k| q[k] - p[k]);
-                let beyond = moved(q, apart);
+                let beyond = moved(times(2, q), times(-1, p));
                 vec![p, beyond, moved(beyond, away), moved(p, away)]
             }
             _ => vec![p, q, moved(q, away), moved(p, away)],
@@ -96,11 +97,11 @@ impl Hinge {
     fn edge_on(&self, rng: &mut Random) -> Vec<Place> {
         let [near, far] = [rng.between(1, 3), rng.between(4, 6)];
         let [p, q] = self.lines;
-        let at = |line: Place, times: i64| line.map(|n| times * n);
+        let [before, behind] = [near, far].map(|depth| times(depth, p));
         match rng.once_in(4) {
             // An edge leads through the eye.
-            true => vec![at(p, near), at(p, far), moved(at(p, far), any_step(rng))],
-            false => vec![at(p, near), at(q, near), at(q, far), at(p, far)],
+            true => vec![before, behind, moved(behind, any_step(rng))],
+            false => vec![before, times(near, q), times(far, q), behind],
         }
     }
 
@@ -111,15 +112,10 @@ impl Hinge {
         let (one, other) = (any_step(rng), any_step(rng));
         let mut pieces = Vec::new();
         for (a, b) in [(1, 1), (-1, 1), (-1, -1), (1, -1)] {
-            let [s, t] = [one.map(|n| a * n), other.map(|n| b * n)];
+            let [p, q] = [times(a, one), times(b, other)].map(|step| moved(corner, step));
             let piece = match rng.once_in(4) {
-                true => vec![corner, moved(corner, s), moved(corner, t)],
-                false => vec![
-                    corner,
-                    moved(corner, s),
-                    moved(moved(corner, s), t),
-                    moved(corner, t),
-                ],
+                true => vec![corner, p, q],
+                false => vec![corner, p, moved(p, times(b, other)), q],
             };
             if !rng.once_in(3) {
                 pieces.push(piece);
@@ -151,6 +147,10 @@ fn moved(place: Place, step: Place) -> Place {
     [0, 1, 2].map(|k| place[k] + step[k])
 }
 
+fn times(n: i64, place: Place) -> Place {
+    place.map(|part| n * part)
+}
+
 /// A wide patch beyond the hinges: "the rock behind".
 fn behind(rng: &mut Random, view: &View) -> Vec<Place> {
     let depth = rng.between(7, 9);
@@ -158,8 +158,7 @@ fn behind(rng: &mut Random, view: &View) -> Vec<Place> {
     vec![[-x, y, -z], [x, y, -z], [x, y, z], [-x, y, z]]
 }
 
-/// The patch at these places, either way round, if they are in range and off one
-/// line.
+/// The patch at these places, if they are in range and off one line.
 fn stands(view: &View, places: &[Place]) -> Option<Corners> {
     let corner = |place: &Place| {
         let from = view.axes.sum(place.map(i128::from)).map(|n| n as i64);

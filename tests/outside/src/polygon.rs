@@ -113,11 +113,13 @@ impl Basis {
         cross(self.u.map(i128::from), self.v.map(i128::from))
     }
 
-    /// The four corners between two lines each way, s and t from 0 to `grid`.
+    /// The four corners between two lines each way, s and t from 0 to `grid`,
+    /// often the outermost ones.
     pub fn rectangle(&self, rng: &mut Random, grid: i64) -> Option<Vec<Point>> {
         let [s, t] = [0; 2].map(|_| {
             let low = rng.between(0, grid - 1);
-            [low, rng.between(low + 1, grid)]
+            let any = [low, rng.between(low + 1, grid)];
+            rng.pick(&[any, any, [0, grid]])
         });
         let spots = [[s[0], t[0]], [s[1], t[0]], [s[1], t[1]], [s[0], t[1]]];
         let corners: Option<Vec<Point>> = spots

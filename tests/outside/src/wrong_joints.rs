@@ -39,7 +39,7 @@ pub const JOINTS: &[(&str, Look)] = &[
         stepped(s, c, |_, _| [wide(LEVEL.right), about(wide(LEVEL.up))])
     }),
     ("equal steps right and down", |s, c| {
-        stepped(s, c, |right, up| [minus(right, up), NONE])
+        stepped(s, c, |right, up| [minus(right, up), right])
     }),
     ("down before right", |s, c| {
         stepped(s, c, |right, up| [about(up), right])
