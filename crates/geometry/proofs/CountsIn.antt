@@ -45,7 +45,7 @@ module _ (y z : ℤ) where
       go true t = record { value = refl; bounded = within-literal tt }
       go false t = absurd t
 
-  pub uncounted : (Rises y z → ⊥) → NumberIs 1 (countsIn y z) (pos 0)
+  uncounted : (Rises y z → ⊥) → NumberIs 1 (countsIn y z) (pos 0)
   uncounted f = go (growsBeside y z) (λ t. f (grows-says y z .0 t))
     where
       go : (b : Bool) → (T b → ⊥) → NumberIs 1 (cond b (pos 1) (pos 0)) (pos 0)
@@ -69,7 +69,7 @@ module _ (y z : ℤ) where
       no (inl l) = clashℤ l h
       no (inr (_, l)) = clashℤ l k
 
-pub first-start : (x y z : ℤ) → FirstAbove x y z ↔ (pos 0 <ℤ (x +ℤ countsIn y z))
+first-start : (x y z : ℤ) → FirstAbove x y z ↔ (pos 0 <ℤ (x +ℤ countsIn y z))
 first-start x y z = go (growsBeside y z) (grows-says y z)
   where
     go : (b : Bool) → T b ↔ Rises y z → FirstAbove x y z ↔ (pos 0 <ℤ (x +ℤ cond b (pos 1) (pos 0)))

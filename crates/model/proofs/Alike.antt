@@ -87,7 +87,7 @@ module _ {σ δ σ′ δ′ : ℤ} (g : SameSign σ δ) (g′ : SameSign σ′ �
   abbrev there : ℕ
   there = (natAbs σ′ * natAbs σ′) * (natAbs σ * natAbs δ)
 
-  pub below-sign : (natAbs σ * natAbs δ′ < natAbs σ′ * natAbs δ) ↔ SameSign (σ *ℤ σ′) (σ′ *ℤ δ -ℤ σ *ℤ δ′)
+  below-sign : (natAbs σ * natAbs δ′ < natAbs σ′ * natAbs δ) ↔ SameSign (σ *ℤ σ′) (σ′ *ℤ δ -ℤ σ *ℤ δ′)
   below-sign = (
     λ h.
         let k : here < there = omega (arith, mul-lt-mul-of-pos-left h (mul-pos (positive g) (positive g′))) in
@@ -125,7 +125,7 @@ module _ {eye : Vec} (eye-within : VecWithin 10000 eye) where
     corner-within : (k : ℕ) → k < 3 → VecWithin 10000 (corner p k)
     corner-within k l = ranged .corners (corner-mem proper k l)
 
-    pub normal-within : VecWithin 800000000 (normal p)
+    normal-within : VecWithin 800000000 (normal p)
     normal-within =
         let a = corner-within 0 (omega arith) in
         vec-more (cross-within (minus-within (corner-within 1 (omega arith)) a) (minus-within (corner-within 2 (omega arith)) a)) (lit≤ tt)

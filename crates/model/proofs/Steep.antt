@@ -11,7 +11,7 @@ use Rattle.integer.proofs.Identity.{ring, reify, combine₁, combine₂, combin
 use Rattle.integer.proofs.Order.{<-by, ≤-by, <-diff, ≤-diff, <→≤, suc-≤, +-pos-nonneg, ≤ℤ-<ℤ-trans, Compared, below, same, above, compared}
 use Rattle.integer.proofs.Products.{*-pos, *-nonneg, neg-of-neg, pos→≢}
 
-pub within-at-most : {n : ℕ} {z : ℤ} → Within n z → z ≤ℤ pos n
+within-at-most : {n : ℕ} {z : ℤ} → Within n z → z ≤ℤ pos n
 within-at-most {n} {z} h = leZ-yes (go z (h .within))
   where
     go : (z : ℤ) → natAbs z ≤ n → T (leZ z (pos n))
@@ -39,7 +39,7 @@ module _ {B α β γ : ℤ} (s : Steep B α β γ) where
   first-positive : pos 0 <ℤ α
   first-positive = ≤ℤ-<ℤ-trans (*-nonneg (<→≤ (+-pos-nonneg middle-positive (<→≤ (s .last)))) (s .size)) (s .first)
 
-  pub first-above : {x y z : ℤ} → negℤ B ≤ℤ y → negℤ B ≤ℤ z → FirstAbove x y z → pos 0 <ℤ weighted α β γ x y z
+  first-above : {x y z : ℤ} → negℤ B ≤ℤ y → negℤ B ≤ℤ z → FirstAbove x y z → pos 0 <ℤ weighted α β γ x y z
   first-above {x} {y} {z} hy hz (inl h) =
       <-by
       (+-pos-nonneg (+-pos-nonneg (+-pos-nonneg (<-diff (s .first)) (*-nonneg (<→≤ first-positive) (≤-diff (suc-≤ h))))
@@ -93,13 +93,3 @@ module _ {n : ℕ} {α β γ : ℤ} (s : Steep (pos n) α β γ) where
           (<→≤ (<-by (first-above s (turned hy) (turned hz) l) (ring (α ∷ β ∷ γ ∷ x ∷ y ∷ z ∷ []) (search reify depth 40 fits 200000, tt))))
       to (nowhere e f g) h =
           absurd (pos→≢ h (combine₃ α e β f γ g (ring (α ∷ β ∷ γ ∷ x ∷ y ∷ z ∷ []) (search reify depth 40 fits 200000, tt))))
-
-  -- it is 0 only where all three are
-  pub weighted-zero : {x y z : ℤ} → Within n y → Within n z → weighted α β γ x y z ≡ pos 0 → (x ≡ pos 0) × (y ≡ pos 0) × (z ≡ pos 0)
-  weighted-zero {x} {y} {z} hy hz e = go (leading x y z)
-    where
-      go : Leading x y z → (x ≡ pos 0) × (y ≡ pos 0) × (z ≡ pos 0)
-      go (upward l) = absurd (pos→≢ (first-above s (not-less hy) (not-less hz) l) e)
-      go (downward l) =
-          absurd (pos→≢ (first-above s (turned hy) (turned hz) l) (combine₁ (negsuc 0) e (ring (α ∷ β ∷ γ ∷ x ∷ y ∷ z ∷ []) (search reify depth 40 fits 200000, tt))))
-      go (nowhere f g h) = (f, g, h)
