@@ -3,7 +3,7 @@
 
 use super::finish::finish;
 use super::order::front_to_back;
-use super::shapes::{Shapes, NOTHING};
+use super::shapes::{Edge, Shapes, NOTHING};
 use super::tables::{wide, Tables};
 use outside::call::{Call, Lent};
 
@@ -12,6 +12,18 @@ use outside::call::{Call, Lent};
 struct RowEdge {
     slope: f64,
     start: f64,
+}
+
+impl RowEdge {
+    /// Numbers are whole, so that 1 more takes in a rising edge's own cells.
+    fn of(edge: &Edge, row: usize) -> RowEdge {
+        let slope = edge.ramp.slope;
+        let own = if slope > 0.0 { 1.0 } else { 0.0 };
+        RowEdge {
+            slope,
+            start: edge.ramp.at_row(row) + own,
+        }
+    }
 }
 
 /// The numbers of the shapes that reach a row, with the ends of their edges.
@@ -43,11 +55,8 @@ impl Row {
             if j < usize::from(shape.low) || j >= usize::from(shape.high) {
                 continue;
             }
-            let edges = shapes.edges(shape).iter().map(|edge| RowEdge {
-                slope: edge.ramp.slope,
-                start: edge.ramp.at_row(j),
-            });
-            self.edges.extend(edges);
+            let edges = shapes.edges(shape).iter();
+            self.edges.extend(edges.map(|edge| RowEdge::of(edge, j)));
             self.shapes.push((number, self.edges.len() as u32));
         }
     }

@@ -6,7 +6,10 @@ use super::reach;
 use super::tables::Tables;
 use outside::call::View;
 
-/// A direction is inside an edge where the cell's number is above 0.
+/// The lines beside a cell's are inside an edge where the cell's number is above
+/// 0, and where it is 0 if it rises to the right, or downward if it does neither
+/// rise nor fall that way. So an edge on the left takes in the cells on it, one on
+/// the right does not.
 #[derive(Clone, Copy, Default)]
 pub struct Edge {
     pub ramp: Ramp,
@@ -154,17 +157,18 @@ impl Shapes {
         }
         low = if low < width { low } else { width };
         high = if high > -1.0 { high } else { -1.0 };
-        // Columns above low and below high. Both sums are from -1 to 258.
-        let whole = |n: f64| unsafe { n.to_int_unchecked::<i32>() } as usize;
-        (whole(low + 1.0 + TINY), whole(high + 1.0 - TINY))
+        // Columns from low on and below high. Each sum is from just below 0, which is
+        // cut to 0, to 257.
+        let up = |n: f64| unsafe { (n + 1.0 - TINY).to_int_unchecked::<i32>() } as usize;
+        (up(low), up(high))
     }
 }
 
-/// The rows where start + step × row is above 0.
+/// The rows where start + step × row is above 0, or 0 and rising.
 fn level_rows(edge: &Edge, (low, high): (i64, i64)) -> (i64, i64) {
     let (start, step) = (edge.ramp.start as i64, edge.ramp.step as i64);
     match step {
-        1.. => (low.max((-start).div_euclid(step) + 1), high),
+        1.. => (low.max(-(start.div_euclid(step))), high),
         0 if start > 0 => (low, high),
         0 => (0, 0),
         _ => (low, high.min((start - 1).div_euclid(-step) + 1)),

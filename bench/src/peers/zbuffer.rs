@@ -94,11 +94,13 @@ impl Buffer<'_> {
     }
 }
 
-/// The exact comparison of two depths in one cell. Of two level patches of one
-/// panel the earlier in the list keeps it, as patches come in stored order.
+/// The exact comparison of two depths beside one cell's line: on it, then to the
+/// right, then downward, so that only patches of one plane are level. Of two such
+/// of one panel the earlier in the list keeps it, as patches come in stored order.
 #[cold]
 fn wins(new: &Depth, old: &Depth, column: usize, row: usize) -> bool {
-    let scaled = |n: &Depth, over: f64| n.ramp.at(column, row) as i128 * over as i128;
+    let beside = |n: &Ramp| [n.at(column, row), n.slope, n.step];
+    let scaled = |n: &Depth, over: f64| beside(&n.ramp).map(|n| n as i128 * over as i128);
     let (a, b) = (scaled(new, old.over), scaled(old, new.over));
     a > b || (a == b && new.panel < old.panel)
 }
