@@ -1,22 +1,46 @@
 //! Every result is the same, or there is nothing to time.
 
 use crate::peers::PEERS;
+use crate::scenes;
+use crate::walls::double_wall;
 use outside::call::{Call, Lent, Library};
 use outside::differential::{case, put, Tally};
 use outside::generate::SMALL;
 use outside::random::Random;
+use outside::ray::Sight;
+use outside::survey::Due;
 
 /// Library and peers agree on a call that is timed: picture, counts, patch
 /// counts, lists.
 pub fn same(library: &dyn Library, call: &Call, name: &str) {
-    let noise = |seed| Lent::noise(call, &mut Random::new(seed, 0));
-    let mut wanted = noise(0);
-    assert_eq!(library.survey(call, &mut wanted), 0, "{name} is legal");
     assert_eq!(library.gate(call), 0, "{name} passes the gate");
-    for (seed, peer) in PEERS.iter().enumerate() {
-        let mut found = noise(seed as u64 + 1);
-        assert_eq!(peer.survey(call, &mut found), 0, "{name}: {}", peer.name);
-        assert!(found == wanted, "{name}: {} differs", peer.name);
+    let others = differing(library, call);
+    assert!(others.is_empty(), "{name}: {others:?} differ");
+}
+
+/// The peers that leave other numbers in a legal call than the library does.
+fn differing(library: &dyn Library, call: &Call) -> Vec<&'static str> {
+    let left = |who: &dyn Library, seed| {
+        let mut lent = Lent::noise(call, &mut Random::new(seed, 0));
+        assert_eq!(who.survey(call, &mut lent), 0, "the call is legal");
+        lent
+    };
+    let wanted = left(library, 0);
+    let others = (1..).zip(&PEERS);
+    others
+        .filter(|&(seed, peer)| left(peer, seed) != wanted)
+        .map(|(_, peer)| peer.name)
+        .collect()
+}
+
+/// Where joints lie on sight lines, who reads such a line by itself is told from
+/// all peers, and who reads it as the lines beside it from none.
+pub fn joints() {
+    let view = scenes::window(32);
+    let call = scenes::call(&double_wall(&view), view);
+    for (sight, others) in [(Sight::Beside, 0), (Sight::Plain, PEERS.len())] {
+        let found = differing(&Due::by(sight, &call), &call);
+        assert_eq!(found.len(), others, "{sight:?} and {found:?} differ");
     }
 }
 
@@ -33,10 +57,9 @@ pub fn random(cases: u64) {
         }
     }
     // Without them a peer would pass that only knows the level view, and one that
-    // books by panel, or the later of two level patches.
+    // books by panel, or the later of two level patches, or sees through joints.
     let turned = tally.turned.lit > 0 && tally.answers.contains_key(&14);
-    let pieces = tally.pieces.told().iter().all(|piece| piece.0 > 0);
-    for (enough, seen, what) in [(100, turned, "turned views"), (500, pieces, "pieces")] {
-        assert!(cases < enough || seen, "{what} are among the cases");
-    }
+    assert!(cases < 100 || turned, "turned views are among the cases");
+    let never = tally.never_shown();
+    assert!(cases < 500 || never.is_empty(), "never shown: {never:?}");
 }

@@ -1,8 +1,9 @@
-//! The calls that are timed: scenes, curves over patches, cells and nodes, and
-//! scenes again under a turned camera.
+//! The calls that are timed: scenes, curves over patches, cells and nodes, scenes
+//! again under a turned camera, and one of joints on sight lines.
 
 use crate::plant::{Level, Maker};
 use crate::scenes;
+use crate::walls::double_wall;
 use outside::call::Call;
 use outside::scene::Scene;
 
@@ -56,6 +57,10 @@ pub fn jobs() -> Vec<Job> {
         gate: true,
     }));
     jobs.extend(turned(&tunnel));
+    jobs.push(job(
+        "double wall of 768 panels, joints on sight lines",
+        scenes::call(&double_wall(&wide), wide),
+    ));
     jobs
 }
 

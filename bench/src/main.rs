@@ -14,6 +14,7 @@ mod race;
 mod scenes;
 mod table;
 mod timing;
+mod walls;
 
 use jobs::jobs;
 use std::fs;
@@ -33,6 +34,7 @@ fn main() {
     let options = options::options();
     memory::keep();
     check::random(options.cases);
+    check::joints();
     let mut text = table::introduction(&options.commit, options.rounds);
     print!("{text}");
     let mut before = None;

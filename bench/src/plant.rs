@@ -3,9 +3,9 @@
 use outside::scene::{Node, Patch, Record, Scene, NONE};
 use outside::vector::{dot, minus, normal, wide, Point};
 
-/// The patches in one plane across the view.
+/// The patches in one plane, whose positive side is the near one.
 pub struct Level {
-    pub y: i16,
+    pub plane: [Point; 3],
     pub patches: Vec<Patch>,
 }
 
@@ -25,13 +25,7 @@ impl Maker {
     /// Levels from near to far, each below the one before.
     pub fn chain(levels: &[Level]) -> Scene {
         let mut maker = Maker::default();
-        let count = levels.len();
-        for (k, level) in levels.iter().enumerate() {
-            let own = maker.node(across(level.y), &level.patches);
-            if k + 1 < count {
-                maker.scene.nodes[usize::from(own)].negative = own + 1;
-            }
-        }
+        maker.behind(levels);
         maker.scene
     }
 
@@ -39,7 +33,21 @@ impl Maker {
     /// chain, as each panel has the others on its inner side.
     pub fn rings(rings: &[Vec<Patch>]) -> Scene {
         let mut maker = Maker::default();
-        maker.joints(rings);
+        let joint = |ring: &Vec<Patch>| across(ring[0].corners[0][1]);
+        maker.parts(rings, joint, |maker, ring| maker.ring(ring));
+        maker.scene
+    }
+
+    /// Wedges of the view from left to right, each with its levels from near to
+    /// far. Planes through the eye, which is at 0, halve them, each along the left
+    /// edge of a wedge's first patch, whose last corner is the one above its first.
+    pub fn wedges(wedges: &[Vec<Level>]) -> Scene {
+        let mut maker = Maker::default();
+        let joint = |wedge: &Vec<Level>| {
+            let corners = &wedge[0].patches[0].corners;
+            [[0, 0, 0], corners[corners.len() - 1], corners[0]]
+        };
+        maker.parts(wedges, joint, |maker, wedge| maker.behind(wedge));
         maker.scene
     }
 
@@ -69,20 +77,36 @@ impl Maker {
             return NONE;
         }
         let (near, rest) = levels.split_at(levels.len() / 2);
-        let own = self.node(across(rest[0].y), &rest[0].patches);
+        let own = self.node(rest[0].plane, &rest[0].patches);
         let positive = self.halves(near);
         let negative = self.halves(&rest[1..]);
         self.hang(own, positive, negative)
     }
 
-    fn joints(&mut self, rings: &[Vec<Patch>]) -> u16 {
-        if let [ring] = rings {
-            return self.ring(ring);
+    fn behind(&mut self, levels: &[Level]) -> u16 {
+        let Some((level, rest)) = levels.split_first() else {
+            return NONE;
+        };
+        let own = self.node(level.plane, &level.patches);
+        let negative = self.behind(rest);
+        self.hang(own, NONE, negative)
+    }
+
+    /// Parts in a row, halved again and again by the plane before a part, which has
+    /// the earlier ones on its positive side.
+    fn parts<P>(
+        &mut self,
+        parts: &[P],
+        before: fn(&P) -> [Point; 3],
+        plant: fn(&mut Maker, &P) -> u16,
+    ) -> u16 {
+        if let [part] = parts {
+            return plant(self, part);
         }
-        let (near, far) = rings.split_at(rings.len() / 2);
-        let own = self.node(across(far[0][0].corners[0][1]), &[]);
-        let positive = self.joints(near);
-        let negative = self.joints(far);
+        let (first, rest) = parts.split_at(parts.len() / 2);
+        let own = self.node(before(&rest[0]), &[]);
+        let positive = self.parts(first, before, plant);
+        let negative = self.parts(rest, before, plant);
         self.hang(own, positive, negative)
     }
 
@@ -90,7 +114,7 @@ impl Maker {
         let Some((panel, rest)) = panels.split_first() else {
             return NONE;
         };
-        let plane = [0, 1, 2].map(|k: usize| panel.corners[k]);
+        let plane = plane_of(panel);
         let own = self.node(plane, std::slice::from_ref(panel));
         let inner = rest.last().is_some_and(|other| is_positive(&plane, other));
         let below = self.ring(rest);
@@ -107,8 +131,12 @@ impl Maker {
     }
 }
 
+pub fn plane_of(patch: &Patch) -> [Point; 3] {
+    [0, 1, 2].map(|k: usize| patch.corners[k])
+}
+
 /// The plane at y, its positive side the near one.
-fn across(y: i16) -> [Point; 3] {
+pub fn across(y: i16) -> [Point; 3] {
     [[0, y, 0], [1, y, 0], [0, y, 1]]
 }
 

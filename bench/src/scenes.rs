@@ -1,6 +1,6 @@
 //! The scenes that are timed.
 
-use crate::plant::{Level, Maker};
+use crate::plant::{across, Level, Maker};
 use outside::axes::{Axes, LEVEL};
 use outside::call::{Call, View};
 use outside::random::Random;
@@ -141,7 +141,7 @@ const SQUARE: [(f64, f64); 4] = [(-1.0, -1.0), (1.0, -1.0), (1.0, 1.0), (-1.0, 1
 fn level(k: usize, [x, y, z]: [f64; 3], [wide, high]: [f64; 2], shape: &[(f64, f64)]) -> Level {
     let corner = |p: &(f64, f64)| point([x + wide * p.0, y, z + high * p.1]);
     Level {
-        y: y as i16,
+        plane: across(y as i16),
         patches: vec![Patch {
             panel: k as u16 + 1,
             corners: shape.iter().map(corner).collect(),
