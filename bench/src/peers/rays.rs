@@ -7,7 +7,7 @@ use super::shapes::{Edge, Shapes, NOTHING};
 use super::tables::{wide, Tables};
 use outside::call::{Call, Lent};
 
-/// An edge in one row: inside where slope × column + start is above 0.
+/// An edge in one row: a cell's number is slope × column + start.
 #[derive(Clone, Copy)]
 struct RowEdge {
     slope: f64,
@@ -15,14 +15,19 @@ struct RowEdge {
 }
 
 impl RowEdge {
-    /// Numbers are whole, so that 1 more takes in a rising edge's own cells.
     fn of(edge: &Edge, row: usize) -> RowEdge {
-        let slope = edge.ramp.slope;
-        let own = if slope > 0.0 { 1.0 } else { 0.0 };
         RowEdge {
-            slope,
-            start: edge.ramp.at_row(row) + own,
+            slope: edge.ramp.slope,
+            start: edge.ramp.at_row(row),
         }
+    }
+
+    /// Are the lines beside the cell's inside? On the edge itself the way to the
+    /// right decides; edges along the row have said before which rows they keep.
+    #[inline]
+    fn takes(&self, column: f64) -> bool {
+        let number = self.slope * column + self.start;
+        number > 0.0 || (number == 0.0 && self.slope > 0.0)
     }
 }
 
@@ -66,7 +71,7 @@ impl Row {
         let mut first = 0;
         for &(number, end) in &self.shapes {
             let edges = &self.edges[first..end as usize];
-            if edges.iter().all(|e| e.slope * column + e.start > 0.0) {
+            if edges.iter().all(|edge| edge.takes(column)) {
                 return number;
             }
             first = end as usize;
