@@ -1,76 +1,78 @@
 -- An edge that counts in: one more at the start says that the line just beside a ray passes on the edge's side.
-use mathlib.Core.Path.{_≡_, refl, sym}
-use mathlib.Core.Logic.{_↔_, _⊎_, inl, inr}
-use mathlib.Core.Bool.{Bool, true, false, cond, _&&_}
+use mathlib.Core.Path.{_≡_, refl, sym, ap, subst, _∙_}
+use mathlib.Core.Logic.{_↔_, _≢_, _⊎_, inl, inr}
+use mathlib.Core.Bool.{Bool, true, false, cond}
 use mathlib.Core.List.{[], _∷_}
-use Prim.Native.Nat.{ℕ}
-use lib.Dec.{T}
-use lib.IntN.{ℤ, pos, _+ℤ_}
+use Prim.Native.Nat.{ℕ, zero, suc}
+use native.Mathlib.Omega.{arith}
+use lib.Dec.{T, lit<, lt→ltb}
+use lib.IntN.{ℤ, pos, negsuc, _+ℤ_}
 use lib.Signed.{ltZ, _<ℤ_, _≤ℤ_, ltZ-yes, clashℤ}
+use mir.Syntax.{w64}
+use mir.Val.{SFits, toZ, ofZ}
+use mir.ValLaws.{toZ-ofZ}
 use Rattle.integer.specs.Magnitude.{Within}
 use Rattle.integer.proofs.Identity.{ring, reify}
-use Rattle.integer.proofs.Magnitude.{within-literal}
-use Rattle.integer.proofs.Order.{<-by, <→≤, ≡→≤, ≤-suc, <-suc, ≤ℤ-antisym, +-mono-≤, Compared, below, same, above, compared}
+use Rattle.integer.proofs.Magnitude.{within-literal, within-stored}
+use Rattle.integer.proofs.Order.{lt-ltZ, le-ltZ, <-by, <→≤, ≡→≤, ≤-suc, <-suc, +-mono-≤, Compared, below, same, above, compared}
 use Rattle.model.specs.Vector.{isZero}
-use Rattle.model.proofs.Patches.{is-zero}
-use Rattle.model.proofs.Tests.{both, either}
 use Rattle.model.proofs.Steep.{Steep, FirstAbove, weighted, weighted-says}
 use Rattle.geometry.specs.Machine.{NumberIs}
-use Rattle.geometry.specs.Raster.{growsBeside, countsIn}
+use Rattle.geometry.specs.Raster.{oneAbove, countsIn}
 
--- above 0, or 0 and the next above 0
+-- ---- what the code tells by its comparisons
+
+pub is-above : (n : ℤ) → pos 0 <ℤ n → NumberIs 1 (oneAbove n) (pos 1)
+is-above n h = record { value = ap (λ (b : Bool). cond b (pos 1) (pos 0)) (sym (lt-ltZ h)); bounded = within-literal tt }
+
+pub not-above : (n : ℤ) → n ≤ℤ pos 0 → NumberIs 1 (oneAbove n) (pos 0)
+not-above n h = record { value = ap (λ (b : Bool). cond b (pos 1) (pos 0)) (sym (le-ltZ h)); bounded = within-literal tt }
+
+module _ (slope drop : ℤ) {r : ℤ} where
+  -- what is returned of a number, both passed through words, where the number is the first of the two that is not 0
+  counted-by :
+      {n : ℤ} → n ≡ cond (isZero slope) drop slope → SFits w64 n → NumberIs 1 (oneAbove (toZ w64 (ofZ w64 n))) r →
+      NumberIs 1 (countsIn slope drop) (toZ w64 (ofZ w64 r))
+  counted-by {n} is f h =
+      let e = within-stored w64 (h .bounded) (lit< tt) in
+      record { value = e ∙ h .value ∙ ap oneAbove (toZ-ofZ w64 n f ∙ is); bounded = subst (Within 1) (sym e) (h .bounded) }
+
+  pub by-drop :
+      slope ≡ pos 0 → SFits w64 drop → NumberIs 1 (oneAbove (toZ w64 (ofZ w64 drop))) r →
+      NumberIs 1 (countsIn slope drop) (toZ w64 (ofZ w64 r))
+  by-drop e f h = counted-by (ap (λ (s : ℤ). cond (isZero s) drop s) (sym e)) f h
+
+  pub by-slope :
+      slope ≢ pos 0 → SFits w64 slope → NumberIs 1 (oneAbove (toZ w64 (ofZ w64 slope))) r →
+      NumberIs 1 (countsIn slope drop) (toZ w64 (ofZ w64 r))
+  by-slope g f h = counted-by (go slope g) f h
+    where
+      go : (s : ℤ) → s ≢ pos 0 → s ≡ cond (isZero s) drop s
+      go (pos zero) g = absurd (g refl)
+      go (pos (suc n)) g = refl
+      go (negsuc n) g = refl
+
+-- ---- what one more at the start says
+
+-- the first of two numbers that is not 0 is above 0
 abbrev Rises : ℤ → ℤ → Type 0
 Rises y z = (pos 0 <ℤ y) ⊎ ((y ≡ pos 0) × (pos 0 <ℤ z))
 
-grows-says : (y z : ℤ) → T (growsBeside y z) ↔ Rises y z
-grows-says y z = (λ t. to (e .0 t), λ l. e .1 (from l))
+rises-says : (y z : ℤ) → T (ltZ (pos 0) (cond (isZero y) z y)) ↔ Rises y z
+rises-says (pos zero) z = (λ t. inr (refl, ltZ-yes t), from)
   where
-    e : T (growsBeside y z) ↔ (T (ltZ (pos 0) y) ⊎ T (isZero y && ltZ (pos 0) z))
-    e = either (ltZ (pos 0) y) (isZero y && ltZ (pos 0) z)
-
-    to : T (ltZ (pos 0) y) ⊎ T (isZero y && ltZ (pos 0) z) → Rises y z
-    to (inl t) = inl (ltZ-yes t)
-    to (inr t) = let s = both (isZero y) (ltZ (pos 0) z) .0 t in inr (is-zero y .0 (s .0), ltZ-yes (s .1))
-
-    from : Rises y z → T (ltZ (pos 0) y) ⊎ T (isZero y && ltZ (pos 0) z)
-    from (inl h) = inl (h .lt)
-    from (inr (f, h)) = inr (both (isZero y) (ltZ (pos 0) z) .1 (is-zero y .1 f, h .lt))
-
--- what the code tells by its comparisons
-module _ (y z : ℤ) where
-  pub counted : Rises y z → NumberIs 1 (countsIn y z) (pos 1)
-  counted h = go (growsBeside y z) (grows-says y z .1 h)
-    where
-      go : (b : Bool) → T b → NumberIs 1 (cond b (pos 1) (pos 0)) (pos 1)
-      go true t = record { value = refl; bounded = within-literal tt }
-      go false t = absurd t
-
-  uncounted : (Rises y z → ⊥) → NumberIs 1 (countsIn y z) (pos 0)
-  uncounted f = go (growsBeside y z) (λ t. f (grows-says y z .0 t))
-    where
-      go : (b : Bool) → (T b → ⊥) → NumberIs 1 (cond b (pos 1) (pos 0)) (pos 0)
-      go true g = absurd (g tt)
-      go false g = record { value = refl; bounded = within-literal tt }
-
-  pub falling : y <ℤ pos 0 → NumberIs 1 (countsIn y z) (pos 0)
-  falling h = uncounted no
-    where
-      no : Rises y z → ⊥
-      no (inl k) = clashℤ k (<→≤ h)
-      no (inr (e, _)) = clashℤ h (≡→≤ (sym e))
-
-  pub rising-down : pos 0 ≤ℤ y → y ≤ℤ pos 0 → pos 0 <ℤ z → NumberIs 1 (countsIn y z) (pos 1)
-  rising-down h k l = counted (inr (≤ℤ-antisym k h, l))
-
-  pub level : y ≤ℤ pos 0 → z ≤ℤ pos 0 → NumberIs 1 (countsIn y z) (pos 0)
-  level h k = uncounted no
-    where
-      no : Rises y z → ⊥
-      no (inl l) = clashℤ l h
-      no (inr (_, l)) = clashℤ l k
+    from : Rises (pos zero) z → T (ltZ (pos 0) z)
+    from (inl h) = clashℤ h (≡→≤ refl)
+    from (inr (_, h)) = h .lt
+rises-says (pos (suc n)) z = (λ t. inl (ltZ-yes t), λ h. lt→ltb 0 (suc n) (omega arith))
+rises-says (negsuc n) z = (λ t. absurd t, from)
+  where
+    from : Rises (negsuc n) z → ⊥
+    from (inl h) = h .lt
+    from (inr (e, _)) = clashℤ (ltZ-yes {a = negsuc n} {b = pos 0} tt) (≡→≤ (sym e))
 
 first-start : (x y z : ℤ) → FirstAbove x y z ↔ (pos 0 <ℤ (x +ℤ countsIn y z))
-first-start x y z = go (growsBeside y z) (grows-says y z)
+first-start x y z = go (ltZ (pos 0) (cond (isZero y) z y)) (rises-says y z)
   where
     go : (b : Bool) → T b ↔ Rises y z → FirstAbove x y z ↔ (pos 0 <ℤ (x +ℤ cond b (pos 1) (pos 0)))
     go true says = (λ l. ≤-suc (at-least l), λ h. by (compared (pos 0) x) (<-suc h))

@@ -1,6 +1,6 @@
 -- The rays of a picture, the lines just beside them, and numbers that change evenly over it.
 use mathlib.Core.Path.{_≡_}
-use mathlib.Core.Bool.{Bool, cond, _&&_, _||_}
+use mathlib.Core.Bool.{cond}
 use Prim.Native.Nat.{ℕ, _*_}
 use lib.IntN.{ℤ, pos, _+ℤ_}
 use lib.Signed.{ltZ}
@@ -27,13 +27,14 @@ pub record RasterBounded (r : Raster) : Type 0 where
   pub across-bounded : Bounded 200 (r .across)
   pub down-bounded : Bounded 200 (r .down)
 
--- a number grows from column to column or, the same in all columns, from row to row: where it is 0 at a ray it is then above 0 just beside it
-abbrev pub growsBeside : ℤ → ℤ → Bool
-growsBeside slope drop = ltZ (pos 0) slope || (isZero slope && ltZ (pos 0) drop)
+-- 1 for a number above 0, 0 for any other
+abbrev pub oneAbove : ℤ → ℤ
+oneAbove n = cond (ltZ (pos 0) n) (pos 1) (pos 0)
 
--- 1 for an edge that counts in: a ray that runs along it passes on the patch's side. These are a patch's left edges and, of those along a row, its upper ones.
+-- 1 for an edge that counts in: its number grows from column to column or, the same in all columns, from row to row. A ray that runs along the edge has 0 there, and
+-- the line just beside the ray passes on the patch's side. These are a patch's left edges and, of those along a row, its upper ones.
 abbrev pub countsIn : ℤ → ℤ → ℤ
-countsIn slope drop = cond (growsBeside slope drop) (pos 1) (pos 0)
+countsIn slope drop = oneAbove (cond (isZero slope) drop slope)
 
 -- The products of the rays with an edge vector, one more where the edge counts in: above 0 exactly where the line just beside the ray passes on the side that the
 -- edge vector points to (`line-seen`, in `edges`).

@@ -3,7 +3,7 @@ ghost use mathlib.Core.Path.{_≡_};
 ghost use Rattle.model.specs.Vector.{minus, dot, cross, planeNormal};
 ghost use Rattle.model.specs.Questions.{upTo, partsUpTo};
 ghost use Rattle.geometry.specs.Machine.{vecOf, planeOf, Bounded, VectorIs, NumberIs};
-ghost use Rattle.geometry.specs.Raster.{RasterBounded, FunctionIs, countsIn, seenBy};
+ghost use Rattle.geometry.specs.Raster.{RasterBounded, FunctionIs, oneAbove, countsIn, seenBy};
 
 pub struct Vector {
     pub x: i64,
@@ -115,20 +115,24 @@ pub fn edge_vector(eye: Vector, v: Vector, w: Vector) -> Vector
     plane_normal(eye, v, w)
 }
 
+// 1 for a number above 0, 0 for any other
+fn one_above(n: i64) -> i64
+    ensures { λ r. ⌜ NumberIs 1 (oneAbove n) r ⌝ }
+{
+    if 0 < n {
+        return 1;
+    }
+    0
+}
+
 // 1 for an edge that counts in: its number grows from column to column or, the same in all columns, from row to row
 fn counts_in(slope: i64, drop: i64) -> i64
     ensures { λ r. ⌜ NumberIs 1 (countsIn slope drop) r ⌝ }
 {
-    if slope < 0 {
-        return 0;
+    if slope == 0 {
+        return one_above(drop);
     }
-    if 0 < slope {
-        return 1;
-    }
-    if 0 < drop {
-        return 1;
-    }
-    0
+    one_above(slope)
 }
 
 // The products of a raster's rays with an edge vector, one more where the edge counts in. All are whole numbers: where the product is 0, one more is above 0, and
