@@ -1,5 +1,5 @@
 #!/usr/bin/env bash
-# The tests from outside, over the library as it was just proved: the C header, the console example, the stored bills, the inputs and outputs that fail, and through the C interface the stored cases and the
+# The tests from outside, over the library as it was just proved: its read-only memory, the C header, the console example, the stored bills, the inputs and outputs that fail, and through the C interface the stored cases and the
 # ray-by-ray program in Rust.
 #   outside.sh [CASES [SEED]]      more cases, or others
 set -euo pipefail
@@ -17,6 +17,7 @@ ringbill=$PWD/target/bin/ringbill
 
 # What runs in the background is beside the next, as each keeps one core busy.
 from_c() {
+    python3 tests/readonly.py "$SURVEY_LIB_DIR"
     python3 tests/header.py "$SURVEY_LIB_DIR"
     tests/console.sh "$SURVEY_LIB_DIR"
 }

@@ -5,7 +5,7 @@
 //! The cases: `random`, `polygon`, `soup`, `works`, `hinge`, `tree`, `loose`,
 //! `mount`, `view`, `generate`, `damage`, `stored`, `header`, `outer`, `pairs`.
 //! Cases with what is due known beforehand: `trial`, `turned`, `booking`,
-//! `joints`, and from files `block`, `cases`.
+//! `joints`, `stretches`, and from files `block`, `cases`.
 //! The comparison: `compare`, `differential`, `tally`, `beside`; and what shows
 //! that it can fail: `fault`, `wrong_gate`, `wrong_lengths`, `wrong_questions`,
 //! `wrong_paint`, `wrong_joints`, `wrong_camera`, `wrong_booking`,
@@ -42,6 +42,7 @@ pub mod soup;
 pub mod stations;
 pub mod steps;
 pub mod stored;
+pub mod stretches;
 pub mod survey;
 pub mod tally;
 pub mod tree;

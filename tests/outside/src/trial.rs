@@ -1,5 +1,6 @@
 //! Calls with what is due for them, known beforehand: the turned stations,
-//! those booked patch by patch, those of joints, and the stored cases.
+//! those booked patch by patch, those of joints, those of stretches, and the
+//! stored cases.
 
 use crate::block::Reading;
 use crate::booking::booking;
@@ -10,6 +11,7 @@ use crate::joints::joints;
 use crate::random::Random;
 use crate::ray::Sight;
 use crate::scene::Scene;
+use crate::stretches::stretches;
 use crate::survey::{counts, is_read_otherwise, Done, Due};
 use crate::turned::turned;
 
@@ -79,6 +81,7 @@ fn suites() -> Reading<Vec<Suite>> {
         told("the booked stations", Sight::Beside, booking()),
         told("the joint stations", Sight::Beside, joints(Sight::Beside)),
         told("the joints before F-3", Sight::Plain, joints(Sight::Plain)),
+        told("the stretch stations", Sight::Beside, stretches()),
     ];
     all.extend(stored()?);
     Ok(all)

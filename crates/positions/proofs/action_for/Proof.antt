@@ -1,76 +1,41 @@
--- `action_for` meets its contract: the table obeys its rule, which is one computed test, and the rule says the contract.
+-- `action_for` meets its contract: before the span and after it one comparison settles all four, and between them each is one of its own.
 use mathlib.Core.Path.{refl}
-use mathlib.Core.List.{[], _∷_}
 use native.Mathlib.Omega.{arith}
-use borrow.Author.Needs.{needs}
-use Rattle.positions.specs.Positions.{by-start, beyond, ahead, past}
-use Rattle.positions.proofs.Actions.{acts, acts-by, start-below, end-below}
+use borrow.Author.Tests.{lt-ltb, le-ltb, le-leb, lt-leb}
 use Rattle.positions.proofs.action_for.Statement.{statement}
 use Rattle.positions.proofs.action_for.Tie as tie
 
-array-read-decoded : tie.Need-array-read-decoded
-array-read-decoded c = search needs
-
-decoded-requires : tie.Need-decoded-requires
-decoded-requires c κs = search needs
-
 returns : tie.Need-returns
 returns c =
-    let t = c .before in
-    let b = t .before in
-    acts _ _ _ _ (b .pre .0) (b .pre .1) (c .decoded .ensures) 2 3 (beyond (t .if1 .taken)) (past (omega arith)) tt
-
-array-read-decoded-2 : tie.Need-array-read-decoded-2
-array-read-decoded-2 c = search needs
-
-decoded-requires-2 : tie.Need-decoded-requires-2
-decoded-requires-2 c κs = search needs
+    let s = c .before in
+    let h = c .if1 .taken in
+    record {
+      paint-is = rw (lt-leb (s .args .first) (s .args .max) h);
+      before-is = rw (lt-ltb (s .args .min) (s .args .first) (omega (arith, s .pre)));
+      after-is = rw (le-ltb (s .args .last) (s .args .max) (omega (arith, s .pre)));
+      next-is = rw (lt-ltb (s .args .max) (s .args .last) (omega (arith, s .pre)));
+    }
 
 returns-2 : tie.Need-returns-2
 returns-2 c =
-    let t = c .before in
-    let b = t .before .before in
-    acts _ _ _ _ (b .pre .0) (b .pre .1) (c .decoded2 .ensures) 0 0 (by-start (omega arith)) (ahead (t .if2 .taken)) tt
-
-start-place-requires : tie.Need-start-place-requires
-start-place-requires c κs = search needs
-
-mul-i : tie.Need-mul-i
-mul-i c = omega (arith, start-below (c .start-place .ensures))
-
-end-place-requires : tie.Need-end-place-requires
-end-place-requires c κs = search needs
-
-add-i : tie.Need-add-i
-add-i c = omega (arith, start-below (c .before .start-place .ensures), end-below (c .end-place .ensures))
-
-array-read-decoded-3 : tie.Need-array-read-decoded-3
-array-read-decoded-3 c = omega (arith, start-below (c .before .start-place .ensures), end-below (c .end-place .ensures))
-
-decoded-requires-3 : tie.Need-decoded-requires-3
-decoded-requires-3 c κs = search needs
+    let s = c .before .before in
+    let h = c .if2 .taken in
+    record {
+      paint-is = rw (le-leb (s .args .first) (s .args .max) (c .before .if1 .left), lt-leb (s .args .min) (s .args .last) h);
+      before-is = rw (le-ltb (s .args .min) (s .args .first) (omega (arith, s .pre)));
+      after-is = rw (lt-ltb (s .args .last) (s .args .max) (omega (arith, s .pre)));
+      next-is = rw (le-ltb (s .args .max) (s .args .last) (omega (arith, s .pre)));
+    }
 
 returns-3 : tie.Need-returns-3
 returns-3 c =
-    let e = c .before in
-    let b = e .before .before .before .before in
-    acts-by _ _ _ _ (b .pre .0) (b .pre .1) (_ ∷ _ ∷ _ ∷ _ ∷ _ ∷ _ ∷ _ ∷ _ ∷ _ ∷ _ ∷ _ ∷ _ ∷ []) refl _ _
-    (c .decoded3 .ensures) (e .before .start-place .ensures) (e .end-place .ensures) tt
+    let s = c .before .before in
+    record {
+      paint-is = rw (le-leb (s .args .first) (s .args .max) (c .before .if1 .left), le-leb (s .args .min) (s .args .last) (c .if2 .left));
+      before-is = refl;
+      after-is = refl;
+      next-is = refl;
+    }
 
 pub action-for-spec : {M : Type 1} → statement M
-action-for-spec =
-    tie.close
-    (tie.spec
-    array-read-decoded
-    decoded-requires
-    returns
-    array-read-decoded-2
-    decoded-requires-2
-    returns-2
-    start-place-requires
-    mul-i
-    end-place-requires
-    add-i
-    array-read-decoded-3
-    decoded-requires-3
-    returns-3)
+action-for-spec = tie.close (tie.spec returns returns-2 returns-3)

@@ -3,17 +3,17 @@ use Prim.Native.Nat.{_≤_}
 use native.Mathlib.Omega.{arith}
 use borrow.Author.Needs.{needs}
 use Rattle.text.proofs.Lengths.{decimal-length}
-use Rattle.rows_demo.proofs.put_row.Statement.{statement}
-use Rattle.rows_demo.proofs.put_row.Tie as tie
+use Rattle.row_lines.proofs.put_row.Statement.{statement}
+use Rattle.row_lines.proofs.put_row.Tie as tie
 
 put-number-requires : tie.Need-put-number-requires
 put-number-requires c κs =
-    record { within = omega (arith, decimal-length _ (c .before .before .before .before .fits .position .fits)) }
+    record { within = omega (arith, decimal-length _ (c .before .before .before .before .fits .number .fits)) }
 
--- the position's number is at most ten bytes long
+-- the line's number is at most ten bytes long
 few : (c : tie.After-put-number) → c .put-number .result ≤ 10
 few c =
-    omega (arith, c .put-number .ensures .end, decimal-length _ (c .before .before .before .before .before .fits .position .fits))
+    omega (arith, c .put-number .ensures .end, decimal-length _ (c .before .before .before .before .before .fits .number .fits))
 
 put-byte-requires : tie.Need-put-byte-requires
 put-byte-requires c κs = record { within = omega (arith, few (c .before .before .before)) }

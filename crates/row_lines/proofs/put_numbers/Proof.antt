@@ -5,8 +5,8 @@ use native.Mathlib.Omega.{arith}
 use borrow.Author.Needs.{needs}
 use lib.ListN.{length}
 use Rattle.text.proofs.Lengths.{spaced-length}
-use Rattle.rows_demo.proofs.put_numbers.Statement.{statement}
-use Rattle.rows_demo.proofs.put_numbers.Tie as tie
+use Rattle.row_lines.proofs.put_numbers.Statement.{statement}
+use Rattle.row_lines.proofs.put_numbers.Tie as tie
 
 abbrev Inv-loop : tie.InvT-loop
 Inv-loop out₀ at numbers end₀ i₀ out end i = (i ≤ length numbers) × (end ≤ at + 11 * i) × (length out ≡ length out₀)

@@ -1,3 +1,0 @@
--- These serve the functions' proofs.
-mod Table
-mod Actions

@@ -1,0 +1,53 @@
+// Lays spans on a row of 256 columns whose segments are as narrow and as many as they can be: panel 1 leaves 64 segments of three columns, panel 2 splits each of them
+// in its middle, and the 128 segments of one column that stay are painted over by panel 3, one by one in each way that a span can meet one, and at last by one span over the whole row.
+// Writes after each step its number, the row's used pairs and its cells.
+use row_lines::write_row;
+ghost use lib.ListN.{length};
+ghost use Rattle.rows.specs.Span.{Row};
+
+// Spans of one column, on every fourth column from the first of them on.
+fn lay_every_fourth(row: &mut [u16; 256], cells: &mut [u16], first: u16, panel: u16)
+    requires { ⌜ Row (length (now cells)) (now row) ⌝ }
+    ensures { λ r. ⌜ Row (length (now (cells .exit))) (now (row .exit)) ⌝ }
+{
+    let mut column = first;
+    while column < 256 {
+        rows::lay(row, cells, column, column, panel);
+        column += 4;
+    }
+}
+
+fn show(step: u32, row: &[u16; 256], cells: &[u16])
+    requires { ⌜ Row (length (now cells)) (now row) ⌝ }
+{
+    write_row(
+        step,
+        row,
+        cells,
+        b"rows_narrow: a row could not be written\n",
+    );
+}
+
+// A span of panel 3.
+fn lay_over(step: u32, row: &mut [u16; 256], cells: &mut [u16], first: u16, last: u16)
+    requires { ⌜ Row (length (now cells)) (now row) ⌝ }
+    ensures { λ r. ⌜ Row (length (now (cells .exit))) (now (row .exit)) ⌝ }
+{
+    rows::lay(row, cells, first, last, 3);
+    show(step, row, cells);
+}
+
+fn main() {
+    let mut cells = [0u16; 256];
+    let mut row = rows::fresh(256);
+    lay_every_fourth(&mut row, &mut cells, 3, 1);
+    show(1, &row, &cells);
+    lay_every_fourth(&mut row, &mut cells, 1, 2);
+    show(2, &row, &cells);
+    // the segments of columns 20, 40, 60 and 80: met alone, from both sides, from before, and from behind
+    lay_over(3, &mut row, &mut cells, 20, 20);
+    lay_over(4, &mut row, &mut cells, 39, 41);
+    lay_over(5, &mut row, &mut cells, 59, 60);
+    lay_over(6, &mut row, &mut cells, 80, 81);
+    lay_over(7, &mut row, &mut cells, 0, 255);
+}
