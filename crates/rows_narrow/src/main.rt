@@ -1,6 +1,6 @@
-// Lays spans on a row of 256 columns whose segments are as narrow and as many as they can be: panel 1 leaves 64 segments of three columns, panel 2 splits each of them
-// in its middle, and the 128 segments of one column that stay are painted over by panel 3, one by one in each way that a span can meet one, and at last by one span over the whole row.
-// Writes after each step its number, the row's used pairs and its cells.
+// Lays spans on a row of 256 columns whose segments are as narrow and as many as they can be: panel 1 leaves 64 segments of three columns, and panel 2 splits each of them
+// in its middle, which leaves 128 of one column. Panel 3 is laid over all of these by one span, and then, on a copy, over four of them alone, in each way that a span can meet
+// one, and over the other 124 by one span. Writes after each step its number, the row's used pairs and its cells.
 use row_lines::write_row;
 ghost use lib.ListN.{length};
 ghost use Rattle.rows.specs.Span.{Row};
@@ -44,10 +44,13 @@ fn main() {
     show(1, &row, &cells);
     lay_every_fourth(&mut row, &mut cells, 1, 2);
     show(2, &row, &cells);
+    let mut other_cells = cells;
+    let mut other = row;
+    lay_over(3, &mut row, &mut cells, 0, 255);
     // the segments of columns 20, 40, 60 and 80: met alone, from both sides, from before, and from behind
-    lay_over(3, &mut row, &mut cells, 20, 20);
-    lay_over(4, &mut row, &mut cells, 39, 41);
-    lay_over(5, &mut row, &mut cells, 59, 60);
-    lay_over(6, &mut row, &mut cells, 80, 81);
-    lay_over(7, &mut row, &mut cells, 0, 255);
+    lay_over(4, &mut other, &mut other_cells, 20, 20);
+    lay_over(5, &mut other, &mut other_cells, 39, 41);
+    lay_over(6, &mut other, &mut other_cells, 59, 60);
+    lay_over(7, &mut other, &mut other_cells, 80, 81);
+    lay_over(8, &mut other, &mut other_cells, 0, 255);
 }

@@ -51,7 +51,7 @@ fn behind(before: [Board; 2], width: u16, (name, span, row): (&str, [i16; 2], &s
 }
 
 /// "Span I to J meets a stretch Min to Max in one of eight positions": here
-/// columns 5 to 11, with a stretch before and one behind.
+/// columns 5 to 11, with one stretch to the left and one to the right.
 fn of_positions() -> Vec<Trial> {
     let before = [(1, [2, 4]), (3, [12, 13])];
     [
@@ -66,14 +66,14 @@ fn of_positions() -> Vec<Trial> {
         ("7: I > Min, J > Max", [6, 14], "0011102222223320"),
         ("7: I = Max, J > Max", [11, 12], "0011100000023300"),
         ("8: I > Max", [13, 14], "0011100000003320"),
-        ("6, 6, 6", [0, 15], "2211122222223322"),
+        ("6, 6, 4", [0, 15], "2211122222223322"),
         ("7, 6, 2", [1, 14], "0211122222223320"),
     ]
     .map(|told| behind(before, 16, told))
     .into()
 }
 
-/// A stretch of one column, 3, with one before and one behind.
+/// A stretch of one column, 3, with one to the left and one to the right.
 fn of_one_column() -> Vec<Trial> {
     let before = [(1, [1, 2]), (3, [4, 5])];
     [

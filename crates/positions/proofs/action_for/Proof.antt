@@ -1,4 +1,4 @@
--- `action_for` meets its contract: before the span and after it one comparison settles all four, and between them each is one of its own.
+-- `action_for` meets its contract: of a segment before the span or after it one comparison settles all four parts; any other has columns to paint, and the three other parts are each one comparison.
 use mathlib.Core.Path.{refl}
 use native.Mathlib.Omega.{arith}
 use borrow.Author.Tests.{lt-ltb, le-ltb, le-leb, lt-leb}
