@@ -1,4 +1,4 @@
-// Two scenes seen in one view: what taking panels away changes (demand 3).
+// Two scenes seen in one view: what taking panels away changes (demand 3), and that two cuttings of one ring show the same (document 02, F-5).
 use survey::ring_survey;
 ghost use Rattle.model.specs.Vector.{vec};
 ghost use Rattle.contract.specs.Contract.{axesBy, cameraBy, viewFrom, lentOf};

@@ -1,5 +1,5 @@
--- Demands 1, 2 and 3, from the survey's contract alone.
-use mathlib.Core.Path.{_≡_, sym, _∙_, ap, subst}
+-- Demands 1, 2 and 3 and two cuttings, from the survey's contract alone.
+use mathlib.Core.Path.{_≡_, sym, _∙_, ap, subst, subst₂}
 use mathlib.Core.Bool.{Bool, not, cond}
 use mathlib.Core.Logic.{_↔_}
 use mathlib.Core.List.{List, [], _∷_, map, sum}
@@ -15,7 +15,7 @@ use Rattle.model.specs.Beside.{ShownBeside, cellLine}
 use Rattle.model.specs.Lent.{Lent}
 use Rattle.model.specs.Format.{decode}
 use Rattle.model.specs.Row.{rowOf, rowLength}
-use Rattle.model.specs.Picture.{counts, countEntries, unlitLists}
+use Rattle.model.specs.Picture.{cells, picture, counts, countEntries, unlitLists}
 use Rattle.model.specs.Questions.{Question, answer, sceneQuestions, callQuestions, questions, surveyAnswer}
 use Rattle.model.specs.Booking.{cellsWhere}
 use Rattle.model.specs.Survey.{callPicture, callCounts, callPatchCells, callUnlit}
@@ -36,7 +36,9 @@ use Rattle.segments.proofs.Rows.{row-length, row-congr}
 use Rattle.contract.proofs.Refusal.{left-old}
 use Rattle.model.proofs.PanelNumbers.{panel-bounded}
 use Rattle.contract.specs.Contract.{callOn, results, leftBy, Surveyed}
-use Rattle.demands.specs.Demands.{patchesIn, cell, patchHas, RefusesRightly, ClosestPanels, ClosestSurveyed, ChosenTakenAway, DemandThree, PairSurveyed}
+use Rattle.cuttings.specs.Cuttings.{SameCover}
+use Rattle.cuttings.proofs.Cuttings.{same-cells}
+use Rattle.demands.specs.Demands.{patchesIn, cell, patchHas, RefusesRightly, ClosestPanels, ClosestSurveyed, ChosenTakenAway, DemandThree, SameRing, TwoCuttings, PairSurveyed}
 
 -- an accepted call leaves the results
 pub accepted-leaves :
@@ -192,6 +194,25 @@ module _
               (beside-right v (accepted .view) (accepted .axes) (kept-sound chosen (table-sound (accepted .scene))) i j);
         }
 
+module _
+    (firstBytes secondBytes : List ℕ) (v : View) (before₁ before₂ : Lent)
+    (first-accepted : AcceptedCall (callOn firstBytes v before₁))
+    (second-accepted : AcceptedCall (callOn secondBytes v before₂))
+    (same : SameCover (patchesIn firstBytes) (patchesIn secondBytes))
+  where
+    -- all three go by what the cells show
+    same-ring : SameRing (results (callOn firstBytes v before₁)) (results (callOn secondBytes v before₂))
+    unfolding callPicture callCounts callUnlit picture
+    same-ring =
+        let shown =
+        same-cells v (first-accepted .view) (first-accepted .axes) (table-sound (first-accepted .scene))
+        (table-sound (second-accepted .scene)) same in
+        record {
+          pictures = ap (cells (viewWidth v) (viewHeight v)) shown;
+          panelCounts = ap (λ (f : ℕ → ℕ → ℕ). counts (cells (viewWidth v) (viewHeight v) f)) shown;
+          unlitLists = ap (unlitLists (viewWidth v) (viewHeight v)) shown;
+        }
+
 -- Demand 2.
 pub closest-panels :
     {bytes : List ℕ} {v : View} {before after : Lent} {result : ℕ} →
@@ -221,10 +242,29 @@ chosen-panels-taken-away {firstBytes} {secondBytes} {v} {before₁} {after₁} {
     (taken-away firstBytes secondBytes v before₁ before₂ chosen taken
     (accepted-call (callOn firstBytes v before₁) .0 (sym (h .answered) ∙ e))))
 
--- both calls, and demand 3
+-- Two cuttings of one ring.
+pub cuttings-surveyed :
+    {firstBytes secondBytes : List ℕ} {v : View} {before₁ after₁ before₂ after₂ : Lent} {result₁ result₂ : ℕ} →
+    Surveyed firstBytes v before₁ after₁ result₁ →
+    Surveyed secondBytes v before₂ after₂ result₂ →
+    TwoCuttings firstBytes secondBytes after₁ after₂ result₁ result₂
+cuttings-surveyed {firstBytes} {secondBytes} {v} {before₁} {after₁} {before₂} {after₂} h k e f same =
+    subst₂ SameRing (sym (accepted-leaves h e)) (sym (accepted-leaves k f))
+    (same-ring firstBytes secondBytes v before₁ before₂
+    (accepted-call (callOn firstBytes v before₁) .0 (sym (h .answered) ∙ e))
+    (accepted-call (callOn secondBytes v before₂) .0 (sym (k .answered) ∙ f))
+    same)
+
+-- both calls, demand 3 and two cuttings
 pub pair-surveyed :
     {firstBytes secondBytes : List ℕ} {v : View} {before₁ after₁ before₂ after₂ : Lent} {result₁ result₂ : ℕ} →
     Surveyed firstBytes v before₁ after₁ result₁ →
     Surveyed secondBytes v before₂ after₂ result₂ →
     PairSurveyed firstBytes secondBytes v before₁ after₁ before₂ after₂ result₁ result₂
-pair-surveyed h k = record { first-call = closest-surveyed h; second-call = closest-surveyed k; demand-three = chosen-panels-taken-away h k }
+pair-surveyed h k =
+    record {
+      first-call = closest-surveyed h;
+      second-call = closest-surveyed k;
+      demand-three = chosen-panels-taken-away h k;
+      two-cuttings = cuttings-surveyed h k;
+    }

@@ -1,2 +1,2 @@
--- Demands 1 to 3, from the survey's contract.
+-- Demands 1 to 3 and two cuttings, from the survey's contract.
 pub mod Demands

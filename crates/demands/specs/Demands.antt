@@ -1,4 +1,4 @@
--- Demands 1 to 3 as statements about calls.
+-- Demands 1 to 3 as statements about calls, and of two cuttings of one ring (document 02, F-5).
 use mathlib.Core.Path.{_≡_}
 use mathlib.Core.Bool.{Bool, cond}
 use mathlib.Core.Logic.{_↔_}
@@ -19,6 +19,7 @@ use Rattle.model.specs.Call.{Call}
 use Rattle.model.specs.Questions.{Question, questions, surveyAnswer}
 use Rattle.model.specs.Removal.{isChosen, kept, TakenAway}
 use Rattle.contract.specs.Contract.{callOn, results, Surveyed}
+use Rattle.cuttings.specs.Cuttings.{SameCover}
 
 -- the patches of a scene
 abbrev pub patchesIn : List ℕ → List Patch
@@ -115,9 +116,23 @@ DemandThree firstBytes secondBytes v first second firstResult secondResult =
     TakenAway chosen (patchesIn firstBytes) (patchesIn secondBytes) →
     ChosenTakenAway firstBytes chosen v first second
 
--- Both calls, each as the survey call promises it, and demand 3 of them.
+-- Document 02, F-5, of two accepted calls with one view: "their pictures and panel counts must agree". The unlit lists go by the picture, so they agree too. "Patch
+-- counts may differ": nothing is said of them, nor of the counters, which may have been different before.
+pub record SameRing (first second : Lent) : Type 0 where
+  pub pictures : first .picture ≡ second .picture
+  pub panelCounts : first .counts ≡ second .counts
+  pub unlitLists : first .unlit ≡ second .unlit
+
+-- F-5: "Take two accepted scenes where each panel covers the same points of space, its pieces' edges and corners counted in, whatever its pieces. .. From every
+-- accepted view their pictures and panel counts must agree, by the joint rule of F-3." The view is the one of both calls; the trees and what the buffers held have no part in it.
+abbrev pub TwoCuttings : (firstBytes secondBytes : List ℕ) (first second : Lent) (firstResult secondResult : ℕ) → Type 0
+TwoCuttings firstBytes secondBytes first second firstResult secondResult =
+    firstResult ≡ 0 → secondResult ≡ 0 → SameCover (patchesIn firstBytes) (patchesIn secondBytes) → SameRing first second
+
+-- Both calls, each as the survey call promises it, demand 3 of them, and what F-5 says of two cuttings.
 pub record PairSurveyed
     (firstBytes secondBytes : List ℕ) (v : View) (before₁ after₁ before₂ after₂ : Lent) (result₁ result₂ : ℕ) : Type 0 where
   pub first-call : ClosestSurveyed firstBytes v before₁ after₁ result₁
   pub second-call : ClosestSurveyed secondBytes v before₂ after₂ result₂
   pub demand-three : DemandThree firstBytes secondBytes v after₁ after₂ result₁ result₂
+  pub two-cuttings : TwoCuttings firstBytes secondBytes after₁ after₂ result₁ result₂

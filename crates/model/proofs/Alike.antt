@@ -3,7 +3,7 @@ use mathlib.Core.Path.{_≡_, refl, sym, _∙_, ap, ap₂, subst}
 use mathlib.Core.Logic.{_↔_, _≢_}
 use mathlib.Core.Bool.{not}
 use mathlib.Core.List.{List, [], _∷_, List·Memᴰ}
-use Prim.Native.Nat.{ℕ, zero, suc, _*_, _≤_, _<_}
+use Prim.Native.Nat.{ℕ, zero, suc, _*_, _<_}
 use native.Mathlib.Nat.{lt-of-mul-lt-mul-left, mul-pos, mul-lt-mul-of-pos-left}
 use native.Mathlib.Omega.{arith}
 use lib.Dec.{T, T-not, not-T, lit≤, ltb→lt, lt→ltb}
@@ -125,7 +125,7 @@ module _ {eye : Vec} (eye-within : VecWithin 10000 eye) where
     corner-within : (k : ℕ) → k < 3 → VecWithin 10000 (corner p k)
     corner-within k l = ranged .corners (corner-mem proper k l)
 
-    normal-within : VecWithin 800000000 (normal p)
+    pub normal-within : VecWithin 800000000 (normal p)
     normal-within =
         let a = corner-within 0 (omega arith) in
         vec-more (cross-within (minus-within (corner-within 1 (omega arith)) a) (minus-within (corner-within 2 (omega arith)) a)) (lit≤ tt)

@@ -1,5 +1,5 @@
 -- The lines just beside a sight line all show the same, and the line that a cell is read along shows it too.
-use mathlib.Core.Path.{_≡_, sym, subst}
+use mathlib.Core.Path.{_≡_, sym, _∙_, subst}
 use mathlib.Core.Logic.{_↔_, _≢_, inl, inr}
 use mathlib.Core.List.{[], _∷_}
 use Prim.Native.Nat.{ℕ, suc, _+_, _*_, _≤_, _<_}
@@ -8,6 +8,7 @@ use native.Mathlib.Omega.{arith}
 use lib.Dec.{T, lit≤, lit<, lt→ltb, le→leb}
 use lib.IntN.{ℤ, pos, negℤ}
 use lib.Signed.{_<ℤ_, ltZ-yes, leZ-yes}
+use Rattle.integer.specs.Magnitude.{Within}
 use Rattle.integer.proofs.Identity.{ring, reify}
 use Rattle.integer.proofs.Magnitude.{within-more, within-negation}
 use Rattle.model.specs.Vector.{Vec, minus, plus, times, dot}
@@ -15,7 +16,7 @@ use Rattle.model.specs.Bounds.{VecWithin}
 use Rattle.model.specs.View.{Axes, Camera, direction}
 use Rattle.model.specs.Beside.{stepped, JustBeside, fine, cellLine}
 use Rattle.model.specs.Questions.{axesProper}
-use Rattle.model.proofs.Steep.{Steep, FirstAbove, weighted, weighted-says}
+use Rattle.model.proofs.Steep.{Steep, FirstAbove, weighted, weighted-says, weighted-zero}
 use Rattle.model.proofs.CallLimits.{axes-bounded}
 use Rattle.model.proofs.Sizes.{parts-within, dot-within}
 use Rattle.model.proofs.Alike.{largest, Alike, alike-sym}
@@ -78,6 +79,12 @@ module _ (k : Camera) (axes : T (axesProper (k .axes))) (i j : ℕ) where
   abbrev line : ℤ → ℤ → ℤ → Vec
   line = lean (k .axes) (direction k i j)
 
+  right-part : {w : Vec} → VecWithin largest w → Within most (dot (k .axes .right) w)
+  right-part h = within-more (dot-within right h) (lit≤ tt)
+
+  up-part : {w : Vec} → VecWithin largest w → Within most (negℤ (dot (k .axes .up) w))
+  up-part h = within-negation (within-more (dot-within up h) (lit≤ tt))
+
   leans :
       {α β γ : ℤ} → Steep (pos most) α β γ → {w : Vec} → VecWithin largest w →
       (pos 0 <ℤ dot (line α β γ) w)
@@ -87,7 +94,7 @@ module _ (k : Camera) (axes : T (axesProper (k .axes))) (i j : ℕ) where
       (λ (z : ℤ).
       (pos 0 <ℤ z) ↔ FirstAbove (dot (direction k i j) w) (dot (k .axes .right) w) (negℤ (dot (k .axes .up) w)))
       (sym (lean-dot (k .axes) (direction k i j) w α β γ))
-      (weighted-says s (within-more (dot-within right h) (lit≤ tt)) (within-negation (within-more (dot-within up h) (lit≤ tt))))
+      (weighted-says s (right-part h) (up-part h))
 
   -- where the sight line itself is on one side of a vector's plane, the line that the cell is read along is on that side
   pub side-kept :
@@ -99,6 +106,15 @@ module _ (k : Camera) (axes : T (axesProper (k .axes))) (i j : ℕ) where
       first : FirstAbove (dot (direction k i j) w) (dot (k .axes .right) w) (negℤ (dot (k .axes .up) w)) → pos 0 <ℤ dot (direction k i j) w
       first (inl g) = g
       first (inr (e, _)) = absurd (f e)
+
+  -- the line that the cell is read along is square to a vector only where the sight line, right and up all are
+  pub line-zero :
+      {w : Vec} → VecWithin largest w → dot (cellLine k i j) w ≡ pos 0 →
+      (dot (direction k i j) w ≡ pos 0) × (dot (k .axes .right) w ≡ pos 0) × (negℤ (dot (k .axes .up) w) ≡ pos 0)
+  unfolding cellLine
+  line-zero {w} h e =
+      let l = lean-dot (k .axes) (direction k i j) w (pos (fine * (fine * fine))) (pos (2 * (fine * fine))) (pos (2 * fine)) in
+      weighted-zero fine-steep (right-part h) (up-part h) (sym l ∙ e)
 
   steep-alike : {α β γ α′ β′ γ′ : ℤ} → Steep (pos most) α β γ → Steep (pos most) α′ β′ γ′ → Alike (line α β γ) (line α′ β′ γ′)
   steep-alike s t = record { sides = λ h. (λ l. leans t h .1 (leans s h .0 l), λ l. leans s h .1 (leans t h .0 l)) }

@@ -4,12 +4,11 @@ use mathlib.Core.Logic.{_⊎_, inl, inr}
 use mathlib.Core.Bool.{not, _&&_}
 use mathlib.Core.List.{[], _∷_}
 use native.Mathlib.Omega.{arith}
-use lib.Dec.{T, T-not, not-T, ltb→lt}
-use lib.IntN.{ℤ, pos, negℤ, natAbs, _+ℤ_, _-ℤ_, _*ℤ_, *ℤ-zero}
+use lib.Dec.{T, T-not, not-T}
+use lib.IntN.{ℤ, pos, negℤ, _+ℤ_, _-ℤ_, _*ℤ_, *ℤ-zero}
 use lib.Signed.{_<ℤ_}
 use Rattle.integer.proofs.Identity.{ring, reify, combine₂}
 use Rattle.integer.proofs.Products.{pos→≢, squares, *-cancel-≡}
-use Rattle.integer.proofs.Magnitude.{size-product}
 use Rattle.model.specs.Vector.{Vec, Plane, minus, dot, isZero, planeNormal, side}
 use Rattle.model.specs.Patch.{Patch, corner, patchPlane, normal, Proper}
 use Rattle.model.specs.Ray.{eyeProduct, met, distance, below}
@@ -19,6 +18,7 @@ use Rattle.model.proofs.Tests.{both}
 use Rattle.model.proofs.Vectors.{parallel, side-from}
 use Rattle.model.proofs.Patches.{is-zero, corner-mem, first-corner, met-says}
 use Rattle.model.proofs.Sides.{lies-on-says, met-on-plane}
+use Rattle.model.proofs.Precedes.{equal-not-below}
 
 -- three points off one line have a normal that is not zero
 normal-off-line : (s : Plane) → T (offOneLine s) → pos 0 <ℤ dot (planeNormal s) (planeNormal s)
@@ -77,8 +77,4 @@ module _
             combine₂ (negℤ σ′) f σ g (ring (e ∷ k ∷ σ ∷ δ ∷ σ′ ∷ δ′ ∷ []) (search reify depth 40 fits 200000, tt))
 
     pub level : T (not (below (distance eye d p) (distance eye d q)))
-    level =
-        let x = size-product (eyeProduct eye p) (dot d (normal q)) in
-        let y = size-product (eyeProduct eye q) (dot d (normal p)) in
-        let z = ap natAbs one-distance in
-        not-T (below (distance eye d p) (distance eye d q)) (λ l. omega (arith, ltb→lt))
+    level = not-T (below (distance eye d p) (distance eye d q)) (equal-not-below (distance eye d p) (distance eye d q) one-distance)

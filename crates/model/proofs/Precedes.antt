@@ -1,12 +1,13 @@
 -- The order in which met patches show: `precedes` is a strict weak order on them.
-use mathlib.Core.Path.{_≡_}
+use mathlib.Core.Path.{_≡_, ap}
 use mathlib.Core.Logic.{_↔_, _⊎_, inl, inr}
 use mathlib.Core.Bool.{Bool, not, _&&_}
 use Prim.Native.Nat.{ℕ, zero, suc, _*_, _≤_, _<_}
 use native.Mathlib.Nat.{le-antisymm, le-of-mul-le-mul-left, mul-le-mul-left}
 use native.Mathlib.Omega.{arith}
 use lib.Dec.{T, T-not, not-T, ltb, ltb→lt, lt→ltb, nltb→le}
-use lib.IntN.{ℤ, pos, negsuc, natAbs}
+use lib.IntN.{ℤ, pos, negsuc, natAbs, _*ℤ_}
+use Rattle.integer.proofs.Magnitude.{size-product}
 use Rattle.model.specs.Lists.{every}
 use Rattle.model.specs.Vector.{Vec, isZero}
 use Rattle.model.specs.Patch.{Patch, Edge, edges}
@@ -27,6 +28,15 @@ cross-multiplied a b c x y z h k l =
 
 pub below-asym : (f g : Fraction) → T (below f g) → T (below g f) → ⊥
 below-asym f g s t = omega (arith, ltb→lt)
+
+-- of two equal fractions, cross-multiplied, neither is below the other
+pub equal-not-below :
+    (f g : Fraction) → f .numerator *ℤ g .denominator ≡ g .numerator *ℤ f .denominator → T (below f g) → ⊥
+equal-not-below f g e t =
+    let x = size-product (f .numerator) (g .denominator) in
+    let y = size-product (g .numerator) (f .denominator) in
+    let z = ap natAbs e in
+    omega (arith, ltb→lt)
 
 not-less : (m n : ℕ) → (T (ltb m n) → ⊥) → n ≤ m
 not-less m n f = nltb→le m n (not-T (ltb m n) f)
@@ -126,7 +136,7 @@ module _ (eye d : Vec) where
   level-panels p q s t =
       le-antisymm (not-lower q p t (not-nearer p q s)) (not-lower p q s (not-nearer q p t))
 
-  not-nearer-trans :
+  pub not-nearer-trans :
       (p q r : Patch) →
       T (met eye d q) →
       (T (nearer p q) → ⊥) →

@@ -1,12 +1,12 @@
 -- A patch's corners read round from any of them, and the edges met on the way.
 use mathlib.Core.Path.{_≡_, refl, sym, _∙_, ap, subst}
-use mathlib.Core.Logic.{⊎-elim}
+use mathlib.Core.Logic.{_⊎_, inl, inr, ⊎-elim}
 use mathlib.Core.List.{List, [], _∷_, _++_, append-nil, append-assoc, List·Memᴰ, List·Memᴰ·head, List·Memᴰ·tail, List·Memᴰ·not-nil, List·Memᴰ·cases-cons, Memᴰ·cast, List·Memᴰ·append-cases, Memᴰ·append-left, Memᴰ·append-right, Memᴰ·map, Memᴰ·of-map}
-use Prim.Native.Nat.{ℕ, zero, suc, _+_, _<_}
+use Prim.Native.Nat.{ℕ, zero, suc, _+_, _≤_, _<_}
 use native.Mathlib.Nat.{add-zero, zero-add}
 use native.Mathlib.Decide.{ℕ-discrete}
 use native.Mathlib.Omega.{arith}
-use lib.ListN.{length, getD, take, drop, take-append-drop}
+use lib.ListN.{length, getD, take, drop, take-append-drop, length-append, length-take, length-drop}
 use lib.Seq.{take-suc, drop-cons, take-length, drop-length}
 use Rattle.model.specs.Lists.{range}
 use Rattle.model.specs.Vector.{Vec, origin}
@@ -92,3 +92,52 @@ edge-ends {cs} {e} h = go (Memᴰ·of-map (λ (k : ℕ). firstEdge (round cs k))
           round-mem cs k (Memᴰ·cast (ap (λ (e : Edge). e .from) e′) (subst (List·Memᴰ _) (sym (from-place cs k l)) (both .0))),
           round-mem cs k (Memᴰ·cast (ap (λ (e : Edge). e .to) e′) (subst (List·Memᴰ _) (sym (from-place cs k l)) (both .1))),
         )
+
+third-other : (cs : List Vec) → 3 ≤ length cs → (q : Vec) × List·Memᴰ q (firstEdge cs .others) × List·Memᴰ q cs
+third-other [] h = absurd (omega arith)
+third-other (u ∷ []) h = absurd (omega arith)
+third-other (u ∷ v ∷ []) h = absurd (omega arith)
+third-other (u ∷ v ∷ w ∷ cs) h = (w, List·Memᴰ·head refl, List·Memᴰ·tail (List·Memᴰ·tail (List·Memᴰ·head refl)))
+
+round-length : (cs : List Vec) (k : ℕ) → k < length cs → length (round cs k) ≡ length cs
+round-length cs k h = length-append (drop k cs) (take k cs) ∙ simp (length-take, length-drop) (omega arith)
+
+-- every edge of three corners or more has another corner
+pub edge-other :
+    {cs : List Vec} {e : Edge} → 3 ≤ length cs → List·Memᴰ e (edges cs) → (q : Vec) × List·Memᴰ q (e .others) × List·Memᴰ q cs
+unfolding edges
+edge-other {cs} {e} three h = go (Memᴰ·of-map (λ (k : ℕ). firstEdge (round cs k)) (range 0 (length cs)) h)
+  where
+    go :
+        (k : ℕ) × List·Memᴰ k (range 0 (length cs)) × (firstEdge (round cs k) ≡ e) →
+        (q : Vec) × List·Memᴰ q (e .others) × List·Memᴰ q cs
+    go (k, h, f) =
+        let l : k < length cs = omega (arith, of-range 0 (length cs) h) in
+        let t = third-other (round cs k) (rw (round-length cs k l) three) in
+        (t .0, subst (λ (x : Edge). List·Memᴰ (t .0) (x .others)) f (t .1), round-mem cs k (t .2))
+
+first-corners : (cs : List Vec) {c : Vec} → List·Memᴰ c cs → (c ≡ firstEdge cs .from) ⊎ ((c ≡ firstEdge cs .to) ⊎ List·Memᴰ c (firstEdge cs .others))
+first-corners [] m = absurd (List·Memᴰ·not-nil m)
+first-corners (u ∷ []) (List·Memᴰ·head e) = inl e
+first-corners (u ∷ []) (List·Memᴰ·tail m) = absurd (List·Memᴰ·not-nil m)
+first-corners (u ∷ v ∷ cs) (List·Memᴰ·head e) = inl e
+first-corners (u ∷ v ∷ cs) (List·Memᴰ·tail (List·Memᴰ·head e)) = inr (inl e)
+first-corners (u ∷ v ∷ cs) (List·Memᴰ·tail (List·Memᴰ·tail m)) = inr (inr m)
+
+-- each corner is an end of the edge or one of its others
+pub edge-corner :
+    {cs : List Vec} {e : Edge} → List·Memᴰ e (edges cs) → {c : Vec} → List·Memᴰ c cs →
+    (c ≡ e .from) ⊎ ((c ≡ e .to) ⊎ List·Memᴰ c (e .others))
+unfolding edges
+edge-corner {cs} {e} h {c} m = go (Memᴰ·of-map (λ (k : ℕ). firstEdge (round cs k)) (range 0 (length cs)) h)
+  where
+    turned : (k : ℕ) → List·Memᴰ c (round cs k)
+    turned k =
+        ⊎-elim (Memᴰ·append-right (drop k cs)) (Memᴰ·append-left (take k cs))
+        (List·Memᴰ·append-cases (take k cs) (subst (List·Memᴰ c) (sym (take-append-drop k cs)) m))
+
+    go :
+        (k : ℕ) × List·Memᴰ k (range 0 (length cs)) × (firstEdge (round cs k) ≡ e) →
+        (c ≡ e .from) ⊎ ((c ≡ e .to) ⊎ List·Memᴰ c (e .others))
+    go (k, _, f) =
+        subst (λ (x : Edge). (c ≡ x .from) ⊎ ((c ≡ x .to) ⊎ List·Memᴰ c (x .others))) f (first-corners (round cs k) (turned k))

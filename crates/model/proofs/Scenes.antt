@@ -67,7 +67,7 @@ scene3and5 =
     (square (pos 100) (pos 50) ++ square (pos 100) (pos 50))
 
 -- the corners of an upright piece at forward 100
-abbrev piece : ℤ → ℤ → ℤ → ℤ → List Vec
+abbrev pub piece : ℤ → ℤ → ℤ → ℤ → List Vec
 piece left right low high =
     vec left (pos 100) low ∷ vec right (pos 100) low ∷ vec right (pos 100) high ∷ vec left (pos 100) high ∷ []
 

@@ -1,4 +1,4 @@
--- A sum of three products whose weights fall steeply has the sign of the first factor that is not 0.
+-- A sum of three products whose weights fall steeply has the sign of the first factor that is not 0, and is 0 only where all three are.
 use mathlib.Core.Path.{_≡_, sym, ap}
 use mathlib.Core.Logic.{_↔_, _⊎_, inl, inr}
 use mathlib.Core.List.{[], _∷_}
@@ -93,3 +93,16 @@ module _ {n : ℕ} {α β γ : ℤ} (s : Steep (pos n) α β γ) where
           (<→≤ (<-by (first-above s (turned hy) (turned hz) l) (ring (α ∷ β ∷ γ ∷ x ∷ y ∷ z ∷ []) (search reify depth 40 fits 200000, tt))))
       to (nowhere e f g) h =
           absurd (pos→≢ h (combine₃ α e β f γ g (ring (α ∷ β ∷ γ ∷ x ∷ y ∷ z ∷ []) (search reify depth 40 fits 200000, tt))))
+
+  -- and it is 0 only where all three are
+  pub weighted-zero :
+      {x y z : ℤ} → Within n y → Within n z → weighted α β γ x y z ≡ pos 0 → (x ≡ pos 0) × (y ≡ pos 0) × (z ≡ pos 0)
+  weighted-zero {x} {y} {z} hy hz e = go (leading x y z)
+    where
+      go : Leading x y z → (x ≡ pos 0) × (y ≡ pos 0) × (z ≡ pos 0)
+      go (upward l) = absurd (pos→≢ (first-above s (not-less hy) (not-less hz) l) e)
+      go (downward l) =
+          absurd
+          (pos→≢ (first-above s (turned hy) (turned hz) l)
+          (combine₁ (negsuc 0) e (ring (α ∷ β ∷ γ ∷ x ∷ y ∷ z ∷ []) (search reify depth 40 fits 200000, tt))))
+      go (nowhere f g h) = (f, g, h)

@@ -1,4 +1,4 @@
--- `survey_pair` meets its contract: demand 3 follows from the contracts of its two calls.
+-- `survey_pair` meets its contract: demand 3 and two cuttings follow from the contracts of its two calls.
 use borrow.Author.Needs.{needs}
 use Rattle.contract.proofs.SameView.{surveyed-from}
 use Rattle.survey.proofs.Handed.{same-vector, same-axes, same-view}

@@ -1,0 +1,8 @@
+-- Cuttings that cover the same points show the same.
+pub mod Covered
+pub mod Points
+pub mod Generic
+pub mod MetPoint
+pub mod Cuttings
+pub mod Upright
+pub mod Cut

@@ -1,0 +1,121 @@
+-- What `covered` says of any patch: it goes by the point and not by how its fractions are written, and a patch of an accepted scene covers its corners and all that lies
+-- between points that it covers, so the whole of its edges too.
+use mathlib.Core.Path.{_≡_, sym, _∙_, ap, subst}
+use mathlib.Core.Logic.{_↔_, _⊎_, inl, inr}
+use mathlib.Core.List.{[], _∷_, List·Memᴰ}
+use Prim.Native.Nat.{ℕ, _+_, _*_, _<_}
+use lib.Dec.{T, lt→ltb}
+use lib.IntN.{ℤ, pos, _+ℤ_, _-ℤ_, _*ℤ_, *ℤ-zero}
+use lib.Signed.{_<ℤ_, _≤ℤ_, ltZ-yes}
+use Rattle.integer.proofs.Identity.{ring, reify, combine₁, combine₂}
+use Rattle.integer.proofs.Order.{+-nonneg, <-by, <→≤, ≡→≤}
+use Rattle.integer.proofs.Products.{*-nonneg, *-nonneg-cancel, *-zero-cancel}
+use Rattle.model.specs.Vector.{Vec, minus, plus, times, dot}
+use Rattle.model.specs.Patch.{Patch, Edge, Proper, corner, normal, edges}
+use Rattle.model.proofs.Vectors.{det}
+use Rattle.model.proofs.Rounds.{edge-corner}
+use Rattle.model.proofs.Patches.{corner-height, turns}
+use Rattle.model.proofs.Inside.{innerNumber}
+use Rattle.cuttings.specs.Cuttings.{covered}
+use Rattle.cuttings.proofs.Covered.{covered-says}
+
+-- ---- the two numbers of a point are linear in it
+plane-sum :
+    (q q′ a n : Vec) (k k′ : ℤ) →
+    dot (minus (plus q q′) (times (k +ℤ k′) a)) n ≡ dot (minus q (times k a)) n +ℤ dot (minus q′ (times k′ a)) n
+plane-sum q q′ a n k k′ =
+    ring
+    (q .x ∷ q .y ∷ q .z ∷ q′ .x ∷ q′ .y ∷ q′ .z ∷ a .x ∷ a .y ∷ a .z ∷ n .x ∷ n .y ∷ n .z ∷ k ∷ k′ ∷ [])
+    (search reify depth 40 fits 200000, tt)
+
+inner-sum :
+    (q q′ a n w : Vec) (k k′ : ℤ) →
+    det n w (minus (plus q q′) (times (k +ℤ k′) a)) ≡ det n w (minus q (times k a)) +ℤ det n w (minus q′ (times k′ a))
+inner-sum q q′ a n w k k′ =
+    ring
+    (q .x ∷ q .y ∷ q .z ∷ q′ .x ∷ q′ .y ∷ q′ .z ∷ a .x ∷ a .y ∷ a .z ∷ n .x ∷ n .y ∷ n .z ∷ w .x ∷ w .y ∷ w .z ∷ k ∷ k′ ∷ [])
+    (search reify depth 40 fits 200000, tt)
+
+plane-times : (q a n : Vec) (k m : ℤ) → dot (minus (times m q) (times (m *ℤ k) a)) n ≡ m *ℤ dot (minus q (times k a)) n
+plane-times q a n k m =
+    ring
+    (q .x ∷ q .y ∷ q .z ∷ a .x ∷ a .y ∷ a .z ∷ n .x ∷ n .y ∷ n .z ∷ k ∷ m ∷ [])
+    (search reify depth 40 fits 200000, tt)
+
+inner-times : (q a n w : Vec) (k m : ℤ) → det n w (minus (times m q) (times (m *ℤ k) a)) ≡ m *ℤ det n w (minus q (times k a))
+inner-times q a n w k m =
+    ring
+    (q .x ∷ q .y ∷ q .z ∷ a .x ∷ a .y ∷ a .z ∷ n .x ∷ n .y ∷ n .z ∷ w .x ∷ w .y ∷ w .z ∷ k ∷ m ∷ [])
+    (search reify depth 40 fits 200000, tt)
+
+-- The point q / k may be written as m q / m k.
+pub same-point : (p : Patch) (q : Vec) (k m : ℕ) → 0 < m → T (covered p q k) ↔ T (covered p (times (pos m) q) (m * k))
+same-point p q k m h = (
+  λ t.
+      let c = covered-says p q k .0 t in
+      covered-says p (times (pos m) q) (m * k) .1
+      (record {
+        inPlane = plane-times q (corner p 0) (normal p) (pos k) (pos m) ∙ ap (pos m *ℤ_) (c .inPlane) ∙ *ℤ-zero (pos m);
+        inEdge = λ {e} l.
+            subst (pos 0 ≤ℤ_) (sym (inner-times q (e .from) (normal p) (minus (e .to) (e .from)) (pos k) (pos m))) (*-nonneg (<→≤ some) (c .inEdge l));
+      }),
+  λ t.
+      let c = covered-says p (times (pos m) q) (m * k) .0 t in
+      covered-says p q k .1
+      (record {
+        inPlane = *-zero-cancel some (sym (plane-times q (corner p 0) (normal p) (pos k) (pos m)) ∙ c .inPlane);
+        inEdge = λ {e} l.
+            *-nonneg-cancel some (subst (pos 0 ≤ℤ_) (inner-times q (e .from) (normal p) (minus (e .to) (e .from)) (pos k) (pos m)) (c .inEdge l));
+      }),
+)
+  where
+    some : pos 0 <ℤ pos m
+    some = ltZ-yes (lt→ltb 0 m h)
+
+-- the point (q + q′) / (k + k′) lies between q / k and q′ / k′ (and each point between them is such a one, with other numbers for the two)
+pub between-covered :
+    (p : Patch) (q q′ : Vec) (k k′ : ℕ) → T (covered p q k) → T (covered p q′ k′) → T (covered p (plus q q′) (k + k′))
+between-covered p q q′ k k′ s t =
+    let c = covered-says p q k .0 s in
+    let c′ = covered-says p q′ k′ .0 t in
+    covered-says p (plus q q′) (k + k′) .1
+    (record {
+      inPlane = plane-sum q q′ (corner p 0) (normal p) (pos k) (pos k′) ∙ zeros (c .inPlane) (c′ .inPlane);
+      inEdge = λ {e} l.
+          subst (pos 0 ≤ℤ_) (sym (inner-sum q q′ (e .from) (normal p) (minus (e .to) (e .from)) (pos k) (pos k′))) (+-nonneg (c .inEdge l) (c′ .inEdge l));
+    })
+  where
+    zeros : {x y : ℤ} → x ≡ pos 0 → y ≡ pos 0 → x +ℤ y ≡ pos 0
+    zeros {x} {y} e f = combine₂ (pos 1) e (pos 1) f (ring (x ∷ y ∷ []) (search reify depth 40 fits 200000, tt))
+
+-- "edges and corners counted in": a corner is covered
+pub corner-covered : {p : Patch} → Proper p → {c : Vec} → List·Memᴰ c (p .corners) → T (covered p c 1)
+corner-covered {p} proper {c} m = covered-says p c 1 .1 (record { inPlane = in-plane; inEdge = λ {e} l. in-edge l (edge-corner l m) })
+  where
+    at-once : (c a n : Vec) → dot (minus c (times (pos 1) a)) n ≡ dot (minus c a) n -ℤ dot (minus a a) n
+    at-once c a n = ring (c .x ∷ c .y ∷ c .z ∷ a .x ∷ a .y ∷ a .z ∷ n .x ∷ n .y ∷ n .z ∷ []) (search reify depth 40 fits 200000, tt)
+
+    none-left : {x y : ℤ} → x ≡ y → x -ℤ y ≡ pos 0
+    none-left {x} {y} e = combine₁ (pos 1) e (ring (x ∷ y ∷ []) (search reify depth 40 fits 200000, tt))
+
+    in-plane : dot (minus c (times (pos 1) (corner p 0))) (normal p) ≡ pos 0
+    in-plane = at-once c (corner p 0) (normal p) ∙ none-left (corner-height proper m (corner p 0))
+
+    once : (n w c v : Vec) → det n w (minus c (times (pos 1) v)) -ℤ pos 0 ≡ det n w (minus c v)
+    once n w c v =
+        ring
+        (n .x ∷ n .y ∷ n .z ∷ w .x ∷ w .y ∷ w .z ∷ c .x ∷ c .y ∷ c .z ∷ v .x ∷ v .y ∷ v .z ∷ [])
+        (search reify depth 40 fits 200000, tt)
+
+    at-from : (n w v : Vec) → pos 0 ≡ det n w (minus v (times (pos 1) v))
+    at-from n w v = ring (n .x ∷ n .y ∷ n .z ∷ w .x ∷ w .y ∷ w .z ∷ v .x ∷ v .y ∷ v .z ∷ []) (search reify depth 40 fits 200000, tt)
+
+    at-to : (n v w : Vec) → pos 0 ≡ det n (minus w v) (minus w (times (pos 1) v))
+    at-to n v w = ring (n .x ∷ n .y ∷ n .z ∷ w .x ∷ w .y ∷ w .z ∷ v .x ∷ v .y ∷ v .z ∷ []) (search reify depth 40 fits 200000, tt)
+
+    in-edge :
+        {e : Edge} → List·Memᴰ e (edges (p .corners)) → (c ≡ e .from) ⊎ ((c ≡ e .to) ⊎ List·Memᴰ c (e .others)) →
+        pos 0 ≤ℤ innerNumber p e c (pos 1)
+    in-edge {e} l (inl f) = subst (λ (c : Vec). pos 0 ≤ℤ innerNumber p e c (pos 1)) (sym f) (≡→≤ (at-from (normal p) (minus (e .to) (e .from)) (e .from)))
+    in-edge {e} l (inr (inl f)) = subst (λ (c : Vec). pos 0 ≤ℤ innerNumber p e c (pos 1)) (sym f) (≡→≤ (at-to (normal p) (e .from) (e .to)))
+    in-edge {e} l (inr (inr o)) = <→≤ (<-by (turns proper l o) (once (normal p) (minus (e .to) (e .from)) c (e .from)))

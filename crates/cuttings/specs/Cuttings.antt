@@ -1,0 +1,33 @@
+-- Two cuttings of one ring (document 02, F-5): the points that a panel covers, whatever its pieces.
+use mathlib.Core.Path.{_≡_}
+use mathlib.Core.Bool.{Bool, _&&_}
+use mathlib.Core.Logic.{_↔_}
+use mathlib.Core.List.{List, List·Memᴰ}
+use Prim.Native.Nat.{ℕ, _<_}
+use lib.IntN.{pos}
+use lib.Dec.{T}
+use lib.Signed.{leZ}
+use Rattle.model.specs.Lists.{every}
+use Rattle.model.specs.Vector.{Vec, minus, times, dot, cross, isZero}
+use Rattle.model.specs.Patch.{Patch, Edge, corner, normal, edges}
+
+-- The point q / k, three fractions over one denominator, lies on the patch, "its pieces' edges and corners counted in": it is in the patch's plane, and on the
+-- inner side of every edge, where the patch's other corners are, or on the edge's line. Each number is that of question 8 or of a side, times k.
+unfoldable pub covered : Patch → Vec → ℕ → Bool
+covered p q k =
+    isZero (dot (minus q (times (pos k) (corner p 0))) (normal p))
+    && every
+    (λ (e : Edge). leZ (pos 0) (dot (normal p) (cross (minus (e .to) (e .from)) (minus q (times (pos k) (e .from))))))
+    (edges (p .corners))
+
+-- some piece of panel n covers the point
+pub record PanelCovers (ps : List Patch) (n : ℕ) (q : Vec) (k : ℕ) : Type 0 where
+  pub piece : Patch
+  pub listed : List·Memᴰ piece ps
+  pub ofPanel : piece .panel ≡ n
+  pub covers : T (covered piece q k)
+
+-- "each panel covers the same points of space, .. whatever its pieces. Points whose three parts are fractions of two whole numbers are enough": every panel number,
+-- on patches or not, and every such point, its denominator above 0.
+abbrev pub SameCover : List Patch → List Patch → Type 0
+SameCover ps qs = (n : ℕ) (q : Vec) (k : ℕ) → 0 < k → PanelCovers ps n q k ↔ PanelCovers qs n q k

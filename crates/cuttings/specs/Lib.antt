@@ -1,0 +1,2 @@
+-- The points that a panel covers.
+pub mod Cuttings
