@@ -1,5 +1,5 @@
 #!/bin/sh
-# The stored bills: samples/bills/*.view, each built from the text beside it, and the bill that `ringbill` must print for it. Then the longest input, and one byte more.
+# The stored bills: samples/bills/*.view, each built from the text beside it, and the bill that `ringbill` must print for it. Then the longest input, and one byte more, and a ring in three cuttings.
 #   SURVEY_LIB_DIR=... tests/bills.sh RINGBILL
 # The bills were not made by the program: tools/rays.py worked them out, and the ray-by-ray program in Rust says the same. Both are asked again in each run.
 # Ends with 1 if anything differs.
@@ -50,6 +50,19 @@ echo "refused 2" >"$work/longest.bill"
 echo "refused 1" >"$work/too_long.bill"
 for input in longest too_long; do
     billed "$work/$input" "$work/$input.bill"
+done
+
+# One ring in three cuttings, under two trees: one bill, worked out from the first.
+# cutting CUT TREE
+cutting() {
+    python3 "$root/tools/ring.py" "$work/$1.view" --cut "$1" --tree "$2" --view 0 20 0 48 24 30 2>"$work/told" || { cat "$work/told"; exit 1; }
+}
+cutting none chain
+cutting across halves
+cutting diagonal chain
+python3 "$root/tools/rays.py" "$work/none.view" >"$work/ring.bill"
+for cut in none across diagonal; do
+    billed "$work/$cut.view" "$work/ring.bill"
 done
 
 echo "bills: $passed passed, $failed failed"

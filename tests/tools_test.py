@@ -754,6 +754,22 @@ def test_trees():
         check("same picture and pieces: " + other, pieces_seen(first) == pieces_seen(second))
 
 
+def test_ring_cuttings():
+    """Other pieces of the same panels, also under another tree: the same picture."""
+    whole = made("--seed 1")
+    rows, cells = booked(SMALL_WINDOW, whole)
+    for options in ("--cut across", "--cut diagonal", "--cut across --tree halves",
+                    "--cut diagonal --tree halves"):
+        other = made("--seed 1 " + options)
+        now, own = booked(SMALL_WINDOW, other)
+        check("two pieces a quad: " + options, len(other.patches), 2 * len(whole.patches))
+        check("the same picture: " + options, now, rows)
+        check("other pieces have cells: " + options, sorted(own) != sorted(cells))
+    for options in ("--bend 19", "--length 301"):
+        check("not cut across: " + options, "even" in fault(made, "--cut across " + options))
+    check("cut across a straight bore", len(made("--cut across --bend 0").patches), 608)
+
+
 def less(gone):
     return made("--without " + ",".join(map(str, sorted(gone))))
 

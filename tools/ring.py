@@ -2,8 +2,8 @@
 """Makes sample rings: a tunnel lining of concrete segments with its tree of planes.
 
     ring.py OUT [--rings N] [--segments N] [--facets N] [--radius N] [--length N] [--turn N]
-                [--bend N] [--seed N] [--tree chain|halves|walls] [--without P,P,...] [--drop N]
-                [--view X Y Z WIDTH HEIGHT LENS]
+                [--bend N] [--seed N] [--tree chain|halves|walls] [--cut none|across|diagonal]
+                [--without P,P,...] [--drop N] [--view X Y Z WIDTH HEIGHT LENS]
 
 The lining is a row of rings along the bore. A ring is --segments segments of --facets flat quads
 each, and a key of one quad; each segment and each key is a panel. A quad has two corners on the
@@ -17,6 +17,10 @@ that the bore curves. Lengths are in units of 5 mm.
     chain   planes across the bore between rings, then a ring's faces one below the other
     halves  the same across the bore, then planes through two joints that halve a ring's faces
     walls   the faces' planes for all rings at once, many patches to a node (needs --bend 0)
+--cut changes the pieces that a panel is cut into and not the points that it covers:
+    none      each quad is one patch
+    across    each is cut in two halfway along the bore (needs an even --length and --bend)
+    diagonal  each is cut into two triangles
 --without takes the named panels away, --drop a number of them drawn by the seed.
 
 OUT is written as text where its name ends in .txt, and as bytes otherwise; with --view the view
@@ -112,6 +116,25 @@ def plane_through(one, other):
     return [one.corners[0], other.corners[0], one.corners[3]]
 
 
+def halfway(one, other):
+    """The middle of a side along the bore."""
+    sums = [a + b for a, b in zip(one, other)]
+    if any(total % 2 for total in sums):
+        raise scenes.Fault("--cut across needs an even --length and --bend")
+    return tuple(total // 2 for total in sums)
+
+
+def pieces(cut, corners):
+    """A quad as it is cut: all pieces lie in its plane."""
+    one, two, three, four = corners
+    if cut == "diagonal":
+        return [[one, two, three], [one, three, four]]
+    if cut == "across":
+        left, right = halfway(one, four), halfway(two, three)
+        return [[one, two, right, left], [left, right, three, four]]
+    return [corners]
+
+
 def choose_plane(form, faces):
     rings = sorted({face.ring for face in faces})
     if form != "walls" and len(rings) > 1:
@@ -131,20 +154,22 @@ def divide(plane, faces):
     return parts[0], parts[1], parts[-1]
 
 
-def plant(form, faces, scene):
+def plant(shape, faces, scene):
     """Add the nodes, patches and corners of these faces; the number of the topmost node."""
     if not faces:
         return scenes.NONE
-    plane = choose_plane(form, faces)
+    plane = choose_plane(shape.tree, faces)
     own, before, behind = divide(plane, faces)
-    node = scenes.Node(plane, first=len(scene.patches), count=len(own))
+    node = scenes.Node(plane, first=len(scene.patches))
     place = len(scene.nodes)
     scene.nodes.append(node)
     for face in sorted(own, key=lambda face: face.panel):
-        scene.patches.append(scenes.Patch(face.panel, len(scene.corners), len(face.corners)))
-        scene.corners += face.corners
-    node.positive = plant(form, before, scene)
-    node.negative = plant(form, behind, scene)
+        for corners in pieces(shape.cut, face.corners):
+            scene.patches.append(scenes.Patch(face.panel, len(scene.corners), len(corners)))
+            scene.corners += corners
+    node.count = len(scene.patches) - node.first
+    node.positive = plant(shape, before, scene)
+    node.negative = plant(shape, behind, scene)
     return place
 
 
@@ -153,7 +178,7 @@ def make(shape):
     if shape.tree == "walls" and shape.bend:
         raise scenes.Fault("--tree walls needs --bend 0")
     scene = scenes.Scene()
-    plant(shape.tree, taken_away(shape, lining(shape)), scene)
+    plant(shape, taken_away(shape, lining(shape)), scene)
     try:
         gate.check_scene(scenes.pack(scene))
     except gate.No as no:
@@ -186,6 +211,7 @@ def arguments(words):
     parser.add_argument("--turn", type=int, default=4)
     parser.add_argument("--bend", type=int, default=20)
     parser.add_argument("--tree", choices=("chain", "halves", "walls"), default="chain")
+    parser.add_argument("--cut", choices=("none", "across", "diagonal"), default="none")
     parser.add_argument("--without", type=numbers, default=[])
     parser.add_argument("--view", type=int, nargs=6)
     return parser.parse_args(words)
