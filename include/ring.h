@@ -134,10 +134,11 @@ enum ring_result {
  *                             in the scene's list. The closest is the one met at the least
  *                             distance; of several there, the one of the lowest panel; of one
  *                             panel, the earlier in the list. A patch that stands twice is two
- *                             patches. A panel's count is the sum over its patches. How a panel is
- *                             cut into patches, and the tree that holds them, changes these
- *                             numbers alone: where each panel covers the same points, picture,
- *                             counts and unlit are the same in every view
+ *                             patches. A panel's count is the sum over its patches. Two scenes may
+ *                             cut a panel into other patches: where each panel covers the same
+ *                             points, edges and corners counted in, and both are surveyed from one
+ *                             station with one camera and window, picture, counts and unlit are
+ *                             the same, and this table alone may differ
  *   unlit, unlit_len          height x 256 numbers. Row j has the 256 from unlit + 256 * j: 128
  *                             pairs of offset and length, one for each stretch of cells that
  *                             show no panel, from left to right, with a lit cell between any

@@ -36,9 +36,9 @@ use Rattle.segments.proofs.Rows.{row-length, row-congr}
 use Rattle.contract.proofs.Refusal.{left-old}
 use Rattle.model.proofs.PanelNumbers.{panel-bounded}
 use Rattle.contract.specs.Contract.{callOn, results, leftBy, Surveyed}
-use Rattle.cuttings.specs.Cuttings.{SameCover}
-use Rattle.cuttings.proofs.Cuttings.{same-cells}
-use Rattle.demands.specs.Demands.{patchesIn, cell, patchHas, RefusesRightly, ClosestPanels, ClosestSurveyed, ChosenTakenAway, DemandThree, SameRing, TwoCuttings, PairSurveyed}
+use Rattle.coverage.specs.Coverage.{SameCover}
+use Rattle.coverage.proofs.Agreement.{same-cells}
+use Rattle.demands.specs.Demands.{patchesIn, cell, patchHas, RefusesRightly, ClosestPanels, ClosestSurveyed, ChosenTakenAway, DemandThree, SameSurvey, TwoCuttings, PairSurveyed}
 
 -- an accepted call leaves the results
 pub accepted-leaves :
@@ -201,9 +201,9 @@ module _
     (same : SameCover (patchesIn firstBytes) (patchesIn secondBytes))
   where
     -- all three go by what the cells show
-    same-ring : SameRing (results (callOn firstBytes v before₁)) (results (callOn secondBytes v before₂))
+    same-survey : SameSurvey (results (callOn firstBytes v before₁)) (results (callOn secondBytes v before₂))
     unfolding callPicture callCounts callUnlit picture
-    same-ring =
+    same-survey =
         let shown =
         same-cells v (first-accepted .view) (first-accepted .axes) (table-sound (first-accepted .scene))
         (table-sound (second-accepted .scene)) same in
@@ -249,8 +249,8 @@ pub cuttings-surveyed :
     Surveyed secondBytes v before₂ after₂ result₂ →
     TwoCuttings firstBytes secondBytes after₁ after₂ result₁ result₂
 cuttings-surveyed {firstBytes} {secondBytes} {v} {before₁} {after₁} {before₂} {after₂} h k e f same =
-    subst₂ SameRing (sym (accepted-leaves h e)) (sym (accepted-leaves k f))
-    (same-ring firstBytes secondBytes v before₁ before₂
+    subst₂ SameSurvey (sym (accepted-leaves h e)) (sym (accepted-leaves k f))
+    (same-survey firstBytes secondBytes v before₁ before₂
     (accepted-call (callOn firstBytes v before₁) .0 (sym (h .answered) ∙ e))
     (accepted-call (callOn secondBytes v before₂) .0 (sym (k .answered) ∙ f))
     same)

@@ -19,7 +19,7 @@ use Rattle.model.specs.Call.{Call}
 use Rattle.model.specs.Questions.{Question, questions, surveyAnswer}
 use Rattle.model.specs.Removal.{isChosen, kept, TakenAway}
 use Rattle.contract.specs.Contract.{callOn, results, Surveyed}
-use Rattle.cuttings.specs.Cuttings.{SameCover}
+use Rattle.coverage.specs.Coverage.{SameCover}
 
 -- the patches of a scene
 abbrev pub patchesIn : List ℕ → List Patch
@@ -118,7 +118,7 @@ DemandThree firstBytes secondBytes v first second firstResult secondResult =
 
 -- Document 02, F-5, of two accepted calls with one view: "their pictures and panel counts must agree". The unlit lists go by the picture, so they agree too. "Patch
 -- counts may differ": nothing is said of them, nor of the counters, which may have been different before.
-pub record SameRing (first second : Lent) : Type 0 where
+pub record SameSurvey (first second : Lent) : Type 0 where
   pub pictures : first .picture ≡ second .picture
   pub panelCounts : first .counts ≡ second .counts
   pub unlitLists : first .unlit ≡ second .unlit
@@ -127,7 +127,7 @@ pub record SameRing (first second : Lent) : Type 0 where
 -- accepted view their pictures and panel counts must agree, by the joint rule of F-3." The view is the one of both calls; the trees and what the buffers held have no part in it.
 abbrev pub TwoCuttings : (firstBytes secondBytes : List ℕ) (first second : Lent) (firstResult secondResult : ℕ) → Type 0
 TwoCuttings firstBytes secondBytes first second firstResult secondResult =
-    firstResult ≡ 0 → secondResult ≡ 0 → SameCover (patchesIn firstBytes) (patchesIn secondBytes) → SameRing first second
+    firstResult ≡ 0 → secondResult ≡ 0 → SameCover (patchesIn firstBytes) (patchesIn secondBytes) → SameSurvey first second
 
 -- Both calls, each as the survey call promises it, demand 3 of them, and what F-5 says of two cuttings.
 pub record PairSurveyed

@@ -1,6 +1,6 @@
 -- The point where a line meets a patch: the patch covers it, and on a generic line whatever patch covers it is met there, at the same distance. Here "edges and
 -- corners counted in" comes to the same as "strictly inside": such a line passes through no edge.
-use mathlib.Core.Path.{_≡_, sym, _∙_, subst}
+use mathlib.Core.Path.{_≡_, sym, _∙_, ap, subst}
 use mathlib.Core.Logic.{_≢_, _⊎_, inl, inr}
 use mathlib.Core.List.{[], _∷_, List·Memᴰ}
 use Prim.Native.Nat.{ℕ, _<_}
@@ -8,7 +8,7 @@ use lib.Dec.{T, ltb→lt}
 use lib.IntN.{ℤ, pos, negℤ, natAbs, _-ℤ_, _*ℤ_, *ℤ-zero}
 use lib.Signed.{_<ℤ_, _≤ℤ_}
 use Rattle.integer.proofs.Identity.{ring, reify, by-zero, combine₁, combine₂}
-use Rattle.integer.proofs.Order.{<-by, ≤-by, <→≤}
+use Rattle.integer.proofs.Order.{≤-by, <→≤}
 use Rattle.integer.proofs.Products.{*-pos, *-nonneg, *-pos-cancel, *-nonneg-cancel, *-cancel-≡, sq-pos, sq-nonneg, zero-product}
 use Rattle.integer.proofs.Signs.{SameSign, WeakSign, same-sym, same-≢, weak-trans, weak-same}
 use Rattle.integer.proofs.Magnitude.{size-positive}
@@ -21,60 +21,53 @@ use Rattle.model.proofs.Patches.{normal-square, met-says}
 use Rattle.model.proofs.Sides.{distance-positive}
 use Rattle.model.proofs.Inside.{innerNumber, pointMet, inner-number, strictly-inside}
 use Rattle.model.proofs.Alike.{Ranged}
-use Rattle.cuttings.proofs.Covered.{Covered}
-use Rattle.cuttings.proofs.Generic.{Generic, off-plane, off-edge}
+use Rattle.coverage.proofs.Covered.{Covered, plane-times, edge-times}
+use Rattle.coverage.proofs.Generic.{Generic, off-plane, off-edge}
 
 module _ (eye D : Vec) where
   -- The point in the patch's plane as numerators over a square: so the denominator is above 0 though D · n may be below it.
-  abbrev pub planePoint : Patch → Vec
-  planePoint p = times (dot D (normal p)) (pointMet eye D p)
+  abbrev pub metNumerators : Patch → Vec
+  metNumerators p = times (dot D (normal p)) (pointMet eye D p)
 
-  abbrev pub planeOver : Patch → ℕ
-  planeOver p = natAbs (dot D (normal p) *ℤ dot D (normal p))
+  abbrev pub metDenominator : Patch → ℕ
+  metDenominator p = natAbs (dot D (normal p) *ℤ dot D (normal p))
 
   module _ {p : Patch} (P : Proper p) (h : T (met eye D p)) where
     leaves : dot D (normal p) ≢ pos 0
     leaves = same-≢ (same-sym (distance-positive eye D P h))
 
-    squared : dot D (normal p) *ℤ dot D (normal p) ≡ pos (planeOver p)
+    squared : dot D (normal p) *ℤ dot D (normal p) ≡ pos (metDenominator p)
     squared = size-positive (sq-pos leaves)
 
-    pub over-positive : 0 < planeOver p
-    over-positive = ltb→lt 0 (planeOver p) (subst (pos 0 <ℤ_) squared (sq-pos leaves) .lt)
+    pub denominator-positive : 0 < metDenominator p
+    denominator-positive = ltb→lt 0 (metDenominator p) (subst (pos 0 <ℤ_) squared (sq-pos leaves) .lt)
 
     -- a met patch covers the point where it is met
-    pub covers-met : Covered p (planePoint p) (planeOver p)
+    pub covers-met : Covered p (metNumerators p) (metDenominator p)
     covers-met =
         let i = strictly-inside eye D P .0 h .1 in
         record {
           inPlane =
-              subst (λ (k : ℤ). dot (minus (planePoint p) (times k (corner p 0))) (normal p) ≡ pos 0) squared
-              (in-plane (dot D (normal p)) (pointMet eye D p) (corner p 0) (normal p) (i .inPlane));
+              subst (λ (k : ℤ). dot (minus (metNumerators p) (times k (corner p 0))) (normal p) ≡ pos 0) squared
+              (plane-times (pointMet eye D p) (corner p 0) (normal p) (dot D (normal p)) (dot D (normal p))
+              ∙ ap (dot D (normal p) *ℤ_) (i .inPlane)
+              ∙ *ℤ-zero (dot D (normal p)));
           inEdge = λ {e} l.
-              subst (λ (k : ℤ). pos 0 ≤ℤ innerNumber p e (planePoint p) k) squared
-              (<→≤ (<-by (i .inEdge l .agree) (in-edge (dot D (normal p)) (pointMet eye D p) (e .from) (normal p) (minus (e .to) (e .from)))));
+              subst (λ (k : ℤ). pos 0 ≤ℤ innerNumber p e (metNumerators p) k) squared
+              (subst (pos 0 ≤ℤ_)
+              (sym (edge-times (pointMet eye D p) (e .from) (normal p) (minus (e .to) (e .from)) (dot D (normal p)) (dot D (normal p))))
+              (<→≤ (i .inEdge l .agree)));
         }
-      where
-        in-plane : (k : ℤ) (q c n : Vec) → dot (minus q (times k c)) n ≡ pos 0 → dot (minus (times k q) (times (k *ℤ k) c)) n ≡ pos 0
-        in-plane k q c n e =
-            combine₁ k e
-            (ring (k ∷ q .x ∷ q .y ∷ q .z ∷ c .x ∷ c .y ∷ c .z ∷ n .x ∷ n .y ∷ n .z ∷ []) (search reify depth 40 fits 200000, tt))
 
-        in-edge : (k : ℤ) (q v n w : Vec) → det n w (minus (times k q) (times (k *ℤ k) v)) -ℤ pos 0 ≡ k *ℤ det n w (minus q (times k v))
-        in-edge k q v n w =
-            ring
-            (k ∷ q .x ∷ q .y ∷ q .z ∷ v .x ∷ v .y ∷ v .z ∷ n .x ∷ n .y ∷ n .z ∷ w .x ∷ w .y ∷ w .z ∷ [])
-            (search reify depth 40 fits 200000, tt)
-
-    module _ {r : Patch} (c : Covered r (planePoint p) (planeOver p)) where
+    module _ {r : Patch} (c : Covered r (metNumerators p) (metDenominator p)) where
       -- what it says to cover the point, over the square itself
-      plane-covered : dot (minus (planePoint p) (times (dot D (normal p) *ℤ dot D (normal p)) (corner r 0))) (normal r) ≡ pos 0
-      plane-covered = subst (λ (k : ℤ). dot (minus (planePoint p) (times k (corner r 0))) (normal r) ≡ pos 0) (sym squared) (c .inPlane)
+      plane-covered : dot (minus (metNumerators p) (times (dot D (normal p) *ℤ dot D (normal p)) (corner r 0))) (normal r) ≡ pos 0
+      plane-covered = subst (λ (k : ℤ). dot (minus (metNumerators p) (times k (corner r 0))) (normal r) ≡ pos 0) (sym squared) (c .inPlane)
 
       edge-covered :
           {e : Edge} → List·Memᴰ e (edges (r .corners)) →
-          pos 0 ≤ℤ innerNumber r e (planePoint p) (dot D (normal p) *ℤ dot D (normal p))
-      edge-covered {e} l = subst (λ (k : ℤ). pos 0 ≤ℤ innerNumber r e (planePoint p) k) (sym squared) (c .inEdge l)
+          pos 0 ≤ℤ innerNumber r e (metNumerators p) (dot D (normal p) *ℤ dot D (normal p))
+      edge-covered {e} l = subst (λ (k : ℤ). pos 0 ≤ℤ innerNumber r e (metNumerators p) k) (sym squared) (c .inEdge l)
 
       -- the line meets the plane of r at the same distance, cross-multiplied
       pub one-point : eyeProduct eye p *ℤ dot D (normal r) ≡ eyeProduct eye r *ℤ dot D (normal p)

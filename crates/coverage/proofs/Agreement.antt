@@ -21,13 +21,13 @@ use Rattle.model.proofs.Patches.{met-says}
 use Rattle.model.proofs.Precedes.{nearer, equal-not-below, not-nearer-trans}
 use Rattle.model.proofs.Closest.{closest-right, closest-only}
 use Rattle.model.proofs.Alike.{Sound}
-use Rattle.cuttings.specs.Cuttings.{covered, PanelCovers, SameCover}
-use Rattle.cuttings.proofs.Covered.{covered-says}
-use Rattle.cuttings.proofs.Generic.{Generic, line-generic}
-use Rattle.cuttings.proofs.MetPoint.{planePoint, planeOver, over-positive, covers-met, one-point, met-covers}
+use Rattle.coverage.specs.Coverage.{covered, PanelCovers, SameCover}
+use Rattle.coverage.proofs.Covered.{covered-says}
+use Rattle.coverage.proofs.Generic.{Generic, line-generic}
+use Rattle.coverage.proofs.MetPoint.{metNumerators, metDenominator, denominator-positive, covers-met, one-point, met-covers}
 
 -- What one eye asks of two lists: a piece of the first that shows to the eye, which is off its plane, has for each point that it covers a piece of its panel in the second
--- that covers the point.
+-- that covers the point. (Both faces show, so no piece is turned away from the eye.)
 pub record Matched (eye : Vec) (ps qs : List Patch) : Type 0 where
   pub matched :
       (p : Patch) → List·Memᴰ p ps → eyeProduct eye p ≢ pos 0 →
@@ -55,7 +55,7 @@ module _ {eye D : Vec} (eye-within : VecWithin 10000 eye) (generic : Generic D) 
   counterpart P Q match p m h =
       let proper = P .proper p m in
       let c =
-      match .matched p m (met-says eye D p .0 h .faced) (planePoint eye D p) (planeOver eye D p) (over-positive eye D proper h)
+      match .matched p m (met-says eye D p .0 h .faced) (metNumerators eye D p) (metDenominator eye D p) (denominator-positive eye D proper h)
       (covered-says p _ _ .1 (covers-met eye D proper h)) in
       let r = c .piece in
       let on = covered-says r _ _ .0 (c .covers) in

@@ -15,38 +15,8 @@ use Rattle.model.specs.Patch.{Patch, Edge, Proper, corner, normal, edges}
 use Rattle.model.proofs.Vectors.{det}
 use Rattle.model.proofs.Rounds.{edge-corner}
 use Rattle.model.proofs.Patches.{corner-height, turns}
-use Rattle.model.proofs.Inside.{innerNumber}
-use Rattle.cuttings.specs.Cuttings.{covered}
-use Rattle.cuttings.proofs.Covered.{covered-says}
-
--- ---- the two numbers of a point are linear in it
-plane-sum :
-    (q q′ a n : Vec) (k k′ : ℤ) →
-    dot (minus (plus q q′) (times (k +ℤ k′) a)) n ≡ dot (minus q (times k a)) n +ℤ dot (minus q′ (times k′ a)) n
-plane-sum q q′ a n k k′ =
-    ring
-    (q .x ∷ q .y ∷ q .z ∷ q′ .x ∷ q′ .y ∷ q′ .z ∷ a .x ∷ a .y ∷ a .z ∷ n .x ∷ n .y ∷ n .z ∷ k ∷ k′ ∷ [])
-    (search reify depth 40 fits 200000, tt)
-
-inner-sum :
-    (q q′ a n w : Vec) (k k′ : ℤ) →
-    det n w (minus (plus q q′) (times (k +ℤ k′) a)) ≡ det n w (minus q (times k a)) +ℤ det n w (minus q′ (times k′ a))
-inner-sum q q′ a n w k k′ =
-    ring
-    (q .x ∷ q .y ∷ q .z ∷ q′ .x ∷ q′ .y ∷ q′ .z ∷ a .x ∷ a .y ∷ a .z ∷ n .x ∷ n .y ∷ n .z ∷ w .x ∷ w .y ∷ w .z ∷ k ∷ k′ ∷ [])
-    (search reify depth 40 fits 200000, tt)
-
-plane-times : (q a n : Vec) (k m : ℤ) → dot (minus (times m q) (times (m *ℤ k) a)) n ≡ m *ℤ dot (minus q (times k a)) n
-plane-times q a n k m =
-    ring
-    (q .x ∷ q .y ∷ q .z ∷ a .x ∷ a .y ∷ a .z ∷ n .x ∷ n .y ∷ n .z ∷ k ∷ m ∷ [])
-    (search reify depth 40 fits 200000, tt)
-
-inner-times : (q a n w : Vec) (k m : ℤ) → det n w (minus (times m q) (times (m *ℤ k) a)) ≡ m *ℤ det n w (minus q (times k a))
-inner-times q a n w k m =
-    ring
-    (q .x ∷ q .y ∷ q .z ∷ a .x ∷ a .y ∷ a .z ∷ n .x ∷ n .y ∷ n .z ∷ w .x ∷ w .y ∷ w .z ∷ k ∷ m ∷ [])
-    (search reify depth 40 fits 200000, tt)
+use Rattle.coverage.specs.Coverage.{planeSide, edgeSide, covered}
+use Rattle.coverage.proofs.Covered.{covered-says, plane-sum, edge-sum, plane-times, edge-times}
 
 -- The point q / k may be written as m q / m k.
 pub same-point : (p : Patch) (q : Vec) (k m : ℕ) → 0 < m → T (covered p q k) ↔ T (covered p (times (pos m) q) (m * k))
@@ -57,7 +27,7 @@ same-point p q k m h = (
       (record {
         inPlane = plane-times q (corner p 0) (normal p) (pos k) (pos m) ∙ ap (pos m *ℤ_) (c .inPlane) ∙ *ℤ-zero (pos m);
         inEdge = λ {e} l.
-            subst (pos 0 ≤ℤ_) (sym (inner-times q (e .from) (normal p) (minus (e .to) (e .from)) (pos k) (pos m))) (*-nonneg (<→≤ some) (c .inEdge l));
+            subst (pos 0 ≤ℤ_) (sym (edge-times q (e .from) (normal p) (minus (e .to) (e .from)) (pos k) (pos m))) (*-nonneg (<→≤ some) (c .inEdge l));
       }),
   λ t.
       let c = covered-says p (times (pos m) q) (m * k) .0 t in
@@ -65,7 +35,7 @@ same-point p q k m h = (
       (record {
         inPlane = *-zero-cancel some (sym (plane-times q (corner p 0) (normal p) (pos k) (pos m)) ∙ c .inPlane);
         inEdge = λ {e} l.
-            *-nonneg-cancel some (subst (pos 0 ≤ℤ_) (inner-times q (e .from) (normal p) (minus (e .to) (e .from)) (pos k) (pos m)) (c .inEdge l));
+            *-nonneg-cancel some (subst (pos 0 ≤ℤ_) (edge-times q (e .from) (normal p) (minus (e .to) (e .from)) (pos k) (pos m)) (c .inEdge l));
       }),
 )
   where
@@ -82,7 +52,7 @@ between-covered p q q′ k k′ s t =
     (record {
       inPlane = plane-sum q q′ (corner p 0) (normal p) (pos k) (pos k′) ∙ zeros (c .inPlane) (c′ .inPlane);
       inEdge = λ {e} l.
-          subst (pos 0 ≤ℤ_) (sym (inner-sum q q′ (e .from) (normal p) (minus (e .to) (e .from)) (pos k) (pos k′))) (+-nonneg (c .inEdge l) (c′ .inEdge l));
+          subst (pos 0 ≤ℤ_) (sym (edge-sum q q′ (e .from) (normal p) (minus (e .to) (e .from)) (pos k) (pos k′))) (+-nonneg (c .inEdge l) (c′ .inEdge l));
     })
   where
     zeros : {x y : ℤ} → x ≡ pos 0 → y ≡ pos 0 → x +ℤ y ≡ pos 0
@@ -98,7 +68,7 @@ corner-covered {p} proper {c} m = covered-says p c 1 .1 (record { inPlane = in-p
     none-left : {x y : ℤ} → x ≡ y → x -ℤ y ≡ pos 0
     none-left {x} {y} e = combine₁ (pos 1) e (ring (x ∷ y ∷ []) (search reify depth 40 fits 200000, tt))
 
-    in-plane : dot (minus c (times (pos 1) (corner p 0))) (normal p) ≡ pos 0
+    in-plane : planeSide p c 1 ≡ pos 0
     in-plane = at-once c (corner p 0) (normal p) ∙ none-left (corner-height proper m (corner p 0))
 
     once : (n w c v : Vec) → det n w (minus c (times (pos 1) v)) -ℤ pos 0 ≡ det n w (minus c v)
@@ -115,7 +85,7 @@ corner-covered {p} proper {c} m = covered-says p c 1 .1 (record { inPlane = in-p
 
     in-edge :
         {e : Edge} → List·Memᴰ e (edges (p .corners)) → (c ≡ e .from) ⊎ ((c ≡ e .to) ⊎ List·Memᴰ c (e .others)) →
-        pos 0 ≤ℤ innerNumber p e c (pos 1)
-    in-edge {e} l (inl f) = subst (λ (c : Vec). pos 0 ≤ℤ innerNumber p e c (pos 1)) (sym f) (≡→≤ (at-from (normal p) (minus (e .to) (e .from)) (e .from)))
-    in-edge {e} l (inr (inl f)) = subst (λ (c : Vec). pos 0 ≤ℤ innerNumber p e c (pos 1)) (sym f) (≡→≤ (at-to (normal p) (e .from) (e .to)))
+        pos 0 ≤ℤ edgeSide p e c 1
+    in-edge {e} l (inl f) = subst (λ (c : Vec). pos 0 ≤ℤ edgeSide p e c 1) (sym f) (≡→≤ (at-from (normal p) (minus (e .to) (e .from)) (e .from)))
+    in-edge {e} l (inr (inl f)) = subst (λ (c : Vec). pos 0 ≤ℤ edgeSide p e c 1) (sym f) (≡→≤ (at-to (normal p) (e .from) (e .to)))
     in-edge {e} l (inr (inr o)) = <→≤ (<-by (turns proper l o) (once (normal p) (minus (e .to) (e .from)) c (e .from)))

@@ -1,5 +1,5 @@
--- The line that a cell is read along runs in no plane that an accepted scene's patches or edges have: it leaves every patch's plane, and passes no edge of a patch
--- that is not seen edge-on.
+-- The line that a cell is read along leaves the plane of every patch of an accepted scene, and passes beside every edge of a patch that is not seen edge-on: it lies in
+-- no plane through the eye and the edge.
 use mathlib.Core.Path.{_≡_, sym, _∙_}
 use mathlib.Core.Logic.{_≢_}
 use mathlib.Core.List.{[], _∷_, List·Memᴰ}

@@ -1,2 +1,2 @@
 -- The points that a panel covers.
-pub mod Cuttings
+pub mod Coverage

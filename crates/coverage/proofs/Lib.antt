@@ -3,6 +3,6 @@ pub mod Covered
 pub mod Points
 pub mod Generic
 pub mod MetPoint
-pub mod Cuttings
-pub mod Upright
-pub mod Cut
+pub mod Agreement
+pub mod Rectangles
+pub mod Examples
