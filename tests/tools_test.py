@@ -1,11 +1,12 @@
 """Tests of tools/: worked scenes, turned cameras, joints, cells by patch, round trips, the gate,
-sample rings, pictures, the commands.
+sample rings, two cuttings of one ring, pictures, the commands.
 
 Run by tools.sh. Each case is counted; a case that fails is named.
 """
 
 import collections
 import itertools
+import math
 import os
 import random
 import struct
@@ -18,6 +19,7 @@ from fractions import Fraction
 sys.dont_write_bytecode = True
 ROOT = os.path.dirname(os.path.dirname(os.path.abspath(__file__)))
 sys.path.insert(0, os.path.join(ROOT, "tools"))
+import cover  # noqa: E402
 import draw  # noqa: E402
 import gate  # noqa: E402
 import rays  # noqa: E402
@@ -803,6 +805,436 @@ def test_row_bound():
               along_each(view, whole, axes, rays.line_of))
 
 
+# --- two cuttings of one ring --------------------------------------------------------------------
+
+def across(*places, panel=5):
+    """The line of a patch at forward 100 with corners (x, z)."""
+    return patch_line(panel, [(x, 100, z) for x, z in places])
+
+
+def upright(right, *children):
+    """A node along the bore, its positive side to the right."""
+    return " ".join(["node %d,0,0 %d,1,0 %d,0,1" % (right, right, right), *children])
+
+
+BOTH_SIDES = "positive 1 negative 2"
+OTHER_HALF = piece(5, 100, 0, 50, -50, 50)
+
+# The square of panel 5, cut in six ways.
+CUTTINGS = (
+    ("whole", (NODE, FIVE)),
+    ("quarters", (NODE, piece(5, 100, -50, 0, -50, 0), piece(5, 100, 0, 50, -50, 0),
+                  piece(5, 100, -50, 0, 0, 50), piece(5, 100, 0, 50, 0, 50))),
+    ("two triangles", (NODE, across((-50, -50), (50, -50), (50, 50)),
+                       across((50, 50), (-50, 50), (-50, -50)))),
+    ("four triangles", (NODE, across((0, 0), (-50, -50), (50, -50)),
+                        across((50, 50), (0, 0), (50, -50)), across((0, 0), (50, 50), (-50, 50)),
+                        across((-50, 50), (-50, -50), (0, 0)))),
+    ("pieces that overlap, turned round",
+     (NODE, across((20, 50), (20, -50), (-50, -50), (-50, 50)), across((9, 9), (9, 0), (0, 0)),
+      across((50, 50), (-20, 50), (-20, -50), (50, -50)), OTHER_HALF, OTHER_HALF)),
+    ("halves on two sides", (upright(0, BOTH_SIDES), NODE, OTHER_HALF, NODE, HALF)))
+
+# Which of two scenes may be told to cover a point that the other does not.
+FIRST, SECOND, EITHER = (0,), (1,), (0, 1)
+
+# What is not a cutting of that square, and the panels that differ when the square comes first.
+SPOILT = (
+    ("a gap of one unit", (NODE, HALF, piece(5, 100, 1, 50, -50, 50)), {5: FIRST}),
+    ("too wide by one", (NODE, HALF, piece(5, 100, 0, 51, -50, 50)), {5: SECOND}),
+    ("moved by one", (NODE, piece(5, 100, -49, 51, -50, 50)), {5: EITHER}),
+    ("a corner cut off", (NODE, across((-50, -50), (50, -50), (50, 49), (49, 50), (-50, 50))),
+     {5: FIRST}),
+    ("triangles that gape", (NODE, across((-50, -50), (50, -50), (50, 50)),
+                             across((-50, -50), (49, 50), (-50, 50))), {5: FIRST}),
+    ("a hole in the middle", (NODE, piece(5, 100, -50, 0, -50, 50), piece(5, 100, 1, 50, -50, 50),
+                              piece(5, 100, 0, 1, -50, 0), piece(5, 100, 0, 1, 1, 50)),
+     {5: FIRST}),
+    ("half as another panel", (NODE, piece(4, 100, -50, 0, -50, 50), OTHER_HALF),
+     {4: SECOND, 5: FIRST}),
+    ("half one unit behind", (NODE + " positive 1", HALF, plane(101),
+                              piece(5, 101, 0, 50, -50, 50)), {5: EITHER}),
+    ("all of it one unit behind", (plane(101), piece(5, 101, -50, 50, -50, 50)), {5: EITHER}),
+    ("half missing", (NODE, HALF), {5: FIRST}),
+    ("no patch", (), {5: FIRST}),
+    ("a panel more", (FRONT + " positive 1", SEVEN, NODE, FIVE), {7: SECOND}))
+
+
+def accepted(lines):
+    return gate.check_scene(scene.build(text_of(*lines)))
+
+
+def in_triangle(point, a, b, c):
+    """In the plane, and with no weight on a corner below 0."""
+    n = gate.normal(a, b, c)
+    weights = [gate.dot(n, gate.normal(point, p, q)) for p, q in ((b, c), (c, a), (a, b))]
+    return gate.side(a, b, c, point) == 0 and min(weights) >= 0
+
+
+def panel_covers(whole, panel, point):
+    """Is the point in a triangle of the fan of some piece of the panel, or on its edge?"""
+    pieces = [whole.corners_of(patch) for patch in whole.patches if patch.panel == panel]
+    return any(in_triangle(point, corners[0], *two)
+               for corners in pieces for two in zip(corners[1:], corners[2:]))
+
+
+def is_right(scenes, panel, told):
+    """Does the panel cover the point in the scene that is named, and not in the other?"""
+    which, point = told
+    return (all(isinstance(part, (int, Fraction)) for part in point)
+            and panel_covers(scenes[which], panel, point)
+            and not panel_covers(scenes[1 - which], panel, point))
+
+
+def check_cover(name, first, second, wanted):
+    """The panels that differ are these, each told with a point that shows it."""
+    found = cover.compare(first, second)
+    told = {panel: found[panel] for panel in found if found[panel]}
+    named = {panel: told[panel][0] for panel in told}
+    fits = named.keys() == wanted.keys() and all(named[panel] in wanted[panel] for panel in named)
+    check("cover: " + name, wanted if fits else named, wanted)
+    check("witness: " + name, [panel for panel in told
+                               if not is_right((first, second), panel, told[panel])], [])
+
+
+def check_both_ways(name, first, second, wanted):
+    check_cover(name, first, second, wanted)
+    check_cover(name + ", the other first", second, first,
+                {panel: tuple(1 - which for which in wanted[panel]) for panel in wanted})
+
+
+def test_cuttings():
+    for (one, first), (other, second) in itertools.product(CUTTINGS, repeat=2):
+        check_cover("%s and %s" % (one, other), accepted(first), accepted(second), {})
+    for name, lines in CUTTINGS:
+        for window in ("3 3 4", "4 4 4", "7 5 3"):
+            check("same picture: %s, %s" % (name, window),
+                  booked(*gate.check_input(input_of(lines, window)))[0],
+                  booked(*gate.check_input(input_of((NODE, FIVE), window)))[0])
+    check("no patches in either", cover.compare(accepted(()), accepted((NODE,))), {})
+    check("all panels are told", cover.compare(accepted((NODE, FIVE)), accepted((NODE, FIVE))),
+          {5: None})
+
+
+def test_covered_points():
+    """"its pieces' edges and corners counted in": of the square and of the square turned round."""
+    half = Fraction(1, 2)
+    for corners in (accepted((NODE, FIVE)).corners, accepted((NODE, FIVE)).corners[::-1]):
+        square_piece = cover.Piece(corners)
+        for point in ((-50, 100, -50), (50, 100, 50), (half, 100, 50), (50, 100, half),
+                      (0, 100, 0)):
+            check("covered: %s,%s,%s" % point, square_piece.covers(point))
+        for point in ((51, 100, 0), (0, 100, 50 + half), (-50 - half, 100, 50), (0, 101, 0),
+                      (0, 100 + half, 0)):
+            check("not covered: %s,%s,%s" % point, square_piece.covers(point), False)
+
+
+# The square's outline in its plane: the lines x = -50, x = 50, z = -50 and z = 50, each with the
+# side that the square is on.
+SQUARE_OUTLINE = {((1, 0, 50), 0): [(-50, 50)], ((1, 0, -50), 1): [(-50, 50)],
+                  ((0, 1, 50), 0): [(-50, 50)], ((0, 1, -50), 1): [(-50, 50)]}
+
+
+def test_outlines():
+    for name, lines in CUTTINGS:
+        pieces = cover.pieces_of(accepted(lines))[5]
+        check("outline: " + name, cover.outline(pieces), SQUARE_OUTLINE)
+
+
+def test_spoilt_cuttings():
+    for (one, first), (other, second, wanted) in itertools.product(CUTTINGS, SPOILT):
+        check_both_ways("%s and %s" % (one, other), accepted(first), accepted(second), wanted)
+
+
+def check_lines(name, first, second, wanted):
+    check_both_ways(name, accepted(first), accepted(second), wanted)
+
+
+def test_panels_that_overlap():
+    """Each panel by itself, where two overlap in one plane."""
+    three, five = piece(3, 100, -50, 10, -50, 50), piece(5, 100, -10, 50, -50, 50)
+    threes = piece(3, 100, -50, 0, -50, 50), piece(3, 100, 0, 10, -50, 50)
+    both, cut = (NODE, three, five), (NODE, *threes, piece(5, 100, -10, 0, -50, 50), OTHER_HALF)
+    check_lines("two panels overlap", both, cut, {})
+    check_lines("less what both cover", both, (NODE, *threes, OTHER_HALF), {5: FIRST})
+    exchanged_ones = piece(3, 100, -10, 50, -50, 50), piece(5, 100, -50, 10, -50, 50)
+    check_lines("panels exchanged", both, (NODE, *exchanged_ones), {3: EITHER, 5: EITHER})
+
+
+def fin(right, near, far, high=50):
+    return wall(5, (right, near), (right, far), high=high)
+
+
+def fins(rights, near, far, first):
+    """Nodes with fins, one below the other, with numbers from the first's on."""
+    lines = []
+    for place, right in enumerate(rights, first):
+        child = "positive %d" % (place + 1) if right != rights[-1] else ""
+        lines += [upright(right, child), fin(right, near, far, high=600)]
+    return lines
+
+
+def test_crossing_planes():
+    """Pieces of one panel in planes that cross."""
+    by_square = (NODE + " " + BOTH_SIDES, FIVE, upright(0), fin(0, 100, 150),
+                 upright(0), fin(0, 50, 100))
+    by_fin = upright(0, BOTH_SIDES), fin(0, 50, 150), NODE, OTHER_HALF, NODE, HALF
+    check_lines("a square and a fin", by_square, by_fin, {})
+    shorter = (by_fin[0], fin(0, 50, 149), *by_fin[2:])
+    check_lines("a fin shorter by one", by_square, shorter, {5: FIRST})
+    fin_alone = upright(0), fin(0, 50, 150)
+    check_lines("the square gone", by_square, fin_alone, {5: FIRST})
+    amid = across((-50, -50), (50, -50), (0, 50))
+    check_lines("a triangle with its middle on the fin",
+                (by_square[0], amid, *by_square[2:]), fin_alone, {5: FIRST})
+
+
+def test_witness_off_many_fins():
+    """A witness in a square is off the fins that cross it at many simple fractions of its width."""
+    rights = sorted({2520 * over // under for under in range(1, 11) for over in range(under + 1)})
+    after = 1 + len(rights)
+    square_lines = (NODE + " positive 1 negative %d" % after, piece(5, 100, 0, 2520, -500, 500),
+                    *fins(rights, 100, 150, 1), *fins(rights, 50, 100, after))
+    check("fins to be off", len(rights), 33)
+    check_lines("a square with many fins", square_lines, fins(rights, 50, 150, 0), {5: FIRST})
+
+
+# Pieces by lattice places (i, j), for any plane: its origin and two vectors.
+
+def random_plane(draws):
+    """An origin and two vectors off one line, at times along the axes and at times short."""
+    while True:
+        reach = draws.choice((1, 2, 45))
+        u, v = (tuple(draws.choice((0, 1, 1)) * draws.randint(-reach, reach) for _ in range(3))
+                for _ in "uv")
+        if gate.cross(u, v) != (0, 0, 0):
+            return tuple(draws.randint(-900, 900) for _ in range(3)), u, v
+
+
+def put(where, place):
+    origin, u, v = where
+    return tuple(o + place[0] * a + place[1] * b for o, a, b in zip(origin, u, v))
+
+
+def lattice_patch(where, outline, draws):
+    """The line of a piece of panel 5, begun at any corner and either way round."""
+    at = draws.randrange(len(outline))
+    turned = (outline[at:] + outline[:at])[::draws.choice((1, -1))]
+    return patch_line(5, [put(where, place) for place in turned])
+
+
+def lattice_scene(where, outlines, draws):
+    """One node with these pieces in any order."""
+    points = ["%d,%d,%d" % put(where, place) for place in ((0, 0), (1, 0), (0, 1))]
+    lines = [lattice_patch(where, outline, draws) for outline in outlines]
+    return accepted(["node " + " ".join(points), *draws.sample(lines, len(lines))])
+
+
+def turn(p, q, r):
+    """Above 0 where r is left of the line from p to q."""
+    return (q[0] - p[0]) * (r[1] - p[1]) - (q[1] - p[1]) * (r[0] - p[0])
+
+
+def in_outline(outline, place):
+    return all(turn(p, q, place) >= 0 for p, q in zip(outline, outline[1:] + outline[:1]))
+
+
+def tiles():
+    """All rectangles, and squares halved along a diagonal, of three by three cells."""
+    found = []
+    for i, j, k, m in itertools.product(range(4), range(4), range(1, 4), range(1, 4)):
+        if i + k < 4 and j + m < 4:
+            corners = [(i, j), (i + k, j), (i + k, j + m), (i, j + m)]
+            found.append(corners)
+            found += [corners[:at] + corners[at + 1:] for at in range(4) if k == m]
+    return found
+
+
+# The quarters of a cell between its diagonals: what a tile covers is known by their middles.
+QUARTERS = tuple((i + Fraction(a, 6), j + Fraction(b, 6)) for i in range(3) for j in range(3)
+                 for a, b in ((1, 3), (3, 1), (5, 3), (3, 5)))
+
+
+def test_tiles():
+    """Random tiles that overlap, held against the quarters of cells that they cover."""
+    draws, kinds = random.Random(12), collections.Counter()
+    quarters_of = {tuple(tile): {place for place in QUARTERS if in_outline(tile, place)}
+                   for tile in tiles()}
+    for trial in range(80):
+        ones = draws.sample(tiles(), draws.randint(1, 6))
+        covered = set().union(*(quarters_of[tuple(tile)] for tile in ones))
+        inside = [tile for tile in tiles() if quarters_of[tuple(tile)] <= covered]
+        others = draws.sample(inside, draws.randint((len(inside) + 3) // 4, len(inside)))
+        lost = covered - set().union(*(quarters_of[tuple(tile)] for tile in others))
+        where = random_plane(draws)
+        first, second = (lattice_scene(where, some, draws) for some in (ones, others))
+        check_both_ways("tiles %d" % trial, first, second, {5: FIRST} if lost else {})
+        kinds[bool(lost)] += 1
+    check("both kinds of tiles", min(kinds[True], kinds[False]) > 15)
+
+
+def lattice_ring(outline):
+    """All lattice places of an outline's edges, in order."""
+    ring_places = []
+    for p, q in zip(outline, outline[1:] + outline[:1]):
+        steps = math.gcd(q[0] - p[0], q[1] - p[1])
+        ring_places += [(p[0] + k * (q[0] - p[0]) // steps, p[1] + k * (q[1] - p[1]) // steps)
+                        for k in range(steps)]
+    return ring_places
+
+
+def corners_only(places):
+    return [place for k, place in enumerate(places)
+            if turn(places[k - 1], place, places[(k + 1) % len(places)])]
+
+
+def cut_in_two(outline, draws):
+    """The parts on two sides of a line between two lattice places of the edges; the outline alone
+    where these are on one edge or a part would have too many corners.
+    """
+    places = lattice_ring(outline)
+    one, other = sorted(draws.sample(range(len(places)), 2))
+    parts = [corners_only(places[one:other + 1]), corners_only(places[other:] + places[:one + 1])]
+    return parts if all(3 <= len(part) <= 8 for part in parts) else [outline]
+
+
+def cut_up(outline, cuts, draws):
+    """A cutting of the outline by so many lines, each through one piece."""
+    pieces = [outline]
+    for _ in range(cuts):
+        pieces += cut_in_two(pieces.pop(draws.randrange(len(pieces))), draws)
+    return pieces
+
+
+OUTLINES = [[(24 * i, 24 * j) for i, j in places] for places in (
+    ((0, 0), (3, 1), (1, 3)), ((0, 0), (3, 0), (3, 3), (0, 3)), ((0, 1), (2, 0), (3, 2), (1, 3)),
+    ((0, 0), (2, 0), (3, 1), (3, 3), (1, 3), (0, 2)))]
+
+
+def corner_moved(pieces, draws):
+    """(a piece, one with another corner, which corner it is), both convex."""
+    while True:
+        old = draws.choice(pieces)
+        at, step = draws.randrange(len(old)), (draws.randint(-3, 3), draws.randint(-3, 3))
+        new = list(old)
+        new[at] = (old[at][0] + step[0], old[at][1] + step[1])
+        convex = gate.is_strictly_convex([place + (0,) for place in new])
+        if any(step) and convex and turn(*new[:3]) > 0:
+            return old, new, at
+
+
+def test_random_cuttings():
+    """Random cuttings of one outline cover the same. Where a corner of one piece is moved, nothing
+    new is covered while it stays in the outline, and nothing lost where its old place is in the new
+    piece: the other pieces only touch this one.
+    """
+    draws, kinds = random.Random(13), collections.Counter()
+    for trial in range(120):
+        outline, where = draws.choice(OUTLINES), random_plane(draws)
+        pieces = cut_up(outline, draws.randint(1, 20), draws)
+        first = lattice_scene(where, cut_up(outline, draws.randint(0, 12), draws), draws)
+        check_cover("random cuttings %d" % trial, first, lattice_scene(where, pieces, draws), {})
+        old, new, at = corner_moved(pieces, draws)
+        spoilt = lattice_scene(where, [new if some is old else some for some in pieces], draws)
+        lost, more = not in_outline(new, old[at]), not in_outline(outline, new[at])
+        check_both_ways("corner moved %d" % trial, first, spoilt,
+                        {5: FIRST * lost + SECOND * more} if lost or more else {})
+        kinds[lost, more] += 1
+    check("all kinds of moved corners", min(kinds[lost, more] for lost in (True, False)
+                                            for more in (True, False)) > 2)
+
+
+def left_of(outline, p, q):
+    """What of an outline is left of the line from p to q; empty where that has no area."""
+    sides = [turn(p, q, place) for place in outline]
+    if max(sides, default=0) <= 0:
+        return []
+    kept = []
+    for k, place in enumerate(outline):
+        if sides[k - 1] * sides[k] < 0:
+            share = Fraction(sides[k]) / (sides[k] - sides[k - 1])
+            kept.append(tuple(here + share * (before - here)
+                              for here, before in zip(place, outline[k - 1])))
+        if sides[k] >= 0:
+            kept.append(place)
+    return kept
+
+
+def cut_away(outline, other):
+    """What is left of an outline outside another: convex parts with an area."""
+    parts = []
+    for p, q in zip(other, other[1:] + other[:1]):
+        parts.append(left_of(outline, q, p))
+        outline = left_of(outline, p, q)
+    return [part for part in parts if part]
+
+
+def area_left(outlines, others):
+    """Is an area left of some outline when the others are cut away from it one by one?"""
+    parts = outlines
+    for other in others:
+        parts = [rest for part in parts for rest in cut_away(part, other)]
+    return bool(parts)
+
+
+def random_triangle(draws):
+    while True:
+        places = [(6 * draws.randint(0, 6), 6 * draws.randint(0, 6)) for _ in range(3)]
+        if turn(*places) > 0:
+            return places
+
+
+def recut(outlines, draws):
+    """The outlines cut up; perhaps with a piece missing, and perhaps with one more."""
+    pieces = [part for outline in outlines for part in cut_up(outline, draws.randrange(4), draws)]
+    if draws.random() < 0.5:
+        pieces.pop(draws.randrange(len(pieces)))
+    return pieces + [random_triangle(draws) for _ in range(draws.choice((0, 0, 0, 1)))]
+
+
+def test_against_cutting_away():
+    """Triangles that overlap, in three planes that cross, held against the slow way: each piece of
+    the one less each of the other. The lists stand without a tree, which has no part in it.
+    """
+    draws, kinds = random.Random(14), collections.Counter()
+    for trial in range(60):
+        lines, lost, more = ([], []), False, False
+        for where in [((0, 0, 0), *random_plane(draws)[1:]) for _ in range(3)]:
+            ones = [random_triangle(draws) for _ in range(draws.randint(1, 4))]
+            others = recut(ones, draws) if draws.random() < 0.7 else ones
+            lost, more = lost or area_left(ones, others), more or area_left(others, ones)
+            for some, outlines in zip(lines, (ones, others)):
+                some += [lattice_patch(where, outline, draws) for outline in outlines]
+        first, second = (scene.unpack(scene.build(text_of(*some))) for some in lines)
+        check_both_ways("cut away %d" % trial, first, second,
+                        {5: FIRST * lost + SECOND * more} if lost or more else {})
+        kinds[lost, more] += 1
+    check("all kinds to cut away", len(kinds) == 4 and min(kinds.values()) > 2)
+
+
+def grid(columns, rows, size):
+    """The lines of a grid of pieces of panel 5 over a square of `size` units."""
+    wide, high = size // columns, size // rows
+    return (NODE, *(piece(5, 100, wide * i, wide * i + wide, high * j, high * j + high)
+                    for i in range(columns) for j in range(rows)))
+
+
+def test_full_scenes():
+    """As many pieces as a scene can have, in one plane and around a bore."""
+    squares, strips, bars = (accepted(grid(*sizes, 1024))
+                             for sizes in ((32, 32), (1024, 1), (1, 1024)))
+    check("full scenes", [len(whole.patches) for whole in (squares, strips, bars)], [1024] * 3)
+    check_cover("1,024 strips, upright and level", strips, bars, {})
+    check_cover("one of 1,024 squares missing", strips, accepted(grid(32, 32, 1024)[:-1]),
+                {5: FIRST})
+    flat = "--segments 9 --facets 1 --bend 0 --length 100 --rings 92 "
+    check_cover("a long ring under two trees", made(flat), made(flat + "--tree walls"), {})
+    check_cover("panels of a ring gone", made(""), made("--tree halves --without 3,17"),
+                {3: FIRST, 17: FIRST})
+    other = cover.compare(made("--seed 1"), made("--seed 2"))
+    check("a ring with other numbers", len(other) > 200 and all(other.values()))
+
+
 # --- pictures ------------------------------------------------------------------------------------
 
 def png_chunks(data):
@@ -928,6 +1360,41 @@ def test_patch_commands():
     for words in (["rays.py", "--patches"], ["rays.py", "--patches", "--patches", "-"],
                   ["gate.py", "--patches", "-"], ["draw.py", "--patches", "-", "-", "1"]):
         check("misused: " + " ".join(words), command(*words, data=data), (1, b""))
+
+
+def covers_said(one, other, *options):
+    """What cover.py ends with and says of two files, the second of them standard input."""
+    with tempfile.TemporaryDirectory() as folder:
+        name = os.path.join(folder, "first")
+        scene.write_file(name, one)
+        return command("cover.py", *options, name, "-", data=other)
+
+
+def test_cover_commands():
+    s, cut, gap, wide, wrong = (input_of(lines, "4 4 4") for lines in (
+        (NODE, FIVE), (NODE, HALF, OTHER_HALF), (NODE, HALF, piece(5, 100, 3, 50, -50, 50)),
+        (NODE, piece(4, 100, -50, 0, -50, 50), OTHER_HALF), (FRONT, FIVE)))
+    told = b"panel 5: only the %s covers 3/2,100,0\n"
+    check("cover.py, the same", covers_said(s, cut), (0, b"the same points: 1 panels\n"))
+    check("cover.py, a gap", covers_said(s, gap), (1, told % b"first"))
+    check("cover.py, a gap in the first", covers_said(gap, cut), (1, told % b"second"))
+    status, lines = covers_said(s, wide)
+    check("cover.py, a line for each panel", (status, [line[:9] for line in lines.splitlines()]),
+          (1, [b"panel 4: ", b"panel 5: "]))
+    check("cover.py --scene", covers_said(s[12:], cut[12:], "--scene"),
+          (0, b"the same points: 1 panels\n"))
+    check("cover.py, no panels", covers_said(input_of((), "4 4 4"), input_of((), "1 1 1")),
+          (0, b"the same points: 0 panels\n"))
+    check("cover.py, an odd view", covers_said(s, input_of((NODE, FIVE), "0 0 0"))[0], 0)
+    found = b"refused 9: patch of panel 5 in node 0 is not on the plane of node 0\n"
+    check("cover.py, 9", covers_said(wrong, s), (2, b"the first: " + found))
+    check("cover.py, 9 in the second", covers_said(s, wrong), (2, b"the second: " + found))
+    found = b"refused 1: 0 bytes, not 32 to 57376\n"
+    check("cover.py, 1", covers_said(s, b""), (2, b"the second: " + found))
+    check("cover.py, a view given as a scene", covers_said(s, s, "--scene")[0], 2)
+    for words in ([], ["-"], ["-", "-"], ["--scene", "-", "-"], ["--scene", "-"],
+                  ["-", "no such file"], ["-", "-", "-"], ["-", "-", "--scene"]):
+        check("misused: cover.py " + " ".join(words), command("cover.py", *words, data=s), (2, b""))
 
 
 def test_draw_axes():
