@@ -767,6 +767,7 @@ def test_ring_cuttings():
         check("two pieces a quad: " + options, len(other.patches), 2 * len(whole.patches))
         check("the same picture: " + options, now, rows)
         check("other pieces have cells: " + options, sorted(own) != sorted(cells))
+        check("the same points: " + options, set(cover.compare(whole, other).values()), {None})
     for options in ("--bend 19", "--length 301"):
         check("not cut across: " + options, "even" in fault(made, "--cut across " + options))
     check("cut across a straight bore", len(made("--cut across --bend 0").patches), 608)
