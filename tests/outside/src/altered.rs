@@ -1,10 +1,9 @@
 //! Stored cases altered in one place: each must be unreadable or differ.
 
 use crate::block::{Block, Reading};
-use crate::cases::{files, trial, trials, File};
+use crate::cases::{files, trials, trials_of, File};
 use crate::compare::check_due;
 use crate::random::Random;
-use crate::survey::Due;
 use crate::trial::Trial;
 
 /// The keys of what is due; a change of another number need not show.
@@ -13,6 +12,8 @@ const DUE: &[&str] = &[
     "picture_row",
     "counts",
     "patch_counts",
+    "patch_counts_a",
+    "patch_counts_b",
     "unlit_row",
     "counter_after",
 ];
@@ -23,19 +24,20 @@ fn key(line: &str) -> &str {
     line.split(' ').next().unwrap_or("")
 }
 
-fn read(lines: &Lines, request: u32) -> Reading<Trial> {
+fn read(lines: &Lines, file: &File) -> Reading<Vec<Trial>> {
     let text = lines.join("\n");
-    trial(Block::of(&text, 1)?, request)
+    trials_of(Block::of(&text, 1)?, file)
 }
 
-/// Is the block unreadable, or does it disagree with what was due before?
-fn is_seen(lines: &Lines, request: u32, due: &Due, rng: &mut Random) -> bool {
-    match read(lines, request) {
+/// Is the block unreadable, or does a trial of it disagree with what was due
+/// before?
+fn is_seen(lines: &Lines, file: &File, before: &[Trial], rng: &mut Random) -> bool {
+    match read(lines, file) {
         Err(_) => true,
-        Ok(other) => {
-            let outcome = check_due(due, &other.call, &other.due, rng);
+        Ok(others) => before.iter().zip(others).any(|(trial, other)| {
+            let outcome = check_due(&trial.due, &other.call, &other.due, rng);
             !outcome.differences.is_empty()
-        }
+        }),
     }
 }
 
@@ -75,17 +77,17 @@ fn alterations(lines: &Lines, rng: &mut Random) -> Vec<Lines> {
 /// were seen and how many were not.
 pub fn every_line() -> Reading<(usize, usize)> {
     let (mut seen, mut missed) = (0, 0);
-    for (File { name, request, .. }, text) in files()? {
+    for (file, text) in files()? {
         let mut rng = Random::new(1, text.len() as u64);
         for part in text.trim_end().split("\n\n").skip(1) {
             let lines: Lines = part.lines().map(str::to_string).collect();
-            let due = read(&lines, *request)?.due;
+            let before = read(&lines, file)?;
             for altered in alterations(&lines, &mut rng) {
-                if is_seen(&altered, *request, &due, &mut rng) {
+                if is_seen(&altered, file, &before, &mut rng) {
                     seen += 1;
                 } else {
                     missed += 1;
-                    println!("MISSED in {name}:\n{}", altered.join("\n"));
+                    println!("MISSED in {}:\n{}", file.name, altered.join("\n"));
                 }
             }
         }
@@ -93,18 +95,25 @@ pub fn every_line() -> Reading<(usize, usize)> {
     Ok((seen, missed))
 }
 
-/// A file that does not say what it is, or with its blocks out of order, is
-/// refused.
+/// A file that does not say what it is, with its blocks out of order, or with
+/// a block of another kind, is refused.
 pub fn files_are_refused() -> Reading<bool> {
-    let (File { request, .. }, text) = files()?.swap_remove(0);
-    let second = text.split("\n\n").nth(2).unwrap_or("");
-    let broken = [
-        text.replacen("# ", "", 1),
-        text.trim_end().to_string(),
-        text.replacen("\n\n", "\n\n\n", 2),
-        format!("{text}\n# said too late\n"),
-        format!("# a file\n\n{second}\n"),
-    ];
-    let is_refused = |text: &String| trials(text, *request).is_err();
-    Ok(broken.iter().all(is_refused))
+    let files = files()?;
+    let first = |text: &str| text.split("\n\n").nth(1).unwrap_or("").to_string();
+    let is_refused = |(k, (file, text)): (usize, &(&File, String))| {
+        let second = text.split("\n\n").nth(2).unwrap_or("");
+        let mut broken = vec![
+            text.replacen("# ", "", 1),
+            text.trim_end().to_string(),
+            text.replacen("\n\n", "\n\n\n", 2),
+            format!("{text}\n# said too late\n"),
+            format!("# a file\n\n{second}\n"),
+        ];
+        let other = first(&files[(k + 1) % files.len()].1);
+        if key(&other) != key(second) {
+            broken.push(format!("# a file\n\n{other}\n"));
+        }
+        broken.iter().all(|text| trials(text, file).is_err())
+    };
+    Ok(files.iter().enumerate().all(is_refused))
 }

@@ -4,12 +4,12 @@
 use std::fs;
 use std::path::PathBuf;
 
-use crate::axes::Axes;
 use crate::block::{blocks, Block, Reading};
-use crate::call::{Call, View, COUNTS, ROW};
+use crate::call::Call;
+use crate::keys::{counts, patch_counts, picture, unlit_row, view};
 use crate::ray::Sight;
 use crate::scene::patches_told;
-use crate::survey::{survey_by, Done, Due};
+use crate::survey::{self, survey_by, Done, Due};
 use crate::trial::{Suite, Trial};
 
 /// A file, and how many blocks it has: one cut short is seen, and so is one
@@ -18,7 +18,7 @@ pub struct File {
     pub name: &'static str,
     blocks: usize,
     /// "Each file takes its own request and all before it as in force."
-    pub request: u32,
+    request: u32,
 }
 
 const fn file(name: &'static str, blocks: usize, request: u32) -> File {
@@ -33,12 +33,15 @@ const FILES: &[File] = &[
     file("F-1.txt", 187, 1),
     file("F-2.txt", 187, 2),
     file("F-3.txt", 187, 3),
+    file("F-5.txt", 80, 5),
 ];
 
 /// The request that brought the patch table.
 const PATCH_TABLE: u32 = 2;
 /// The request by which joints no longer see through.
 const JOINTS: u32 = 3;
+/// The request that compares two cuttings.
+const CUTTINGS: u32 = 5;
 
 impl File {
     /// How its cases read a sight line.
@@ -46,6 +49,19 @@ impl File {
         match self.request < JOINTS {
             true => Sight::Plain,
             false => Sight::Beside,
+        }
+    }
+
+    /// Is each of its blocks two calls, on two cuttings?
+    fn is_of_cuttings(&self) -> bool {
+        self.request == CUTTINGS
+    }
+
+    /// The kind of its blocks.
+    fn kind(&self) -> &'static str {
+        match self.is_of_cuttings() {
+            true => "pair",
+            false => "case",
         }
     }
 }
@@ -76,10 +92,11 @@ pub fn stored() -> Reading<Vec<Suite>> {
     let mut all = Vec::new();
     for (file, text) in files()? {
         let File { name, blocks, .. } = file;
-        let mut trials = trials(&text, file.request).map_err(|why| format!("{name}, {why}"))?;
-        if trials.len() != *blocks {
-            return Err(format!("{name} has {} blocks, not {blocks}", trials.len()));
+        let told = trials(&text, file).map_err(|why| format!("{name}, {why}"))?;
+        if told.len() != *blocks {
+            return Err(format!("{name} has {} blocks, not {blocks}", told.len()));
         }
+        let mut trials: Vec<Trial> = told.into_iter().flatten().collect();
         if file.request < PATCH_TABLE {
             let own = trials.iter_mut();
             own.for_each(|trial| complete(trial, file.sight()));
@@ -87,6 +104,7 @@ pub fn stored() -> Reading<Vec<Suite>> {
         all.push(Suite {
             name,
             sight: file.sight(),
+            cuttings: file.is_of_cuttings(),
             trials,
         });
     }
@@ -100,19 +118,61 @@ fn complete(trial: &mut Trial, sight: Sight) {
     }
 }
 
-pub fn trials(text: &str, request: u32) -> Reading<Vec<Trial>> {
-    let read = |block| trial(block, request);
+/// The trials of each block.
+pub fn trials(text: &str, file: &File) -> Reading<Vec<Vec<Trial>>> {
+    let read = |block| trials_of(block, file);
     blocks(text)?.into_iter().map(read).collect()
 }
 
-/// What a block says, by its kind and by the request in force.
-pub fn trial(mut block: Block, request: u32) -> Reading<Trial> {
-    let trial = match block.kind {
-        "case" => survey_call(&mut block, request)?,
-        kind => return Err(block.wrong(&format!("no such kind: {kind}"))),
+/// What a block says, by its kind and by the request in force: one trial, or
+/// two on two cuttings.
+pub fn trials_of(mut block: Block, file: &File) -> Reading<Vec<Trial>> {
+    if block.kind != file.kind() {
+        return Err(block.wrong(&format!("not of kind {}", file.kind())));
+    }
+    let trials = match file.is_of_cuttings() {
+        true => two_cuttings(&mut block)?.into(),
+        false => vec![survey_call(&mut block, file.request)?],
     };
     block.end()?;
-    Ok(trial)
+    Ok(trials)
+}
+
+/// "`pair`: two cuttings and one view". The file leaves the counters free: they
+/// are the ends of what question 12 lets pass.
+fn two_cuttings(block: &mut Block) -> Reading<[Trial; 2]> {
+    let about = block.text("about")?;
+    let scenes = [block.bytes("scene_a")?, block.bytes("scene_b")?];
+    let view = view(block)?;
+    if block.number::<u32>("answer")? != 0 {
+        return Err(block.wrong("a cutting that is not accepted"));
+    }
+    let picture = picture(block, &view)?;
+    let counts = counts(block)?;
+    let name = format!("{} {} ({about})", block.kind, block.number);
+    let mut cutting = |letter: &str, scene: Vec<u8>, counter: u32| -> Reading<Trial> {
+        let call = Call {
+            counter,
+            ..Call::new(scene, view)
+        };
+        let key = format!("patch_counts_{letter}");
+        let table = patch_counts(block, &key, call.patch_counts_len)?;
+        let rows = picture.chunks(usize::from(view.width).max(1));
+        let result = Ok(Done {
+            unlit: rows.flat_map(survey::unlit_row).collect(),
+            picture: picture.clone(),
+            counts: counts.clone(),
+            patch_counts: table,
+        });
+        let counter = counter + 1;
+        Ok(Trial {
+            name: format!("{name}, scene {letter}"),
+            call,
+            due: Due { result, counter },
+        })
+    };
+    let [a, b] = scenes;
+    Ok([cutting("a", a, 0)?, cutting("b", b, u32::MAX - 1)?])
 }
 
 /// "`case`: one survey call".
@@ -138,23 +198,6 @@ fn survey_call(block: &mut Block, request: u32) -> Reading<Trial> {
     })
 }
 
-fn view(block: &mut Block) -> Reading<View> {
-    let eye = block.numbers("eye")?;
-    let axes = Axes {
-        right: block.numbers("right")?,
-        forward: block.numbers("forward")?,
-        up: block.numbers("up")?,
-    };
-    let [width, height, lens] = block.numbers("window")?;
-    Ok(View {
-        eye,
-        axes,
-        width,
-        height,
-        lens,
-    })
-}
-
 /// "Where the answer is not 0 only `counter_after` follows".
 fn due(block: &mut Block, call: &Call, request: u32) -> Reading<Due> {
     let result = match block.number("answer")? {
@@ -168,17 +211,14 @@ fn due(block: &mut Block, call: &Call, request: u32) -> Reading<Due> {
 }
 
 fn done(block: &mut Block, call: &Call, request: u32) -> Reading<Done> {
-    let rows = || 0..usize::from(call.view.height);
-    let (mut picture, mut unlit) = (Vec::new(), Vec::new());
-    for j in rows() {
-        picture.extend(picture_row(block, j, call.view.width)?);
-    }
+    let picture = picture(block, &call.view)?;
     let counts = counts(block)?;
     let patch_counts = match request < PATCH_TABLE {
         true => vec![0; call.patch_counts_len],
-        false => patch_counts(block, call.patch_counts_len)?,
+        false => patch_counts(block, "patch_counts", call.patch_counts_len)?,
     };
-    for j in rows() {
+    let mut unlit = Vec::new();
+    for j in 0..usize::from(call.view.height) {
         unlit.extend(unlit_row(block, j)?);
     }
     Ok(Done {
@@ -187,50 +227,4 @@ fn done(block: &mut Block, call: &Call, request: u32) -> Reading<Done> {
         patch_counts,
         unlit,
     })
-}
-
-/// "row j from the left as runs `number*how often`".
-fn picture_row(block: &mut Block, j: usize, width: u16) -> Reading<Vec<u16>> {
-    let runs = block.row::<u16>("picture_row", j, '*')?;
-    let mut row = Vec::new();
-    for (panel, often) in runs {
-        row.extend(std::iter::repeat_n(panel, usize::from(often)));
-    }
-    match row.len() == usize::from(width) {
-        true => Ok(row),
-        false => Err(block.wrong("the row is not as wide as the window")),
-    }
-}
-
-/// "`panel:cells` of every entry that is not 0; all others are 0".
-fn counts(block: &mut Block) -> Reading<Vec<u32>> {
-    let mut counts = vec![0; COUNTS];
-    let words = block.words("counts")?;
-    for (panel, cells) in block.pairs::<u32>(&words, ':')? {
-        match counts.get_mut(panel as usize) {
-            Some(entry) if *entry == 0 && cells > 0 => *entry = cells,
-            _ => return Err(block.wrong("no such entry, or one told twice or as 0")),
-        }
-    }
-    Ok(counts)
-}
-
-/// "all entries".
-fn patch_counts(block: &mut Block, length: usize) -> Reading<Vec<u32>> {
-    let words = block.words("patch_counts")?;
-    if words.len() != length {
-        return Err(block.wrong("not as many entries as the table has"));
-    }
-    words.into_iter().map(|word| block.value(word)).collect()
-}
-
-/// "row j's used pairs `offset:length`; the rest of the row is 0".
-fn unlit_row(block: &mut Block, j: usize) -> Reading<Vec<u16>> {
-    let pairs = block.row::<u16>("unlit_row", j, ':')?;
-    let mut row: Vec<u16> = pairs.into_iter().flat_map(|(o, l)| [o, l]).collect();
-    if row.len() > ROW {
-        return Err(block.wrong("more pairs than a row holds"));
-    }
-    row.resize(ROW, 0);
-    Ok(row)
 }

@@ -32,6 +32,10 @@ pub enum Difference {
     FirstShowsClosest,
     DifferWhereChosen,
     SecondShowsKept,
+    /// F-5: two cuttings of one ring.
+    CuttingsPicture,
+    CuttingsCounts,
+    CuttingsUnlit,
     /// `ringbill` printed something else.
     Bill,
 }
@@ -122,6 +126,17 @@ pub fn panel_sums_hold(call: &Call, lent: &Lent) -> bool {
     }
     let counts = lent.counts.iter().map(|&cells| u64::from(cells));
     sums.into_iter().skip(1).eq(counts.skip(1))
+}
+
+/// "From every accepted view their pictures and panel counts must agree": what
+/// two accepted calls on two cuttings left. The unlit lists are those of the
+/// pictures.
+pub fn cuttings_apart(first: &Lent, second: &Lent) -> Vec<Difference> {
+    let mut found = Vec::new();
+    note(&mut found, first.picture != second.picture, CuttingsPicture);
+    note(&mut found, first.counts != second.counts, CuttingsCounts);
+    note(&mut found, first.unlit != second.unlit, CuttingsUnlit);
+    found
 }
 
 /// The gate alone, for lengths that nobody can lend.

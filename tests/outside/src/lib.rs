@@ -5,7 +5,7 @@
 //! The cases: `random`, `polygon`, `soup`, `works`, `hinge`, `tree`, `loose`,
 //! `mount`, `view`, `generate`, `damage`, `stored`, `header`, `outer`, `pairs`.
 //! Cases with what is due known beforehand: `trial`, `turned`, `booking`,
-//! `joints`, `stretches`, and from files `block`, `cases`.
+//! `joints`, `stretches`, and from files `block`, `keys`, `cases`.
 //! The comparison: `compare`, `differential`, `tally`, `beside`; and what shows
 //! that it can fail: `fault`, `wrong_gate`, `wrong_lengths`, `wrong_questions`,
 //! `wrong_paint`, `wrong_joints`, `wrong_camera`, `wrong_booking`,
@@ -30,6 +30,7 @@ pub mod generate;
 pub mod header;
 pub mod hinge;
 pub mod joints;
+pub mod keys;
 pub mod loose;
 pub mod mount;
 pub mod outer;

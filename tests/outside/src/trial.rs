@@ -4,9 +4,9 @@
 
 use crate::block::Reading;
 use crate::booking::booking;
-use crate::call::{Call, Library, View};
+use crate::call::{Call, Lent, Library, View};
 use crate::cases::stored;
-use crate::compare::check_due;
+use crate::compare::{check_due, cuttings_apart};
 use crate::joints::joints;
 use crate::random::Random;
 use crate::ray::Sight;
@@ -67,6 +67,8 @@ const SHOWN: usize = 20;
 pub struct Suite {
     pub name: &'static str,
     pub sight: Sight,
+    /// Are the trials, two by two, of one ring cut in two ways?
+    pub cuttings: bool,
     pub trials: Vec<Trial>,
 }
 
@@ -74,6 +76,7 @@ fn suites() -> Reading<Vec<Suite>> {
     let told = |name, sight, trials| Suite {
         name,
         sight,
+        cuttings: false,
         trials,
     };
     let mut all = vec![
@@ -92,7 +95,7 @@ fn suites() -> Reading<Vec<Suite>> {
 pub fn hold_model() -> usize {
     each(|suite| {
         let model = |call: &Call| Due::by(suite.sight, call);
-        hold(suite.name, &suite.trials, model)
+        hold(&suite, model)
     })
 }
 
@@ -101,7 +104,7 @@ pub fn hold_model() -> usize {
 pub fn hold_library<L: Library>(library: impl Fn() -> L) -> usize {
     each(|mut suite| {
         let thin = brought_up(&mut suite);
-        hold(suite.name, &suite.trials, |_: &Call| library()) + usize::from(thin)
+        hold(&suite, |_: &Call| library()) + usize::from(thin)
     })
 }
 
@@ -136,12 +139,27 @@ fn brought_up(suite: &mut Suite) -> bool {
 
 /// Puts each trial to the library that is to answer its call, and says how
 /// many agree; gives how many do not. None at all is a fault as well.
-fn hold<L: Library>(of: &str, trials: &[Trial], library: impl Fn(&Call) -> L) -> usize {
+///
+/// Of two cuttings the second is also held to what the library left of the
+/// first, whatever is due for either.
+fn hold<L: Library>(suite: &Suite, library: impl Fn(&Call) -> L) -> usize {
+    let Suite {
+        name: of, trials, ..
+    } = suite;
     let mut failed = 0;
+    let mut first: Option<Lent> = None;
     for (k, trial) in trials.iter().enumerate() {
         let mut noise = Random::new(trials.len() as u64, k as u64);
         let asked = library(&trial.call);
-        let found = check_due(&asked, &trial.call, &trial.due, &mut noise).differences;
+        let outcome = check_due(&asked, &trial.call, &trial.due, &mut noise);
+        let mut found = outcome.differences;
+        first = match first {
+            Some(first) => {
+                found.extend(cuttings_apart(&first, &outcome.lent));
+                None
+            }
+            None => suite.cuttings.then_some(outcome.lent),
+        };
         if !found.is_empty() {
             failed += 1;
             if failed <= SHOWN {
