@@ -5,7 +5,8 @@
 //! The cases: `random`, `polygon`, `soup`, `works`, `hinge`, `tree`, `loose`,
 //! `mount`, `view`, `generate`, `damage`, `stored`, `header`, `outer`, `pairs`.
 //! Cases with what is due known beforehand: `trial`, `turned`, `booking`,
-//! `joints`, `stretches`, and from files `block`, `keys`, `cases`.
+//! `joints`, `stretches`, `rings` with `cover`, and from files `block`, `keys`,
+//! `cases`.
 //! The comparison: `compare`, `differential`, `tally`, `beside`; and what shows
 //! that it can fail: `fault`, `wrong_gate`, `wrong_lengths`, `wrong_questions`,
 //! `wrong_paint`, `wrong_joints`, `wrong_camera`, `wrong_booking`,
@@ -22,6 +23,7 @@ pub mod call;
 pub mod cases;
 pub mod compare;
 pub mod consistency;
+pub mod cover;
 pub mod damage;
 pub mod differential;
 pub mod fault;
@@ -38,6 +40,7 @@ pub mod pairs;
 pub mod polygon;
 pub mod random;
 pub mod ray;
+pub mod rings;
 pub mod scene;
 pub mod soup;
 pub mod stations;

@@ -19,6 +19,7 @@ use outside::differential::{case, put, Case, Tally};
 use outside::fault::Faulty;
 use outside::generate::{FULL, SMALL};
 use outside::random::Random;
+use outside::rings::covered;
 use outside::stations::stations;
 use outside::steps::steps_agree;
 use outside::survey::is_read_otherwise;
@@ -37,7 +38,7 @@ fn main() {
     let mut failed = 0;
     let old = [("the old view's directions", old_directions_hold())];
     let told = stations().into_iter().chain(parts_are_told_apart());
-    for (name, held) in told.chain(old) {
+    for (name, held) in told.chain(covered()).chain(old) {
         println!("{} {name}", if held { "holds" } else { "FAILS" });
         failed += usize::from(!held);
     }

@@ -1,6 +1,6 @@
 //! Calls with what is due for them, known beforehand: the turned stations,
-//! those booked patch by patch, those of joints, those of stretches, and the
-//! stored cases.
+//! those booked patch by patch, those of joints, those of stretches, those of
+//! cuttings, and the stored cases.
 
 use crate::block::Reading;
 use crate::booking::booking;
@@ -10,6 +10,7 @@ use crate::compare::{check_due, cuttings_apart};
 use crate::joints::joints;
 use crate::random::Random;
 use crate::ray::Sight;
+use crate::rings::rings;
 use crate::scene::Scene;
 use crate::stretches::stretches;
 use crate::survey::{counts, is_read_otherwise, Done, Due};
@@ -85,6 +86,7 @@ fn suites() -> Reading<Vec<Suite>> {
         told("the joint stations", Sight::Beside, joints(Sight::Beside)),
         told("the joints before F-3", Sight::Plain, joints(Sight::Plain)),
         told("the stretch stations", Sight::Beside, stretches()),
+        told("the cutting stations", Sight::Beside, rings()),
     ];
     all.extend(stored()?);
     Ok(all)
