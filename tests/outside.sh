@@ -1,7 +1,7 @@
 #!/usr/bin/env bash
 # The tests from outside, over the library as it was just proved: its read-only memory, the C header, the console example, the stored bills, the inputs and outputs that fail, and through the C interface the stored cases and the
 # ray-by-ray program in Rust.
-#   outside.sh [CASES [SEED]]      more cases, or others
+#   outside.sh [CASES [SEED]]      more cases, or others; for each case there are two pairs of cuttings besides
 set -euo pipefail
 cd "$(dirname "${BASH_SOURCE[0]}")/.."
 cases=${1:-3000}

@@ -1,6 +1,7 @@
 //! One call put to the library and to the model.
 
 use crate::call::{Call, Lent, Library};
+use crate::cuttings::Cuttings;
 use crate::gate::Gate;
 use crate::pairs::{parts, Pair};
 use crate::random::Random;
@@ -137,6 +138,14 @@ pub fn cuttings_apart(first: &Lent, second: &Lent) -> Vec<Difference> {
     note(&mut found, first.counts != second.counts, CuttingsCounts);
     note(&mut found, first.unlit != second.unlit, CuttingsUnlit);
     found
+}
+
+/// Both calls of two cuttings, and F-5 on what they left.
+pub fn check_cuttings(library: &dyn Library, pair: &Cuttings, rng: &mut Random) -> [Outcome; 2] {
+    let [first, mut second] = pair.calls().map(|call| check(library, call, rng));
+    let apart = cuttings_apart(&first.lent, &second.lent);
+    second.differences.extend(apart);
+    [first, second]
 }
 
 /// The gate alone, for lengths that nobody can lend.

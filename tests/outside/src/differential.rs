@@ -1,7 +1,9 @@
 //! The run: cases by number, each from the seed alone.
 
 use crate::call::{Call, Library};
-use crate::compare::{check, check_gate, check_pair, Difference};
+use crate::compare::{check, check_cuttings, check_gate, check_pair, Difference, Outcome};
+use crate::cover::same_cover;
+use crate::cuttings::{make_cuttings, Cuttings};
 use crate::damage::LOOSE;
 use crate::gate::Gate;
 use crate::generate::{make, Kind, Size, KINDS};
@@ -23,6 +25,8 @@ pub enum Case {
     Lengths(Call),
     /// Two scenes for demand 3.
     Two(Kind, Box<Pair>),
+    /// Two scenes for F-5.
+    Ring(Box<Cuttings>),
 }
 
 impl Case {
@@ -37,6 +41,7 @@ impl Case {
             Case::Ends(_) => "calls at the ends".to_string(),
             Case::Lengths(_) => "lengths beyond memory".to_string(),
             Case::Two(kind, _) => format!("pair {kind:?}"),
+            Case::Ring(_) => "two cuttings".to_string(),
         }
     }
 
@@ -45,6 +50,7 @@ impl Case {
             Case::Scene(_, call) | Case::Damaged(_, call) => vec![call],
             Case::Ends(call) | Case::Lengths(call) => vec![call],
             Case::Two(_, pair) => vec![&pair.first, &pair.second],
+            Case::Ring(pair) => pair.calls().to_vec(),
         }
     }
 }
@@ -76,6 +82,13 @@ pub fn case(seed: u64, number: u64, size: Size) -> Case {
         }
         _ => damaged(rng, size),
     }
+}
+
+/// Pair of cuttings `number` of the run of `seed`; they are numbered by
+/// themselves.
+pub fn ring(seed: u64, number: u64, size: Size) -> Case {
+    let mut rng = Random::new(seed.rotate_left(32), number);
+    Case::Ring(Box::new(make_cuttings(&mut rng, size)))
 }
 
 fn scene_call(rng: &mut Random, kind: Kind, size: Size) -> Call {
@@ -171,6 +184,14 @@ fn one<H: Copy>(
     }
 }
 
+/// What differs in either call, each kind once.
+fn of_both(outcomes: [Outcome; 2]) -> Vec<Difference> {
+    let mut all = outcomes.map(|outcome| outcome.differences).concat();
+    all.sort();
+    all.dedup();
+    all
+}
+
 /// Puts one case to the library; gives what differs.
 pub fn put(
     library: &dyn Library,
@@ -180,7 +201,21 @@ pub fn put(
 ) -> Vec<Difference> {
     *tally.kinds.entry(case.name()).or_default() += 1;
     tally.cases += 1;
-    let differences = match case {
+    let differences = differing(library, case, noise, tally);
+    for &difference in &differences {
+        *tally.differences.entry(difference).or_default() += 1;
+    }
+    tally.failed += u64::from(!differences.is_empty());
+    differences
+}
+
+fn differing(
+    library: &dyn Library,
+    case: &Case,
+    noise: &mut Random,
+    tally: &mut Tally,
+) -> Vec<Difference> {
+    match case {
         Case::Scene(_, call) | Case::Damaged(_, call) | Case::Ends(call) => {
             let outcome = check(library, call, noise);
             tally.answer(&outcome, call);
@@ -200,15 +235,15 @@ pub fn put(
                 assert_eq!(outcome.number, 0, "a made pair is legal: {kind:?}");
                 tally.answer(outcome, call);
             }
-            let mut all = outcomes.map(|outcome| outcome.differences).concat();
-            all.sort();
-            all.dedup();
-            all
+            of_both(outcomes)
         }
-    };
-    for &difference in &differences {
-        *tally.differences.entry(difference).or_default() += 1;
+        Case::Ring(pair) => {
+            let outcomes = check_cuttings(library, pair, noise);
+            let [one, other] = pair.patches();
+            assert!(same_cover(&one, &other), "a made pair covers the same");
+            let lent = [&outcomes[0].lent, &outcomes[1].lent];
+            tally.rings.add(pair, lent);
+            of_both(outcomes)
+        }
     }
-    tally.failed += u64::from(!differences.is_empty());
-    differences
 }

@@ -3,16 +3,17 @@
 //! The model: `vector`, `axes`, `scene`, `gate`, `ray`, `survey`, `bill`,
 //! `stations`; beside it `walk`.
 //! The cases: `random`, `polygon`, `soup`, `works`, `hinge`, `tree`, `loose`,
-//! `mount`, `view`, `generate`, `damage`, `stored`, `header`, `outer`, `pairs`.
+//! `mount`, `view`, `generate`, `damage`, `stored`, `header`, `outer`, `pairs`;
+//! of two cuttings `cut`, `panels`, `planner`, `along`, `cuttings`, and `cover`.
 //! Cases with what is due known beforehand: `trial`, `turned`, `booking`,
-//! `joints`, `stretches`, `rings` with `cover`, and from files `block`, `keys`,
-//! `cases`.
+//! `joints`, `stretches`, `rings`, and from files `block`, `keys`, `cases`.
 //! The comparison: `compare`, `differential`, `tally`, `beside`; and what shows
 //! that it can fail: `fault`, `wrong_gate`, `wrong_lengths`, `wrong_questions`,
 //! `wrong_paint`, `wrong_joints`, `wrong_camera`, `wrong_booking`,
 //! `wrong_buffers`, `altered`; and the model against itself: `consistency`,
-//! `steps`.
+//! `steps`, `ring_check`.
 
+pub mod along;
 pub mod altered;
 pub mod axes;
 pub mod beside;
@@ -24,6 +25,8 @@ pub mod cases;
 pub mod compare;
 pub mod consistency;
 pub mod cover;
+pub mod cut;
+pub mod cuttings;
 pub mod damage;
 pub mod differential;
 pub mod fault;
@@ -37,9 +40,12 @@ pub mod loose;
 pub mod mount;
 pub mod outer;
 pub mod pairs;
+pub mod panels;
+pub mod planner;
 pub mod polygon;
 pub mod random;
 pub mod ray;
+pub mod ring_check;
 pub mod rings;
 pub mod scene;
 pub mod soup;

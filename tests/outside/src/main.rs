@@ -1,25 +1,29 @@
 //! The library set against the stored cases, the stations, and the model case
 //! by case.
 //!
-//!     differential [--cases N] [--seed S] [--only K] [--small] [--trace]
-//!                  [--out DIR] [--ringbill PROGRAM]
+//!     differential [--cases N] [--rings N] [--seed S] [--only K]
+//!                  [--only-ring K] [--small] [--trace] [--out DIR]
+//!                  [--ringbill PROGRAM]
 //!
-//! A case that differs is written to DIR as an input of `ringbill`, its axes in
-//! what is printed. `--only` runs case K alone, `--trace` names each case before
-//! it runs, `--small` keeps cases cheap, `--ringbill` sets the program, whose
-//! view is level, against the model too.
+//! Two cuttings of a ring are a case of their own sort; there are two for each
+//! of the others, or as many as `--rings` says. A case that differs is written to
+//! DIR as an input of `ringbill`, its axes in what is printed. `--only` runs
+//! case K alone, `--only-ring` two cuttings alone, `--trace` names each case
+//! before it runs, `--small` keeps cases cheap, `--ringbill` sets the program,
+//! whose view is level, against the model too.
 
 mod library;
 
 use std::env;
 use std::fs;
 use std::io::Write;
+use std::ops::Range;
 use std::process::{exit, Command, Stdio};
 
 use library::Linked;
 use outside::bill::{bill, LONGEST, SHORTEST};
 use outside::compare::Difference;
-use outside::differential::{case, put, Case, Tally};
+use outside::differential::{case, put, ring, Case, Tally};
 use outside::gate::Gate;
 use outside::generate::{FULL, SMALL};
 use outside::random::Random;
@@ -27,8 +31,10 @@ use outside::trial::hold_library;
 
 struct Options {
     cases: u64,
+    rings: Option<u64>,
     seed: u64,
     only: Option<u64>,
+    only_ring: Option<u64>,
     small: bool,
     trace: bool,
     out: String,
@@ -38,8 +44,10 @@ struct Options {
 fn options() -> Options {
     let mut options = Options {
         cases: 5_000,
+        rings: None,
         seed: 1,
         only: None,
+        only_ring: None,
         small: false,
         trace: false,
         out: ".".to_string(),
@@ -50,8 +58,10 @@ fn options() -> Options {
         let mut value = || words.next().unwrap_or_else(|| usage(&word));
         match word.as_str() {
             "--cases" => options.cases = number(&value()),
+            "--rings" => options.rings = Some(number(&value())),
             "--seed" => options.seed = number(&value()),
             "--only" => options.only = Some(number(&value())),
+            "--only-ring" => options.only_ring = Some(number(&value())),
             "--small" => options.small = true,
             "--trace" => options.trace = true,
             "--out" => options.out = value(),
@@ -71,41 +81,67 @@ fn number(word: &str) -> u64 {
     word.parse().unwrap_or_else(|_| usage(word))
 }
 
+impl Options {
+    /// The cases and the cuttings to run, and whether these are all there are.
+    fn numbers(&self) -> ([Range<u64>; 2], bool) {
+        match (self.only, self.only_ring) {
+            (None, None) => {
+                let rings = self.rings.unwrap_or(2 * self.cases);
+                ([0..self.cases, 0..rings], true)
+            }
+            (case, ring) => {
+                let one = |k: Option<u64>| k.map_or(0..0, |k| k..k + 1);
+                ([one(case), one(ring)], false)
+            }
+        }
+    }
+}
+
 fn main() {
     let options = options();
     let size = if options.small { SMALL } else { FULL };
     let mut tally = Tally::default();
-    let (numbers, known) = match options.only {
-        Some(k) => (k..k + 1, 0),
-        None => (0..options.cases, hold_library(|| Linked)),
-    };
-    for k in numbers {
+    let ([cases, rings], all) = options.numbers();
+    let known = if all { hold_library(|| Linked) } else { 0 };
+    for k in cases {
         let made = case(options.seed, k, size);
-        if options.trace {
-            println!("case {k}: {}", made.name());
-        }
-        let mut noise = Random::new(!options.seed, k);
-        let mut differences = put(&Linked, &made, &mut noise, &mut tally);
-        if let Some(program) = &options.ringbill {
-            if !bills_agree(program, &made, k) {
-                tally.failed += u64::from(differences.is_empty());
-                *tally.differences.entry(Difference::Bill).or_default() += 1;
-                differences.push(Difference::Bill);
-            }
-        }
-        if !differences.is_empty() && tally.failed <= 20 {
-            keep(&options, k, &made, &differences);
-        }
+        run(&options, k, &made, &mut tally);
+    }
+    for k in rings {
+        let made = ring(options.seed, k, size);
+        run(&options, k, &made, &mut tally);
     }
     let status = report(&options, &tally);
     exit(status.max(i32::from(known > 0)));
 }
 
+fn run(options: &Options, k: u64, made: &Case, tally: &mut Tally) {
+    if options.trace {
+        println!("case {k}: {}", made.name());
+    }
+    let mut noise = Random::new(!options.seed, k);
+    let mut differences = put(&Linked, made, &mut noise, tally);
+    if let Some(program) = &options.ringbill {
+        if !matches!(made, Case::Ring(_)) && !bills_agree(program, made, k) {
+            tally.failed += u64::from(differences.is_empty());
+            *tally.differences.entry(Difference::Bill).or_default() += 1;
+            differences.push(Difference::Bill);
+        }
+    }
+    if !differences.is_empty() && tally.failed <= 20 {
+        keep(options, k, made, &differences);
+    }
+}
+
 /// Writes a case that differs, one file a scene.
 fn keep(options: &Options, k: u64, made: &Case, differences: &[Difference]) {
     println!("DIFFERS case {k} ({}): {differences:?}", made.name());
+    let sort = match made {
+        Case::Ring(_) => "ring",
+        _ => "outside",
+    };
     for (place, call) in made.calls().into_iter().enumerate() {
-        let file = format!("{}/outside-{}-{k}-{place}.case", options.out, options.seed);
+        let file = format!("{}/{sort}-{}-{k}-{place}.case", options.out, options.seed);
         println!(
             "  {file}: {:?}, lengths {} {} {} {}, counter {}",
             call.view,
@@ -124,8 +160,8 @@ fn keep(options: &Options, k: u64, made: &Case, differences: &[Difference]) {
     }
 }
 
-fn report(options: &Options, tally: &Tally) -> i32 {
-    println!("seed {}", options.seed);
+/// What was tried and what it showed.
+fn tell(tally: &Tally) {
     for (kind, times) in &tally.kinds {
         println!("{times:8} {kind}");
     }
@@ -144,22 +180,36 @@ fn report(options: &Options, tally: &Tally) -> i32 {
     for (times, name) in tally.pieces.told() {
         println!("{times:8} views show {name}");
     }
+    for (times, name) in tally.rings.told() {
+        println!("{times:8} two cuttings {name}");
+    }
+    println!("{:8} rings were given up", tally.rings.given_up);
     for (difference, times) in &tally.differences {
         println!("{times:8} differences: {difference:?}");
     }
+}
+
+fn report(options: &Options, tally: &Tally) -> i32 {
+    println!("seed {}", options.seed);
+    tell(tally);
     let mut silent = vec![0];
     silent.extend(Gate::of_the_paper().numbers());
     silent.retain(|answer| !tally.answers.contains_key(answer));
     let unseen = tally.never_shown();
-    let thin = tally.cases >= 500 && !(silent.is_empty() && unseen.is_empty());
+    let others = tally.cases - tally.rings.pairs;
+    let thin = others >= 500 && !(silent.is_empty() && unseen.is_empty());
     if thin {
         println!("never answered: {silent:?}, never shown: {unseen:?}");
     }
+    let bites = !tally.rings.is_thin();
+    if !bites {
+        println!("two cuttings: something never met with");
+    }
     println!(
-        "outside: {} cases, {} differences",
-        tally.cases, tally.failed
+        "outside: {} cases, {} of them two cuttings, {} differences",
+        tally.cases, tally.rings.pairs, tally.failed
     );
-    i32::from(tally.failed > 0 || thin)
+    i32::from(tally.failed > 0 || thin || !bites)
 }
 
 /// `ringbill` on the case's inputs, now and then cut or overlong.

@@ -88,7 +88,7 @@ pub fn in_box(rng: &mut Random, low: [i64; 3], high: [i64; 3]) -> Option<Vec<Poi
 }
 
 /// A plane's lattice: origin + s · u + t · v.
-#[derive(Clone, Copy, Debug)]
+#[derive(Clone, Copy, Debug, PartialEq, Eq)]
 pub struct Basis {
     pub origin: [i64; 3],
     pub u: [i64; 3],

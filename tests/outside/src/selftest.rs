@@ -19,6 +19,7 @@ use outside::differential::{case, put, Case, Tally};
 use outside::fault::Faulty;
 use outside::generate::{FULL, SMALL};
 use outside::random::Random;
+use outside::ring_check::{made, pairs_hold, stored_cover, tampering_shows};
 use outside::rings::covered;
 use outside::stations::stations;
 use outside::steps::steps_agree;
@@ -47,6 +48,7 @@ fn main() {
         println!("FAILS {why}");
         1
     });
+    failed += cuttings(1_000);
     failed += consistent(400);
     failed += sound(600);
     failed += faults(6_000);
@@ -61,6 +63,16 @@ fn alterations_show() -> Reading<usize> {
     let refused = files_are_refused()?;
     println!("{} broken files", if refused { "refused" } else { "READ" });
     Ok(missed + usize::from(!refused) + usize::from(seen == 0))
+}
+
+/// Two cuttings cover the same points.
+fn cuttings(wanted: u64) -> usize {
+    let pairs = made(SEED, wanted);
+    let stored = stored_cover().unwrap_or_else(|why| {
+        println!("FAILS {why}");
+        1
+    });
+    stored + pairs_hold(&pairs) + tampering_shows(&pairs)
 }
 
 /// Rays, steps, sums, bookings and pairs of made scenes.

@@ -6,6 +6,8 @@ use crate::axes::LEVEL;
 use crate::beside::Beside;
 use crate::call::{Call, Lent};
 use crate::compare::{Difference, Outcome};
+use crate::cuttings::Cuttings;
+use crate::ray::Sight;
 use crate::scene::Scene;
 
 #[derive(Default)]
@@ -18,6 +20,7 @@ pub struct Tally {
     pub level: Shown,
     pub turned: Shown,
     pub pieces: Pieces,
+    pub rings: Rings,
     pub differences: BTreeMap<Difference, u64>,
     pub failed: u64,
 }
@@ -41,6 +44,25 @@ pub struct Pieces {
     pub in_nodes: u64,
     /// A panel shows, and a patch of it does not.
     pub unseen: u64,
+}
+
+/// Two cuttings each: how many there were, and in how many of them the request
+/// asks something of a library.
+#[derive(Default)]
+pub struct Rings {
+    pub pairs: u64,
+    /// Rings laid out in vain on the way to these.
+    pub given_up: u64,
+    /// "Patch counts may differ": the lists are not equally long, or the cells of
+    /// equally long ones differ.
+    pub patches: u64,
+    pub patch_cells: u64,
+    /// The pictures show something, and by the lines themselves, as before F-3,
+    /// they would differ.
+    pub lit: u64,
+    pub plain: u64,
+    /// Of these last, those of a level view.
+    pub plain_level: u64,
 }
 
 impl Tally {
@@ -77,6 +99,41 @@ impl Tally {
 
     pub fn views(&self) -> [(&'static str, &Shown); 2] {
         [("level", &self.level), ("turned", &self.turned)]
+    }
+}
+
+impl Rings {
+    pub fn add(&mut self, pair: &Cuttings, lent: [&Lent; 2]) {
+        let [one, other] = lent.map(|lent| &lent.patch_counts);
+        let [plain, beyond] = pair.done(Sight::Plain);
+        let unlike = one.len() != other.len();
+        self.pairs += 1;
+        self.given_up += pair.given_up;
+        self.patches += u64::from(unlike);
+        self.patch_cells += u64::from(!unlike && one != other);
+        self.lit += u64::from(lent[0].picture.iter().any(|&panel| panel > 0));
+        let differ = plain.picture != beyond.picture;
+        self.plain += u64::from(differ);
+        self.plain_level += u64::from(differ && pair.first.view.axes == LEVEL);
+    }
+
+    /// Each number with its name.
+    pub fn told(&self) -> [(u64, &'static str); 5] {
+        [
+            (self.patches, "have lists of patches of two lengths"),
+            (
+                self.patch_cells,
+                "have equally long lists, and cells booked otherwise",
+            ),
+            (self.lit, "show a panel"),
+            (self.plain, "would differ by the sight lines themselves"),
+            (self.plain_level, "would do so in a level view"),
+        ]
+    }
+
+    /// Is one of these never met with, in a run that is long enough?
+    pub fn is_thin(&self) -> bool {
+        self.pairs >= 300 && self.told().iter().any(|(times, _)| *times == 0)
     }
 }
 

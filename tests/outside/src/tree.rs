@@ -79,7 +79,7 @@ impl Planter<'_> {
         };
         self.spare -= usize::from(split.on.is_empty());
         split.on.sort_by_key(|patch| patch.panel);
-        let points = self.other_points(plane);
+        let points = other_points(self.rng, plane);
         if turned_over(&plane, &points) {
             std::mem::swap(&mut split.positive, &mut split.negative);
         }
@@ -149,45 +149,50 @@ impl Planter<'_> {
         (plane, Split::of(&plane, patches))
     }
 
-    /// A plane through any three corners, or square to an axis at one.
     fn between(&mut self, patches: &[Patch]) -> (Plane, Split) {
-        let rng = &mut *self.rng;
-        let mut corner = || {
-            let patch = &patches[rng.below(patches.len())];
-            patch.corners[rng.below(patch.corners.len())]
-        };
-        let mut plane = [corner(), corner(), corner()];
-        if !is_plane(&plane) || rng.once_in(2) {
-            let a = plane[0];
-            let axis = rng.below(3);
-            let inward = |n: i16| if n > 0 { n - 1 } else { n + 1 };
-            plane = [a, a, a];
-            plane[1][(axis + 1) % 3] = inward(a[(axis + 1) % 3]);
-            plane[2][(axis + 2) % 3] = inward(a[(axis + 2) % 3]);
-        }
+        let plane = plane_between(self.rng, patches);
         (plane, Split::of(&plane, patches))
-    }
-
-    /// The same plane, perhaps turned over, perhaps by other points.
-    fn other_points(&mut self, plane: Plane) -> Plane {
-        let mut points = plane;
-        self.rng.shuffle(&mut points);
-        let [a, b, c] = points.map(|p| p.map(i64::from));
-        let (s, t) = (self.rng.between(-2, 2), self.rng.pick(&[-2, -1, 1, 2]));
-        let moved = [0, 1, 2].map(|k| a[k] + s * (b[k] - a[k]) + t * (c[k] - a[k]));
-        match crate::polygon::point(moved) {
-            Some(p) if self.rng.once_in(2) => [points[0], points[1], p],
-            _ => points,
-        }
     }
 }
 
-fn turned_over(one: &Plane, other: &Plane) -> bool {
+/// A plane through any three corners, or square to an axis at one.
+pub fn plane_between(rng: &mut Random, patches: &[Patch]) -> Plane {
+    let mut corner = || {
+        let patch = &patches[rng.below(patches.len())];
+        patch.corners[rng.below(patch.corners.len())]
+    };
+    let plane = [corner(), corner(), corner()];
+    if is_plane(&plane) && !rng.once_in(2) {
+        return plane;
+    }
+    let a = plane[0];
+    let axis = rng.below(3);
+    let inward = |n: i16| if n > 0 { n - 1 } else { n + 1 };
+    let mut square = [a, a, a];
+    square[1][(axis + 1) % 3] = inward(a[(axis + 1) % 3]);
+    square[2][(axis + 2) % 3] = inward(a[(axis + 2) % 3]);
+    square
+}
+
+/// The same plane, perhaps turned over, perhaps by other points.
+pub fn other_points(rng: &mut Random, plane: Plane) -> Plane {
+    let mut points = plane;
+    rng.shuffle(&mut points);
+    let [a, b, c] = points.map(|p| p.map(i64::from));
+    let (s, t) = (rng.between(-2, 2), rng.pick(&[-2, -1, 1, 2]));
+    let moved = [0, 1, 2].map(|k| a[k] + s * (b[k] - a[k]) + t * (c[k] - a[k]));
+    match crate::polygon::point(moved) {
+        Some(p) if rng.once_in(2) => [points[0], points[1], p],
+        _ => points,
+    }
+}
+
+pub fn turned_over(one: &Plane, other: &Plane) -> bool {
     let [m, n] = [one, other].map(|p| normal(p[0], p[1], p[2]));
     dot(m, n) < 0
 }
 
-fn plane_of(patch: &Patch) -> Plane {
+pub fn plane_of(patch: &Patch) -> Plane {
     [patch.corners[0], patch.corners[1], patch.corners[2]]
 }
 

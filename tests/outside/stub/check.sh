@@ -45,7 +45,7 @@ must() {
 cases=300 bill=
 must silent 1 '' Answer Gate Picture Counts PatchCounts Unlit Counter \
     PanelSums FirstShowsClosest EqualWhenNoneCounted DifferWhereChosen \
-    SecondShowsKept
+    SecondShowsKept CuttingsPicture CuttingsCounts CuttingsUnlit
 must scribe 1 '' Answer Gate TouchedPicture TouchedCounts TouchedPatchCounts \
     TouchedUnlit TouchedCounter TouchedScene
 must blank 1 '' Answer Gate Picture Counts PatchCounts Unlit TouchedPicture \
