@@ -3,6 +3,7 @@
 
 use crate::call::{Call, Lent, Library};
 use crate::compare::Difference;
+use crate::cuttings::Cuttings;
 use crate::differential::{case, put, Case, Tally};
 use crate::gate::Gate;
 use crate::generate::Size;
@@ -12,6 +13,7 @@ use crate::survey::{booked, Done};
 use crate::wrong_booking::{Book, Painted, BOOKS};
 use crate::wrong_buffers::{Spoil, Trace, SPOILS, TRACES};
 use crate::wrong_camera::CAMERAS;
+use crate::wrong_cuttings::{Write, CUT_LOOKS, WRITES};
 use crate::wrong_gate::WRONG;
 use crate::wrong_joints::JOINTS;
 use crate::wrong_lengths::{LENGTHS, SHORT_LENGTHS};
@@ -25,6 +27,7 @@ pub struct Faulty {
     survey_gate: Gate,
     look: Look,
     book: Book,
+    write: Write,
     spoil: Spoil,
     trace: Trace,
     /// Does a row that holds 128 stretches give 13?
@@ -41,6 +44,7 @@ impl Faulty {
             survey_gate: Gate::of_the_paper(),
             look: |scene, cell| cell.holder(&scene.patches()),
             book: |painted| booked(painted.holders, painted.patches.len()),
+            write: |_, done| done,
             spoil: |_, _, _| (),
             trace: |_| (),
             thirteen: false,
@@ -64,7 +68,7 @@ impl Faulty {
 
     /// Wrong pictures, and right ones that are booked wrongly.
     fn painters() -> Vec<Faulty> {
-        let looks = LOOKS.iter().chain(CAMERAS).chain(JOINTS);
+        let looks = LOOKS.iter().chain(CAMERAS).chain(JOINTS).chain(CUT_LOOKS);
         let looks = looks.map(|&(name, look)| Faulty {
             look,
             ..Faulty::named(name, &[Difference::Picture])
@@ -73,7 +77,11 @@ impl Faulty {
             book,
             ..Faulty::named(name, shows)
         });
-        looks.chain(books).collect()
+        let writes = WRITES.iter().map(|&(name, shows, write)| Faulty {
+            write,
+            ..Faulty::named(name, shows)
+        });
+        looks.chain(books).chain(writes).collect()
     }
 
     fn writers() -> Vec<Faulty> {
@@ -121,6 +129,21 @@ impl Faulty {
         })
     }
 
+    /// The first of some pairs of cuttings by which this fault has shown, its own
+    /// calls set against each other: by the pictures, the counts or the lists,
+    /// whichever are wrong.
+    pub fn found_by_cuttings(&self, pairs: &[Cuttings]) -> Option<usize> {
+        let shows = match self.shows[0] {
+            Difference::Counts => Difference::CuttingsCounts,
+            Difference::Unlit => Difference::CuttingsUnlit,
+            _ => Difference::CuttingsPicture,
+        };
+        (0..pairs.len()).find(|&k| {
+            let mut noise = Random::new(1, k as u64);
+            pairs[k].apart(self, &mut noise).contains(&shows)
+        })
+    }
+
     /// A wrong gate shows only where it judges otherwise; the comparison is
     /// spared the rest.
     fn can_show(&self, made: &Case) -> bool {
@@ -136,16 +159,17 @@ impl Faulty {
         let scene = Scene::read(&call.scene);
         let patches = scene.patches();
         let holders = painted(&scene, call.view, self.look);
-        let table = (self.book)(&Painted {
+        let painted = Painted {
             scene: &scene,
             patches: &patches,
             view: call.view,
             holders: &holders,
-        });
-        Done {
-            patch_counts: table,
+        };
+        let done = Done {
+            patch_counts: (self.book)(&painted),
             ..Done::of(&holders, &patches, &call.view)
-        }
+        };
+        (self.write)(&painted, done)
     }
 }
 

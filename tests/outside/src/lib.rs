@@ -10,8 +10,8 @@
 //! The comparison: `compare`, `differential`, `tally`, `beside`; and what shows
 //! that it can fail: `fault`, `wrong_gate`, `wrong_lengths`, `wrong_questions`,
 //! `wrong_paint`, `wrong_joints`, `wrong_camera`, `wrong_booking`,
-//! `wrong_buffers`, `altered`; and the model against itself: `consistency`,
-//! `steps`, `ring_check`.
+//! `wrong_cuttings`, `wrong_buffers`, `altered`; and the model against itself:
+//! `consistency`, `steps`, `ring_check`.
 
 pub mod along;
 pub mod altered;
@@ -65,6 +65,7 @@ pub mod works;
 pub mod wrong_booking;
 pub mod wrong_buffers;
 pub mod wrong_camera;
+pub mod wrong_cuttings;
 pub mod wrong_gate;
 pub mod wrong_joints;
 pub mod wrong_lengths;

@@ -1,5 +1,5 @@
-//! Two cuttings without a library: each pair covers the same points, and one that
-//! was tampered with does not.
+//! Two cuttings without a library: each pair covers the same points, one that was
+//! tampered with does not, and the faults that pairs show by themselves.
 
 use crate::block::Reading;
 use crate::call::Call;
@@ -15,6 +15,7 @@ use crate::ray::Sight;
 use crate::scene::Scene;
 use crate::survey::survey;
 use crate::tally::Rings;
+use crate::wrong_cuttings::{CUT_LOOKS, SEEN_TOO, UNSEEN, WRITES};
 
 /// Pairs of the generator.
 pub fn made(seed: u64, wanted: u64) -> Vec<Cuttings> {
@@ -106,4 +107,32 @@ pub fn tampering_shows(pairs: &[Cuttings]) -> usize {
     }
     println!("tampered cuttings: {told} told apart, {shown} show it, {missed} missed");
     missed + usize::from(told == 0 || shown == 0)
+}
+
+/// Every fault that depends on the cutting is seen by two cuttings alone, and
+/// none that does not.
+pub fn faults_show(pairs: &[Cuttings]) -> usize {
+    let own = WRITES.iter().map(|told| told.0);
+    let own = own.chain(CUT_LOOKS.iter().map(|told| told.0));
+    let names: Vec<&str> = own.chain(SEEN_TOO.iter().copied()).collect();
+    let (mut tried, mut failed) = (0, 0);
+    for fault in Faulty::all() {
+        let name = fault.name.as_str();
+        let wanted = names.contains(&name);
+        if !wanted && !UNSEEN.contains(&name) {
+            continue;
+        }
+        tried += 1;
+        let found = fault.found_by_cuttings(pairs);
+        match found {
+            Some(k) if wanted => println!("found by two cuttings alone, {k}: {name}"),
+            None if !wanted => (),
+            _ => {
+                println!("MISSED or seen in vain by two cuttings, {found:?}: {name}");
+                failed += 1;
+            }
+        }
+    }
+    println!("two cuttings alone: {tried} faults tried, {failed} failed");
+    failed + usize::from(tried != names.len() + UNSEEN.len())
 }

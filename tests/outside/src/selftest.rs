@@ -19,7 +19,7 @@ use outside::differential::{case, put, Case, Tally};
 use outside::fault::Faulty;
 use outside::generate::{FULL, SMALL};
 use outside::random::Random;
-use outside::ring_check::{made, pairs_hold, stored_cover, tampering_shows};
+use outside::ring_check::{faults_show, made, pairs_hold, stored_cover, tampering_shows};
 use outside::rings::covered;
 use outside::stations::stations;
 use outside::steps::steps_agree;
@@ -65,14 +65,15 @@ fn alterations_show() -> Reading<usize> {
     Ok(missed + usize::from(!refused) + usize::from(seen == 0))
 }
 
-/// Two cuttings cover the same points.
+/// Two cuttings cover the same points, and show by themselves what depends on
+/// the cutting.
 fn cuttings(wanted: u64) -> usize {
     let pairs = made(SEED, wanted);
     let stored = stored_cover().unwrap_or_else(|why| {
         println!("FAILS {why}");
         1
     });
-    stored + pairs_hold(&pairs) + tampering_shows(&pairs)
+    stored + pairs_hold(&pairs) + tampering_shows(&pairs) + faults_show(&pairs)
 }
 
 /// Rays, steps, sums, bookings and pairs of made scenes.
