@@ -56,13 +56,15 @@ impl Spot {
         }
     }
 
-    /// The middle of some corners.
-    fn middle(corners: &[Point]) -> Spot {
-        let sum = corners.iter().fold([0; 3], |sum, &p| plus(sum, wide(p)));
-        Spot {
-            over: sum,
-            under: corners.len() as i128,
+    /// The middle of some corners, each with a weight above 0.
+    fn middle(corners: &[Point], mut weight: impl FnMut() -> i128) -> Spot {
+        let (mut over, mut under) = ([0; 3], 0);
+        for &p in corners {
+            let own = weight();
+            over = plus(over, times(own, wide(p)));
+            under += own;
         }
+        Spot { over, under }
     }
 }
 
@@ -163,14 +165,16 @@ impl Panel<'_> {
         self.lists.iter().flatten()
     }
 
-    /// Corners, middles of edges and pieces, and places in between.
+    /// Corners, middles of edges and pieces, and any fractions inside and on the
+    /// lines between corners.
     fn agree_at_spots(&self, rng: &mut Random) -> bool {
         self.all().all(|piece| {
             let corners = piece.corners.iter().map(|&p| Spot::corner(p));
             let edges = piece.edges();
             let halves = edges.map(|(ends, _)| Spot::between(ends, [1, 2]));
             let mut spots: Vec<Spot> = corners.chain(halves).collect();
-            spots.push(Spot::middle(&piece.corners));
+            spots.push(Spot::middle(&piece.corners, || 1));
+            spots.push(Spot::middle(&piece.corners, || rng.between(1, 60) as i128));
             let of = rng.between(2, 99) as i128;
             let [v, w] = [rng.pick(&piece.corners), rng.pick(&piece.corners)];
             let part = rng.between(-40, 140) as i128;
