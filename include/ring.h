@@ -136,9 +136,9 @@ enum ring_result {
  *                             panel, the earlier in the list. A patch that stands twice is two
  *                             patches. A panel's count is the sum over its patches. Two scenes may
  *                             cut a panel into other patches: where each panel covers the same
- *                             points, edges and corners counted in, and both are surveyed from one
- *                             station with one camera and window, picture, counts and unlit are
- *                             the same, and this table alone may differ
+ *                             points, edges and corners counted in, and both calls return
+ *                             RING_DONE for one station, camera and window, picture, counts and
+ *                             unlit are the same; this table may differ
  *   unlit, unlit_len          height x 256 numbers. Row j has the 256 from unlit + 256 * j: 128
  *                             pairs of offset and length, one for each stretch of cells that
  *                             show no panel, from left to right, with a lit cell between any

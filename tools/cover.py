@@ -11,9 +11,9 @@ nodes. A panel without a piece covers nothing.
 
 Prints `the same points: N panels`, or a line for each panel that differs, with a point in whole
 numbers and fractions which that panel covers in the one scene and not in the other. It is a
-decision in whole numbers and fractions; nothing is sampled or rounded. Ends with 0 where the points
-are the same and with 1 where they differ; with 2 where there is no answer, as a scene is refused
-(`the first: refused N` and in words what was found) or a file cannot be read. Examples:
+decision in whole numbers and fractions; no point is sampled or rounded. Ends with 0 where the
+points are the same and with 1 where they differ; with 2 where there is no answer, as a scene is
+refused (`the first: refused N` and in words what was found) or a file cannot be read. Examples:
 
     $ ring.py one.scene && ring.py other.scene --tree halves
     $ cover.py --scene one.scene other.scene
@@ -22,13 +22,15 @@ are the same and with 1 where they differ; with 2 where there is no answer, as a
     $ cover.py --scene one.scene less.scene
     panel 3: only the first covers -495,150,-647/2
 
-How it is decided. What a panel covers in a plane is bounded by the stretches of its pieces' edges
-that have no piece on their other side: its outline, each stretch with the side that the panel is
-on. A way from a point that only one scene covers to a place far off, which neither does, must cross
-an outline of just one of them. So the points are the same exactly where the outlines are, plane by
-plane; and just beside a stretch of one outline alone lies a point to show. Pieces in other planes
-cannot cover an area of this one. The work is done within each scene, and joints inside a panel
-fall away first, so that many small pieces in both cost little.
+How it is decided. What a panel covers in a plane is bounded by the segments of its pieces' edges
+that have no piece on their other side: its outline, each segment with the side that the panel is
+on. Pieces have their edges and an area, so beside a point that only one scene covers lies an area
+that only this one covers. A way from there to a place far off, which neither covers, through no
+corner, crosses a segment that with its side is in one outline alone. So the points are the same
+exactly where the outlines are, plane by plane; and just beside a segment of one outline alone lies
+a point to show. Pieces in other planes cannot cover an area of this one. The work is done within
+each scene, and joints inside a panel fall away first, so that many small pieces in both cost
+little. Boxes around pieces are rounded outward, and only leave out pieces that are too far away.
 """
 
 import collections
@@ -51,7 +53,7 @@ NAMES = ("first", "second")
 # line of the plane is three numbers whose product with a flat point is 0 on the line, and above 0
 # on the side called 0. A place on a line is told by one number, its position.
 
-def plain(numbers):
+def primitive(numbers):
     """The numbers without a shared factor, the first that is not 0 above 0: the same three for all
     normals of a plane, and for all edges along a line.
     """
@@ -61,8 +63,8 @@ def plain(numbers):
 
 def plane_of(corners):
     """(normal, its product with each point), the same for all patches of a plane."""
-    upright = plain(normal(*corners[:3]))
-    return upright, dot(upright, corners[0])
+    across = primitive(normal(*corners[:3]))
+    return across, dot(across, corners[0])
 
 
 def steep_axis(plane):
@@ -76,11 +78,11 @@ def flat(point, axis):
 
 def in_space(place, plane):
     """The point of a plane that is written so when it is written flat."""
-    upright, product = plane
+    across, product = plane
     axis = steep_axis(plane)
     point = list(place[:2])
     point.insert(axis, 0)
-    point[axis] = Fraction(product - dot(upright, point), upright[axis])
+    point[axis] = Fraction(product - dot(across, point), across[axis])
     return tuple(point)
 
 
@@ -102,15 +104,15 @@ def place_on(line, at):
     return (at, Fraction(-c - a * at, b), 1) if b else (Fraction(-c, a), at, 1)
 
 
-# --- stretches of a line -------------------------------------------------------------------------
+# --- segments of a line --------------------------------------------------------------------------
 #
-# Pairs of two positions, the lower first. Their ends do not count: two stretches that touch are
+# Pairs of two positions, the lower first. Their ends do not count: two segments that touch are
 # one, and a single place is none.
 
-def joined(stretches):
-    """The same places of a line, as stretches in order that do not touch."""
+def joined(segments):
+    """The same places of a line, as segments in order that do not touch."""
     found = []
-    for start, end in sorted(stretches):
+    for start, end in sorted(segments):
         if found and start <= found[-1][1]:
             found[-1] = (found[-1][0], max(found[-1][1], end))
         else:
@@ -118,10 +120,10 @@ def joined(stretches):
     return found
 
 
-def less(stretches, gone):
+def less(segments, gone):
     """What is left when others are taken away; both in order and not touching."""
     left, passed = [], 0
-    for start, end in stretches:
+    for start, end in segments:
         while passed < len(gone) and gone[passed][1] <= start:
             passed += 1
         for low, high in itertools.takewhile(lambda other: other[0] < end,
@@ -154,17 +156,17 @@ class Piece:
         self.box = box(places)
 
     def edges(self):
-        """(line, which side of it the piece is on, stretch) of each edge."""
+        """(line, which side of it the piece is on, segment) of each edge."""
         found = []
         for p, q in zip(self.places, self.places[1:] + self.places[:1]):
             edge = cross(p, q)
-            line = plain(edge)
+            line = primitive(edge)
             ends = sorted((position(line, p), position(line, q)))
             found.append((line, 0 if edge > (0, 0, 0) else 1, tuple(ends)))
         return found
 
-    def inner_stretch(self, line):
-        """[the stretch of a line in the piece] where the piece is on both sides of it; else []."""
+    def inner_segment(self, line):
+        """[the segment of a line in the piece] where the piece is on both sides of it; else []."""
         sides = [dot(line, place) for place in self.places]
         if not min(sides) < 0 < max(sides):
             return []
@@ -200,47 +202,47 @@ def pieces_of(scene):
 # --- outlines ------------------------------------------------------------------------------------
 
 def near_ones(line, start, end, pieces):
-    """The pieces that may reach a stretch of a line, by the boxes around them."""
+    """The pieces that may reach a segment of a line, by the boxes around them."""
     left, right, bottom, top = box([place_on(line, start), place_on(line, end)])
     return [piece for piece in pieces
             if piece.box[0] <= right and left <= piece.box[1]
             and piece.box[2] <= top and bottom <= piece.box[3]]
 
 
-def outer(line, stretches, pieces):
-    """The stretches of a line less what is inside a piece that lies on both sides of it. A few
+def outer(line, segments, pieces):
+    """The segments of a line less what is inside a piece that lies on both sides of it. A few
     pieces first, then twice as many: where many overlap, a few often hide all.
     """
-    near, count = near_ones(line, stretches[0][0], stretches[-1][1], pieces), 8
-    while near and stretches:
-        gone = [stretch for piece in near[:count] for stretch in piece.inner_stretch(line)]
-        stretches = less(stretches, joined(gone))
+    near, count = near_ones(line, segments[0][0], segments[-1][1], pieces), 8
+    while near and segments:
+        gone = [segment for piece in near[:count] for segment in piece.inner_segment(line)]
+        segments = less(segments, joined(gone))
         near, count = near[count:], 2 * count
-    return stretches
+    return segments
 
 
 def outline(pieces):
-    """{(line, side): stretches} of pieces in one plane: where they end, and on which side of the
+    """{(line, side): segments} of pieces in one plane: where they end, and on which side of the
     line they are there. Where edges of two pieces lie against each other neither ends.
     """
     edges = collections.defaultdict(lambda: ([], []))
     for piece in pieces:
-        for line, which, stretch in piece.edges():
-            edges[line][which].append(stretch)
+        for line, which, segment in piece.edges():
+            edges[line][which].append(segment)
     found = {}
     for line, (ones, others) in edges.items():
         ones, others = joined(ones), joined(others)
-        for which, stretches in enumerate((less(ones, others), less(others, ones))):
-            stretches = stretches and outer(line, stretches, pieces)
-            if stretches:
-                found[line, which] = stretches
+        for which, segments in enumerate((less(ones, others), less(others, ones))):
+            segments = segments and outer(line, segments, pieces)
+            if segments:
+                found[line, which] = segments
     return found
 
 
-def stretch_alone(one, other):
-    """(line, side, stretch) of the one outline that is not of the other, or None."""
-    for (line, which), stretches in one.items():
-        left = less(stretches, other.get((line, which), []))
+def segment_alone(one, other):
+    """(line, side, segment) of the one outline that is not of the other, or None."""
+    for (line, which), segments in one.items():
+        left = less(segments, other.get((line, which), []))
         if left:
             return line, which, left[0]
     return None
@@ -250,7 +252,7 @@ def stretch_alone(one, other):
 
 def lines_beside(line, plane, pieces):
     """All other lines of the plane that a piece may end on: edges in it, and other planes."""
-    lines = {plain(trace(plane, other)) for other in {piece.plane for piece in pieces} - {plane}
+    lines = {primitive(trace(plane, other)) for other in {piece.plane for piece in pieces} - {plane}
              if any(trace(plane, other)[:2])}
     for piece in pieces:
         if piece.plane == plane:
@@ -269,8 +271,8 @@ def free_step(place, way, lines):
 
 
 def beside(found, plane, pieces):
-    """Two points on the two sides of a stretch with nothing between but the stretch: first the one
-    on the side named. Each other line passes through one place of the stretch at most, so one of so
+    """Two points on the two sides of a segment with nothing between but the segment: first the one
+    on the side named. Each other line passes through one place of the segment at most, so one of so
     many places is off them all.
     """
     line, which, (start, end) = found
@@ -290,13 +292,13 @@ def covered(pieces, point):
 
 
 def witness(found, which, plane, both):
-    """(scene, point that it alone covers) beside a stretch of the outline of scene `which` alone.
+    """(scene, point that it alone covers) beside a segment of the outline of scene `which` alone.
     This scene covers the inner side and not the outer one; the other does not do the same.
     """
     for place, point in zip((which, 1 - which), beside(found, plane, both[0] + both[1])):
         if covered(both[place], point) and not covered(both[1 - place], point):
             return place, point
-    raise AssertionError("no point to show beside a stretch of one outline alone")
+    raise AssertionError("no point to show beside a segment of one outline alone")
 
 
 def by_plane(pieces):
@@ -312,7 +314,7 @@ def difference(first, second):
     for plane in sorted({*ones, *others}):
         outlines = outline(ones[plane]), outline(others[plane])
         for which in (0, 1):
-            found = stretch_alone(outlines[which], outlines[1 - which])
+            found = segment_alone(outlines[which], outlines[1 - which])
             if found:
                 return witness(found, which, plane, (first, second))
     return None

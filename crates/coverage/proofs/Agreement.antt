@@ -26,8 +26,8 @@ use Rattle.coverage.proofs.Covered.{covered-says}
 use Rattle.coverage.proofs.Generic.{Generic, line-generic}
 use Rattle.coverage.proofs.MetPoint.{metNumerators, metDenominator, denominator-positive, covers-met, one-point, met-covers}
 
--- What one eye asks of two lists: a piece of the first that shows to the eye, which is off its plane, has for each point that it covers a piece of its panel in the second
--- that covers the point. (Both faces show, so no piece is turned away from the eye.)
+-- What one eye asks of two lists: a piece of the first whose plane does not hold the eye has, for each point that it covers, a piece of its panel in the second that
+-- covers the point. (Both faces show, so no piece is turned away from the eye.)
 pub record Matched (eye : Vec) (ps qs : List Patch) : Type 0 where
   pub matched :
       (p : Patch) → List·Memᴰ p ps → eyeProduct eye p ≢ pos 0 →

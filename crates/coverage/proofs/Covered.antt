@@ -84,11 +84,11 @@ module _ {n : ℕ} {q : Vec} {k : ℕ} where
   covers-rest c = record { piece = c .piece; listed = List·Memᴰ·tail (c .listed); ofPanel = c .ofPanel; covers = c .covers }
 
 -- the same by computing
-abbrev pub coveredBy : List Patch → ℕ → Vec → ℕ → Bool
-coveredBy ps n q k = any (λ (p : Patch). eqb (p .panel) n && covered p q k) ps
+abbrev pub panelCovered : List Patch → ℕ → Vec → ℕ → Bool
+panelCovered ps n q k = any (λ (p : Patch). eqb (p .panel) n && covered p q k) ps
 
-covered-by : (ps : List Patch) (n : ℕ) (q : Vec) (k : ℕ) → T (coveredBy ps n q k) ↔ PanelCovers ps n q k
-covered-by ps n q k = (
+panel-covered : (ps : List Patch) (n : ℕ) (q : Vec) (k : ℕ) → T (panelCovered ps n q k) ↔ PanelCovers ps n q k
+panel-covered ps n q k = (
   λ t.
       let f = found .0 t in
       let s = both (eqb (f .0 .panel) n) (covered (f .0) q k) .0 (f .2) in
@@ -101,12 +101,12 @@ covered-by ps n q k = (
       ),
 )
   where
-    found : T (coveredBy ps n q k) ↔ ((p : Patch) × List·Memᴰ p ps × T (eqb (p .panel) n && covered p q k))
+    found : T (panelCovered ps n q k) ↔ ((p : Patch) × List·Memᴰ p ps × T (eqb (p .panel) n && covered p q k))
     found = any-true (λ (p : Patch). eqb (p .panel) n && covered p q k) ps
 
 -- one point that only the first list covers tells two lists apart
 pub told-apart :
-    (ps qs : List Patch) (n : ℕ) (q : Vec) (k : ℕ) → 0 < k → T (coveredBy ps n q k) → T (not (coveredBy qs n q k)) →
+    (ps qs : List Patch) (n : ℕ) (q : Vec) (k : ℕ) → 0 < k → T (panelCovered ps n q k) → T (not (panelCovered qs n q k)) →
     SameCover ps qs → ⊥
 told-apart ps qs n q k h s t same =
-    T-not (coveredBy qs n q k) t (covered-by qs n q k .1 (same n q k h .0 (covered-by ps n q k .0 s)))
+    T-not (panelCovered qs n q k) t (panel-covered qs n q k .1 (same n q k h .0 (panel-covered ps n q k .0 s)))

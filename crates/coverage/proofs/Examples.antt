@@ -1,4 +1,4 @@
--- S's square cut in several ways: the scenes, what each shows in a window whose lines run along the cuts, and two of them that cover the same points.
+-- S's square cut in several ways, and scenes that cover other points: what each shows in a window whose lines run along the cuts, and which of them cover the same.
 use mathlib.Core.Path.{_≡_, refl}
 use mathlib.Core.Bool.{Bool, true, false}
 use mathlib.Core.List.{List, [], _∷_, _++_, map, flatten}
@@ -123,7 +123,7 @@ leftAs4 = onePlane (rectangle 4 neg50 (pos 0) neg50 (pos 50) ∷ rectangle 5 (po
 
 -- ---- what they show
 
--- a scene, and what is due in a window 3 by 3: two rows of two cells show this, and the patches have these cells
+-- a scene, and what is due in a window 3 by 3: two rows of two cells show this, the patches have these cells, and the panels named these counts
 pub record Cut : Type 0 where
   pub scene : List ℕ
   pub left : ℕ
@@ -213,7 +213,7 @@ squares =
 unfoldable pub coversAt : Point → Patch → Bool
 coversAt q p = covered p (q .numerators) (q .denominator)
 
--- S's square covers these points and not those, whichever way its corners are listed.
+-- S's square covers these points and not those, in each of the three ways. (Of any patch: `same-corners`.)
 pub square-covers :
     (map (λ (q : Point). map (coversAt q) squares) onSquare ≡ replicate 4 (replicate 3 true))
     × (map (λ (q : Point). map (coversAt q) squares) offSquare ≡ replicate 8 (replicate 3 false))

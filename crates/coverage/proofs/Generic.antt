@@ -1,5 +1,5 @@
--- The line that a cell is read along leaves the plane of every patch of an accepted scene, and passes beside every edge of a patch that is not seen edge-on: it lies in
--- no plane through the eye and the edge.
+-- The line that a cell is read along is parallel to the plane of no patch of an accepted scene, and passes beside every edge of a patch that is not seen edge-on: it lies
+-- in no plane through the eye and the edge.
 use mathlib.Core.Path.{_≡_, sym, _∙_}
 use mathlib.Core.Logic.{_≢_}
 use mathlib.Core.List.{[], _∷_, List·Memᴰ}
@@ -24,14 +24,14 @@ use Rattle.model.proofs.Alike.{largest, Ranged, edge-within, normal-within}
 use Rattle.model.proofs.Beside.{line-zero}
 use Rattle.model.proofs.Views.{axes-apart}
 
--- a direction that is square to a vector of a scene's size only where all directions are
+-- a direction that is perpendicular to a vector of a scene's size only where all directions are: where it is zero
 pub record Generic (D : Vec) : Type 0 where
-  pub alone : {w : Vec} → VecWithin largest w → dot D w ≡ pos 0 → (x : Vec) → dot x w ≡ pos 0
+  pub onlyZero : {w : Vec} → VecWithin largest w → dot D w ≡ pos 0 → (x : Vec) → dot x w ≡ pos 0
 
--- In an accepted view such is the line of every cell: else right, the cell's direction and up would all be square to the vector, and they do not lie in one plane.
+-- In an accepted view such is the line of every cell: where it is perpendicular to the vector, so are right, the cell's direction and up, and they do not lie in one plane.
 pub line-generic :
     (v : View) → T (viewInRange v) → T (axesProper (v .camera .axes)) → (i j : ℕ) → Generic (cellLine (v .camera) i j)
-line-generic v view axes i j = record { alone = λ {w} h e x. alone h x (line-zero (v .camera) axes i j h e) }
+line-generic v view axes i j = record { onlyZero = λ {w} h e x. only-zero h x (line-zero (v .camera) axes i j h e) }
   where
     right : Vec
     right = v .camera .axes .right
@@ -46,10 +46,10 @@ line-generic v view axes i j = record { alone = λ {w} h e x. alone h x (line-ze
     vanish a b c x y z e f g =
         combine₃ a e b f (negℤ c) g (ring (a ∷ b ∷ c ∷ x ∷ y ∷ z ∷ []) (search reify depth 40 fits 200000, tt))
 
-    alone :
+    only-zero :
         {w : Vec} → VecWithin largest w → (x : Vec) →
         (dot d w ≡ pos 0) × (dot right w ≡ pos 0) × (negℤ (dot up w) ≡ pos 0) → dot x w ≡ pos 0
-    alone {w} h x z =
+    only-zero {w} h x z =
         *-cancel-≡ (det right d up) (pos→≢ (axes-apart v view axes i j))
         (cramer right d up x w
         ∙ vanish (det x d up) (det x up right) (det x right d) (dot right w) (dot d w) (dot up w) (z .1) (z .0) (z .2)
@@ -59,11 +59,11 @@ module _
     {eye D : Vec} (eye-within : VecWithin 10000 eye) (generic : Generic D)
     {p : Patch} (proper : Proper p) (ranged : Ranged p)
   where
-    -- else the normal would be square to itself
+    -- else the normal would be perpendicular to itself
     pub off-plane : dot D (normal p) ≢ pos 0
     off-plane e =
         pos→≢ (normal-square proper)
-        (generic .alone (vec-more (normal-within eye-within proper ranged) (lit≤ tt)) e (normal p))
+        (generic .onlyZero (vec-more (normal-within eye-within proper ranged) (lit≤ tt)) e (normal p))
 
     -- else the eye, the edge and another corner would lie in one plane
     pub off-edge :
@@ -73,7 +73,7 @@ module _
         let o = edge-other (three-corners proper) l in
         let m = o .0 in
         flat (eyeProduct eye p) (dot (normal p) (normal p)) s (turns proper l (o .1))
-        (generic .alone (vec-more (edge-within eye-within ranged l) (lit≤ tt)) z (minus m eye))
+        (generic .onlyZero (vec-more (edge-within eye-within ranged l) (lit≤ tt)) z (minus m eye))
         (triangle eye (normal p) m (e .from) (e .to) (eyeProduct eye p)
         (corner-height proper (o .2) eye)
         (corner-height proper (edge-ends l .0) eye)

@@ -1,5 +1,5 @@
--- What `covered` says of any patch: it goes by the point and not by how its fractions are written, and a patch of an accepted scene covers its corners and all that lies
--- between points that it covers, so the whole of its edges too.
+-- What a patch covers at the least: it goes by the point, however its fractions are multiplied out, and a proper patch covers its corners and what lies between two points
+-- that it covers, as those of an edge do.
 use mathlib.Core.Path.{_≡_, sym, _∙_, ap, subst}
 use mathlib.Core.Logic.{_↔_, _⊎_, inl, inr}
 use mathlib.Core.List.{[], _∷_, List·Memᴰ}

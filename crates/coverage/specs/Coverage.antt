@@ -15,8 +15,8 @@ use Rattle.model.specs.Patch.{Patch, Edge, corner, normal, edges}
 abbrev pub planeSide : Patch → Vec → ℕ → ℤ
 planeSide p q k = dot (minus q (times (pos k) (corner p 0))) (normal p)
 
--- Question 8's number "n · ((w − v) × (q − v))" for an edge from v to w and this point, times k: above 0 on the edge's inner side, where the other corners are, and 0 on
--- its line.
+-- Question 8's number "n · ((w − v) × (q − v))" for an edge from v to w and this point, times k: for a point of the plane above 0 on the edge's inner side, where the
+-- other corners are, and 0 on its line.
 abbrev pub edgeSide : Patch → Edge → Vec → ℕ → ℤ
 edgeSide p e q k = dot (normal p) (cross (minus (e .to) (e .from)) (minus q (times (pos k) (e .from))))
 

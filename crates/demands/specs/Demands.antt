@@ -1,4 +1,4 @@
--- Demands 1 to 3 as statements about calls, and of two cuttings of one ring (document 02, F-5).
+-- Demands 1 to 3, and two cuttings of one ring (document 02, F-5), as statements about calls.
 use mathlib.Core.Path.{_≡_}
 use mathlib.Core.Bool.{Bool, cond}
 use mathlib.Core.Logic.{_↔_}
@@ -124,7 +124,8 @@ pub record SameSurvey (first second : Lent) : Type 0 where
   pub unlitLists : first .unlit ≡ second .unlit
 
 -- F-5: "Take two accepted scenes where each panel covers the same points of space, its pieces' edges and corners counted in, whatever its pieces. .. From every
--- accepted view their pictures and panel counts must agree, by the joint rule of F-3." The view is the one of both calls; the trees and what the buffers held have no part in it.
+-- accepted view their pictures and panel counts must agree, by the joint rule of F-3." The two calls, with one view, stand beside it below; the trees and what the buffers
+-- held have no part in it.
 abbrev pub TwoCuttings : (firstBytes secondBytes : List ℕ) (first second : Lent) (firstResult secondResult : ℕ) → Type 0
 TwoCuttings firstBytes secondBytes first second firstResult secondResult =
     firstResult ≡ 0 → secondResult ≡ 0 → SameCover (patchesIn firstBytes) (patchesIn secondBytes) → SameSurvey first second

@@ -107,7 +107,7 @@ module _ (k : Camera) (axes : T (axesProper (k .axes))) (i j : ℕ) where
       first (inl g) = g
       first (inr (e, _)) = absurd (f e)
 
-  -- the line that the cell is read along is square to a vector only where the sight line, right and up all are
+  -- the line that the cell is read along is perpendicular to a vector only where the sight line, right and up all are
   pub line-zero :
       {w : Vec} → VecWithin largest w → dot (cellLine k i j) w ≡ pos 0 →
       (dot (direction k i j) w ≡ pos 0) × (dot (k .axes .right) w ≡ pos 0) × (negℤ (dot (k .axes .up) w) ≡ pos 0)

@@ -1,21 +1,22 @@
 -- A direction that meets a patch is a positive combination of three of its corners, of which one may be chosen.
-use mathlib.Core.Path.{_≡_, refl, sym, _∙_, ap, subst}
-use mathlib.Core.Logic.{_≢_, ⊎-elim}
-use mathlib.Core.List.{List, [], _∷_, _++_, append-assoc, List·Memᴰ, List·Memᴰ·head, Memᴰ·append-right}
+use mathlib.Core.Path.{_≡_, sym, _∙_, ap, subst}
+use mathlib.Core.Logic.{_≢_}
+use mathlib.Core.List.{[], _∷_, List·Memᴰ}
 use lib.Dec.{T}
 use lib.IntN.{ℤ, pos, negℤ, _+ℤ_, _*ℤ_}
-use lib.Signed.{_<ℤ_, _≤ℤ_, clashℤ}
+use lib.Signed.{_<ℤ_, _≤ℤ_}
 use Rattle.integer.proofs.Ring.{*ℤ-negℤ}
 use Rattle.integer.proofs.Identity.{ring, reify, combine₁, combine₃}
-use Rattle.integer.proofs.Order.{<→≤, <-or-≥}
+use Rattle.integer.proofs.Order.{<→≤}
 use Rattle.integer.proofs.Products.{*-pos, *-pos-cancel, *-cancel-≡, sq-pos, neg-of-nonpos, neg-of-pos}
-use Rattle.integer.proofs.Signs.{SameSign, WeakSign, same→weak, same-sym, same-≢, same-scale, same-weak-+, weak-scale}
+use Rattle.integer.proofs.Signs.{SameSign, WeakSign, same-sym, same-≢, same-scale, same-weak-+, weak-scale}
 use Rattle.model.specs.Vector.{Vec, minus, dot}
 use Rattle.model.specs.Patch.{Patch, Edge, normal, edges, Proper}
 use Rattle.model.specs.Ray.{eyeProduct, met}
 use Rattle.model.proofs.Vectors.{det, det-swap, triangle, cramer}
-use Rattle.model.proofs.Rounds.{Turned, next, turned-to, turned-edge, edge-ends}
-use Rattle.model.proofs.Patches.{some-corner, first-corner, corner-height, turns, normal-square, Meets, met-says}
+use Rattle.model.proofs.Rounds.{edge-ends}
+use Rattle.model.proofs.Crossing.{crossing}
+use Rattle.model.proofs.Patches.{three-corners, first-corner, corner-height, turns, normal-square, Meets, met-says}
 
 -- D d = α m′ + β u′ + γ w′, seen in any direction N, where c′ is c − eye, u→w an edge and m another corner: D and α have the sign of the eye
 -- product, β and γ that sign or none
@@ -40,9 +41,6 @@ record Combination (eye d : Vec) (p : Patch) (m : Vec) : Type 0 where
 turn-back : (σ : ℤ) (d a b : Vec) → σ *ℤ det d b a ≡ negℤ (σ *ℤ det d a b)
 turn-back σ d a b = ap (σ *ℤ_) (det-swap d a b) ∙ *ℤ-negℤ σ (det d a b)
 
-not-both : {X : Type 0} (σ : ℤ) (d a b : Vec) → SameSign σ (det d a b) → SameSign σ (det d b a) → X
-not-both σ d a b g k = clashℤ (subst (pos 0 <ℤ_) (turn-back σ d a b) (k .agree)) (<→≤ (neg-of-pos (g .agree)))
-
 -- where k D = σ t with k and t positive, D has the sign of σ
 sign-of : {k σ D t : ℤ} → pos 0 <ℤ k → σ ≢ pos 0 → pos 0 <ℤ t → k *ℤ D ≡ σ *ℤ t → SameSign σ D
 sign-of {k} {σ} {D} {t} hk hσ ht e =
@@ -55,60 +53,43 @@ sign-of {k} {σ} {D} {t} hk hσ ht e =
     }
 
 module _ {eye d : Vec} {p : Patch} (proper : Proper p) (h : Meets eye d p) {m : Vec} (isCorner : List·Memᴰ m (p .corners)) where
+  -- on which side of the diagonal from m to a corner the ray passes
+  abbrev diagonal : Vec → ℤ
+  diagonal c = eyeProduct eye p *ℤ det d (minus m eye) (minus c eye)
+
+  leaving : (e : Edge) → List·Memᴰ e (edges (p .corners)) → e .from ≡ m → pos 0 ≤ℤ diagonal (e .to)
+  leaving e l f = <→≤ (subst (λ (c : Vec). pos 0 <ℤ (eyeProduct eye p *ℤ det d (minus c eye) (minus (e .to) eye))) f (h .passed l .agree))
+
+  entering : (e : Edge) → List·Memᴰ e (edges (p .corners)) → e .to ≡ m → diagonal (e .from) ≤ℤ pos 0
+  entering e l f =
+      subst (_≤ℤ pos 0) (sym (turn-back (eyeProduct eye p) d (minus (e .from) eye) (minus m eye)))
+      (<→≤ (neg-of-pos (subst (λ (c : Vec). pos 0 <ℤ (eyeProduct eye p *ℤ det d (minus (e .from) eye) (minus c eye))) f (h .passed l .agree))))
+
   -- an edge whose ends the ray passes on different sides, seen along the diagonals from m
-  found :
-      {e : Edge} →
-      List·Memᴰ e (edges (p .corners)) →
-      List·Memᴰ m (e .others) →
-      SameSign (eyeProduct eye p) (det d (minus m eye) (minus (e .from) eye)) →
-      (eyeProduct eye p *ℤ det d (minus m eye) (minus (e .to) eye)) ≤ℤ pos 0 →
-      Combination eye d p m
-  found {e} l o g k =
+  combination : Combination eye d p m
+  combination =
+      let c = crossing diagonal leaving entering (three-corners proper) isCorner in
+      let e = c .edge in
       record {
         edge = e;
-        isEdge = l;
-        isOther = o;
+        isEdge = c .isEdge;
+        isOther = c .isOther;
         D = det (minus m eye) (minus (e .from) eye) (minus (e .to) eye);
         α = det d (minus (e .from) eye) (minus (e .to) eye);
         β = det d (minus (e .to) eye) (minus m eye);
         γ = det d (minus m eye) (minus (e .from) eye);
         D-sign =
-            sign-of (normal-square proper) (h .faced) (turns proper l o)
+            sign-of (normal-square proper) (h .faced) (turns proper (c .isEdge) (c .isOther))
             (triangle eye (normal p) m (e .from) (e .to) (eyeProduct eye p)
             (corner-height proper isCorner eye)
-            (corner-height proper (edge-ends l .0) eye)
-            (corner-height proper (edge-ends l .1) eye));
-        α-sign = h .passed l;
+            (corner-height proper (edge-ends (c .isEdge) .0) eye)
+            (corner-height proper (edge-ends (c .isEdge) .1) eye));
+        α-sign = h .passed (c .isEdge);
         β-sign =
-            record { agree = subst (pos 0 ≤ℤ_) (sym (turn-back (eyeProduct eye p) d (minus m eye) (minus (e .to) eye))) (neg-of-nonpos k) };
-        γ-sign = same→weak g;
+            record { agree = subst (pos 0 ≤ℤ_) (sym (turn-back (eyeProduct eye p) d (minus m eye) (minus (e .to) eye))) (neg-of-nonpos (c .after)) };
+        γ-sign = record { agree = c .before };
         sum = cramer (minus m eye) (minus (e .from) eye) (minus (e .to) eye) d;
       }
-
-  -- the fan at m: from corner to corner the diagonal's number goes from the eye product's sign to the other
-  walk :
-      (rest done : List Vec) (u : Vec) →
-      Turned (p .corners) (u ∷ (rest ++ (m ∷ done))) →
-      SameSign (eyeProduct eye p) (det d (minus m eye) (minus u eye)) →
-      Combination eye d p m
-  walk [] done u t g = not-both (eyeProduct eye p) d (minus m eye) (minus u eye) g (h .passed (turned-edge (some-corner proper) t))
-  walk (w ∷ rest) done u t g =
-      ⊎-elim
-      (λ (k : pos 0 <ℤ (eyeProduct eye p *ℤ det d (minus m eye) (minus w eye))).
-      walk rest (done ++ (u ∷ [])) w
-      (subst (Turned (p .corners)) (append-assoc (w ∷ rest) (m ∷ done) (u ∷ [])) (next t))
-      (record { agree = k }))
-      (found (turned-edge (some-corner proper) t) (Memᴰ·append-right rest (List·Memᴰ·head refl)) g)
-      (<-or-≥ (pos 0) (eyeProduct eye p *ℤ det d (minus m eye) (minus w eye)))
-
-  begin : (rest : List Vec) → Turned (p .corners) (m ∷ rest) → Combination eye d p m
-  begin [] t =
-      let g = h .passed (turned-edge (some-corner proper) t) in
-      not-both (eyeProduct eye p) d (minus m eye) (minus m eye) g g
-  begin (u ∷ rest) t = walk rest [] u (next t) (h .passed (turned-edge (some-corner proper) t))
-
-  combination : Combination eye d p m
-  combination = let t = turned-to isCorner in begin (t .0) (t .1)
 
 -- ---- planes through the eye
 ahead :

@@ -19,6 +19,7 @@ pub mod Sizes
 pub mod Views
 pub mod Rounds
 pub mod Patches
+pub mod Crossing
 pub mod Fan
 pub mod Sides
 pub mod Separation

@@ -4,7 +4,7 @@
 use crate::axes::{Axes, LEVEL};
 use crate::call::View;
 use crate::mount;
-use crate::panels::{Block, GRID};
+use crate::panels::{Part, GRID};
 use crate::polygon::{divisor, point};
 use crate::random::Random;
 use crate::ray::direction;
@@ -12,45 +12,40 @@ use crate::scene::Patch;
 use crate::vector::Point;
 use crate::view;
 
-/// A view of the blocks' pieces with at most `work` rays times patches, or so:
-/// along the joints of a block, with the eye in a block's plane, or any.
-pub fn sighted(rng: &mut Random, blocks: &[Block], patches: &[Patch], work: usize) -> View {
+/// A view of the parts' pieces with at most `work` rays times patches, or so:
+/// along the joints of a part, with the eye in a part's plane, or any.
+pub fn sighted(rng: &mut Random, parts: &[Part], patches: &[Patch], work: usize) -> View {
     let most = (work / patches.len().max(1)).max(9);
     let seen = match rng.below(8) {
-        0..=5 => along_joints(rng, blocks, patches, most),
-        6 => in_plane(rng, blocks, most),
+        0..=5 => along_joints(rng, parts, patches, most),
+        6 => in_plane(rng, parts, most),
         _ => None,
     };
     seen.unwrap_or_else(|| view::choose(rng, patches, work))
 }
 
-/// Where pieces of a block meet, or where the block meets others; else any point
+/// Where pieces of a part meet, or where the part meets others; else any point
 /// of its lattice.
-fn target(rng: &mut Random, block: &Block, blocks: &[Block], patches: &[Patch]) -> Point {
+fn target(rng: &mut Random, part: &Part, parts: &[Part], patches: &[Patch]) -> Point {
     let mut points: Vec<Point> = match rng.once_in(2) {
         true => {
-            let others = blocks.iter().filter(|other| other.basis != block.basis);
+            let others = parts.iter().filter(|other| other.basis != part.basis);
             others.flat_map(|other| other.lattice.clone()).collect()
         }
         false => patches.iter().flat_map(|p| p.corners.clone()).collect(),
     };
-    points.retain(|&p| block.holds(p));
-    points.push(rng.pick(&block.lattice));
+    points.retain(|&p| part.holds(p));
+    points.push(rng.pick(&part.lattice));
     rng.pick(&points)
 }
 
-/// Right and up follow lattice lines of a block, and one cell looks at a point of
+/// Right and up follow lattice lines of a part, and one cell looks at a point of
 /// its lattice: so do others, and the lines of whole columns or rows run along a
 /// joint.
-fn along_joints(
-    rng: &mut Random,
-    blocks: &[Block],
-    patches: &[Patch],
-    most: usize,
-) -> Option<View> {
-    let block = &blocks[rng.below(blocks.len())];
-    let (axes, [across, above]) = along_lines(rng, block)?;
-    let target = target(rng, block, blocks, patches).map(i64::from);
+fn along_joints(rng: &mut Random, parts: &[Part], patches: &[Patch], most: usize) -> Option<View> {
+    let part = &parts[rng.below(parts.len())];
+    let (axes, [across, above]) = along_lines(rng, part)?;
+    let target = target(rng, part, parts, patches).map(i64::from);
     let depth = rng
         .pick(&[1, 1, 2, 3, across / 2, across, above / 2])
         .max(1);
@@ -75,8 +70,8 @@ fn along_joints(
 
 /// A camera whose right and up are lattice lines, and how many times they go into
 /// a step of the lattice; now and then the level one.
-fn along_lines(rng: &mut Random, block: &Block) -> Option<(Axes, [i64; 2])> {
-    let (u, v) = (block.basis.u, block.basis.v);
+fn along_lines(rng: &mut Random, part: &Part) -> Option<(Axes, [i64; 2])> {
+    let (u, v) = (part.basis.u, part.basis.v);
     if rng.once_in(4) {
         return Some((LEVEL, [divisor(u), divisor(v)]));
     }
@@ -87,7 +82,7 @@ fn along_lines(rng: &mut Random, block: &Block) -> Option<(Axes, [i64; 2])> {
     }
     rng.shuffle(&mut ways);
     let [right, up] = [ways[0], ways[1]].map(|way| way.map(|n| (n / divisor(way)) as i16));
-    let mut vectors = [right, ahead(rng, block), up];
+    let mut vectors = [right, ahead(rng, part), up];
     if Axes::of(vectors).volume() < 0 {
         let k = rng.below(3);
         vectors[k] = vectors[k].map(|n| -n);
@@ -97,9 +92,9 @@ fn along_lines(rng: &mut Random, block: &Block) -> Option<(Axes, [i64; 2])> {
     (in_range && axes.volume() > 0).then_some((axes, [divisor(ways[0]), divisor(ways[1])]))
 }
 
-/// Forward is any, or square to the block.
-fn ahead(rng: &mut Random, block: &Block) -> Point {
-    let n = block.basis.normal().map(|n| n as i64);
+/// Forward is any, or square to the part.
+fn ahead(rng: &mut Random, part: &Part) -> Point {
+    let n = part.basis.normal().map(|n| n as i64);
     let square = n.map(|part| part / divisor(n));
     match rng.once_in(2) && square.iter().all(|part| part.abs() <= 100) {
         true => square.map(|part| part as i16),
@@ -107,11 +102,11 @@ fn ahead(rng: &mut Random, block: &Block) -> Point {
     }
 }
 
-/// The eye on a lattice point of one block, looking at one of another.
-fn in_plane(rng: &mut Random, blocks: &[Block], most: usize) -> Option<View> {
+/// The eye on a lattice point of one part, looking at one of any.
+fn in_plane(rng: &mut Random, parts: &[Part], most: usize) -> Option<View> {
     let mut any = || {
-        let block = &blocks[rng.below(blocks.len())];
-        rng.pick(&block.lattice)
+        let part = &parts[rng.below(parts.len())];
+        rng.pick(&part.lattice)
     };
     let (eye, target): (Point, Point) = (any(), any());
     let width = rng.between(1, 12);

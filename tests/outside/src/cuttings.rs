@@ -7,7 +7,7 @@ use crate::compare::{cuttings_apart, Difference};
 use crate::gate::Gate;
 use crate::generate::Size;
 use crate::loose::Loose;
-use crate::panels::{cutting, laid_out, Block};
+use crate::panels::{cutting, laid_out, Part};
 use crate::planner::Planner;
 use crate::random::Random;
 use crate::ray::Sight;
@@ -18,8 +18,8 @@ use crate::survey::{survey_by, Done};
 pub struct Cuttings {
     pub first: Call,
     pub second: Call,
-    /// Rings given up before this one: a piece could not be cut where its tree
-    /// had to, or a scene was not accepted.
+    /// Rings given up before this one: it had no panel, a piece could not be cut
+    /// where its tree had to, or a scene was not accepted.
     pub given_up: u64,
 }
 
@@ -42,13 +42,13 @@ pub fn make_cuttings(rng: &mut Random, size: Size) -> Cuttings {
 }
 
 fn two_calls(rng: &mut Random, size: Size) -> Option<[Call; 2]> {
-    let blocks = laid_out(rng);
-    if blocks.is_empty() {
+    let parts = laid_out(rng);
+    if parts.is_empty() {
         return None;
     }
-    let scenes = [planned(rng, &blocks)?, planned(rng, &blocks)?];
+    let scenes = [planned(rng, &parts)?, planned(rng, &parts)?];
     let patches = rng.pick(&scenes).patches();
-    let view = sighted(rng, &blocks, &patches, size.work.min(WORK));
+    let view = sighted(rng, &parts, &patches, size.work.min(WORK));
     let calls = scenes.map(|scene| {
         let any = rng.next() as u32 / 2;
         Call {
@@ -62,8 +62,8 @@ fn two_calls(rng: &mut Random, size: Size) -> Option<[Call; 2]> {
 }
 
 /// A cutting of its own under a tree of its own.
-fn planned(rng: &mut Random, blocks: &[Block]) -> Option<Scene> {
-    let patches = cutting(rng, blocks);
+fn planned(rng: &mut Random, parts: &[Part]) -> Option<Scene> {
+    let patches = cutting(rng, parts);
     let spare = rng.pick(&[0, 1, 3]);
     let mut planner = Planner {
         rng: &mut *rng,

@@ -26,7 +26,7 @@ pub enum Case {
     /// Two scenes for demand 3.
     Two(Kind, Box<Pair>),
     /// Two scenes for F-5.
-    Ring(Box<Cuttings>),
+    Cuttings(Box<Cuttings>),
 }
 
 impl Case {
@@ -41,7 +41,7 @@ impl Case {
             Case::Ends(_) => "calls at the ends".to_string(),
             Case::Lengths(_) => "lengths beyond memory".to_string(),
             Case::Two(kind, _) => format!("pair {kind:?}"),
-            Case::Ring(_) => "two cuttings".to_string(),
+            Case::Cuttings(_) => "two cuttings".to_string(),
         }
     }
 
@@ -50,7 +50,7 @@ impl Case {
             Case::Scene(_, call) | Case::Damaged(_, call) => vec![call],
             Case::Ends(call) | Case::Lengths(call) => vec![call],
             Case::Two(_, pair) => vec![&pair.first, &pair.second],
-            Case::Ring(pair) => pair.calls().to_vec(),
+            Case::Cuttings(pair) => pair.calls().to_vec(),
         }
     }
 }
@@ -86,9 +86,9 @@ pub fn case(seed: u64, number: u64, size: Size) -> Case {
 
 /// Pair of cuttings `number` of the run of `seed`; they are numbered by
 /// themselves.
-pub fn ring(seed: u64, number: u64, size: Size) -> Case {
+pub fn two_cuttings(seed: u64, number: u64, size: Size) -> Case {
     let mut rng = Random::new(seed.rotate_left(32), number);
-    Case::Ring(Box::new(make_cuttings(&mut rng, size)))
+    Case::Cuttings(Box::new(make_cuttings(&mut rng, size)))
 }
 
 fn scene_call(rng: &mut Random, kind: Kind, size: Size) -> Call {
@@ -237,12 +237,12 @@ fn differing(
             }
             of_both(outcomes)
         }
-        Case::Ring(pair) => {
+        Case::Cuttings(pair) => {
             let outcomes = check_cuttings(library, pair, noise);
             let [one, other] = pair.patches();
             assert!(same_cover(&one, &other), "a made pair covers the same");
             let lent = [&outcomes[0].lent, &outcomes[1].lent];
-            tally.rings.add(pair, lent);
+            tally.cuttings.add(pair, lent);
             of_both(outcomes)
         }
     }

@@ -11,7 +11,7 @@
 //! that it can fail: `fault`, `wrong_gate`, `wrong_lengths`, `wrong_questions`,
 //! `wrong_paint`, `wrong_joints`, `wrong_camera`, `wrong_booking`,
 //! `wrong_cuttings`, `wrong_buffers`, `altered`; and the model against itself:
-//! `consistency`, `steps`, `ring_check`.
+//! `consistency`, `steps`, `cuttings_check`.
 
 pub mod along;
 pub mod altered;
@@ -27,6 +27,7 @@ pub mod consistency;
 pub mod cover;
 pub mod cut;
 pub mod cuttings;
+pub mod cuttings_check;
 pub mod damage;
 pub mod differential;
 pub mod fault;
@@ -45,7 +46,6 @@ pub mod planner;
 pub mod polygon;
 pub mod random;
 pub mod ray;
-pub mod ring_check;
 pub mod rings;
 pub mod scene;
 pub mod soup;

@@ -1,16 +1,16 @@
 //! The library set against the stored cases, the stations, and the model case
 //! by case.
 //!
-//!     differential [--cases N] [--rings N] [--seed S] [--only K]
-//!                  [--only-ring K] [--small] [--trace] [--out DIR]
+//!     differential [--cases N] [--cuttings N] [--seed S] [--only K]
+//!                  [--only-cuttings K] [--small] [--trace] [--out DIR]
 //!                  [--ringbill PROGRAM]
 //!
-//! Two cuttings of a ring are a case of their own sort; there are two for each
-//! of the others, or as many as `--rings` says. A case that differs is written to
-//! DIR as an input of `ringbill`, its axes in what is printed. `--only` runs
-//! case K alone, `--only-ring` two cuttings alone, `--trace` names each case
-//! before it runs, `--small` keeps cases cheap, `--ringbill` sets the program,
-//! whose view is level, against the model too.
+//! Two cuttings of a ring are a case of their own sort; there are two of these
+//! pairs for each of the others, or as many as `--cuttings` says. A case that
+//! differs is written to DIR as an input of `ringbill`, its axes in what is
+//! printed. `--only` runs case K alone, `--only-cuttings` pair K of cuttings
+//! alone, `--trace` names each case before it runs, `--small` keeps cases cheap,
+//! `--ringbill` sets the program, whose view is level, against the model too.
 
 mod library;
 
@@ -23,7 +23,7 @@ use std::process::{exit, Command, Stdio};
 use library::Linked;
 use outside::bill::{bill, LONGEST, SHORTEST};
 use outside::compare::Difference;
-use outside::differential::{case, put, ring, Case, Tally};
+use outside::differential::{case, put, two_cuttings, Case, Tally};
 use outside::gate::Gate;
 use outside::generate::{FULL, SMALL};
 use outside::random::Random;
@@ -31,10 +31,10 @@ use outside::trial::hold_library;
 
 struct Options {
     cases: u64,
-    rings: Option<u64>,
+    cuttings: Option<u64>,
     seed: u64,
     only: Option<u64>,
-    only_ring: Option<u64>,
+    only_cuttings: Option<u64>,
     small: bool,
     trace: bool,
     out: String,
@@ -44,10 +44,10 @@ struct Options {
 fn options() -> Options {
     let mut options = Options {
         cases: 5_000,
-        rings: None,
+        cuttings: None,
         seed: 1,
         only: None,
-        only_ring: None,
+        only_cuttings: None,
         small: false,
         trace: false,
         out: ".".to_string(),
@@ -58,10 +58,10 @@ fn options() -> Options {
         let mut value = || words.next().unwrap_or_else(|| usage(&word));
         match word.as_str() {
             "--cases" => options.cases = number(&value()),
-            "--rings" => options.rings = Some(number(&value())),
+            "--cuttings" => options.cuttings = Some(number(&value())),
             "--seed" => options.seed = number(&value()),
             "--only" => options.only = Some(number(&value())),
-            "--only-ring" => options.only_ring = Some(number(&value())),
+            "--only-cuttings" => options.only_cuttings = Some(number(&value())),
             "--small" => options.small = true,
             "--trace" => options.trace = true,
             "--out" => options.out = value(),
@@ -84,14 +84,14 @@ fn number(word: &str) -> u64 {
 impl Options {
     /// The cases and the cuttings to run, and whether these are all there are.
     fn numbers(&self) -> ([Range<u64>; 2], bool) {
-        match (self.only, self.only_ring) {
+        match (self.only, self.only_cuttings) {
             (None, None) => {
-                let rings = self.rings.unwrap_or(2 * self.cases);
-                ([0..self.cases, 0..rings], true)
+                let cuttings = self.cuttings.unwrap_or(2 * self.cases);
+                ([0..self.cases, 0..cuttings], true)
             }
-            (case, ring) => {
+            (case, cuttings) => {
                 let one = |k: Option<u64>| k.map_or(0..0, |k| k..k + 1);
-                ([one(case), one(ring)], false)
+                ([one(case), one(cuttings)], false)
             }
         }
     }
@@ -101,14 +101,14 @@ fn main() {
     let options = options();
     let size = if options.small { SMALL } else { FULL };
     let mut tally = Tally::default();
-    let ([cases, rings], all) = options.numbers();
+    let ([cases, cuttings], all) = options.numbers();
     let known = if all { hold_library(|| Linked) } else { 0 };
     for k in cases {
         let made = case(options.seed, k, size);
         run(&options, k, &made, &mut tally);
     }
-    for k in rings {
-        let made = ring(options.seed, k, size);
+    for k in cuttings {
+        let made = two_cuttings(options.seed, k, size);
         run(&options, k, &made, &mut tally);
     }
     let status = report(&options, &tally);
@@ -122,7 +122,7 @@ fn run(options: &Options, k: u64, made: &Case, tally: &mut Tally) {
     let mut noise = Random::new(!options.seed, k);
     let mut differences = put(&Linked, made, &mut noise, tally);
     if let Some(program) = &options.ringbill {
-        if !matches!(made, Case::Ring(_)) && !bills_agree(program, made, k) {
+        if !matches!(made, Case::Cuttings(_)) && !bills_agree(program, made, k) {
             tally.failed += u64::from(differences.is_empty());
             *tally.differences.entry(Difference::Bill).or_default() += 1;
             differences.push(Difference::Bill);
@@ -137,7 +137,7 @@ fn run(options: &Options, k: u64, made: &Case, tally: &mut Tally) {
 fn keep(options: &Options, k: u64, made: &Case, differences: &[Difference]) {
     println!("DIFFERS case {k} ({}): {differences:?}", made.name());
     let sort = match made {
-        Case::Ring(_) => "ring",
+        Case::Cuttings(_) => "cuttings",
         _ => "outside",
     };
     for (place, call) in made.calls().into_iter().enumerate() {
@@ -180,10 +180,10 @@ fn tell(tally: &Tally) {
     for (times, name) in tally.pieces.told() {
         println!("{times:8} views show {name}");
     }
-    for (times, name) in tally.rings.told() {
+    for (times, name) in tally.cuttings.told() {
         println!("{times:8} two cuttings {name}");
     }
-    println!("{:8} rings were given up", tally.rings.given_up);
+    println!("{:8} rings were given up", tally.cuttings.given_up);
     for (difference, times) in &tally.differences {
         println!("{times:8} differences: {difference:?}");
     }
@@ -196,18 +196,18 @@ fn report(options: &Options, tally: &Tally) -> i32 {
     silent.extend(Gate::of_the_paper().numbers());
     silent.retain(|answer| !tally.answers.contains_key(answer));
     let unseen = tally.never_shown();
-    let others = tally.cases - tally.rings.pairs;
+    let others = tally.cases - tally.cuttings.pairs;
     let thin = others >= 500 && !(silent.is_empty() && unseen.is_empty());
     if thin {
         println!("never answered: {silent:?}, never shown: {unseen:?}");
     }
-    let bites = !tally.rings.is_thin();
+    let bites = !tally.cuttings.is_thin();
     if !bites {
         println!("two cuttings: something never met with");
     }
     println!(
         "outside: {} cases, {} of them two cuttings, {} differences",
-        tally.cases, tally.rings.pairs, tally.failed
+        tally.cases, tally.cuttings.pairs, tally.failed
     );
     i32::from(tally.failed > 0 || thin || !bites)
 }

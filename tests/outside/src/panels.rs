@@ -10,8 +10,7 @@ use crate::tree::Plane;
 use crate::vector::{side, Point};
 
 /// A convex part of a panel, or all of it.
-#[derive(Clone)]
-pub struct Block {
+pub struct Part {
     panel: u16,
     pub basis: Basis,
     corners: Corners,
@@ -22,20 +21,20 @@ pub struct Block {
 /// How far the lattices go.
 pub const GRID: i64 = 4;
 
-/// One to seven blocks: in one plane, where they touch, overlap and hide each
+/// Up to seven parts: in one plane, where they touch, overlap and hide each
 /// other, in parallel planes, or in planes that cross on a lattice line.
-pub fn laid_out(rng: &mut Random) -> Vec<Block> {
+pub fn laid_out(rng: &mut Random) -> Vec<Part> {
     let fine = rng.pick(&[1, 2, 2, 4, 6, 6, 12, 12, 120, 450]);
     let panels = [0; 3].map(|_| any_panel(rng));
     let mut bases = vec![any_basis(rng, fine)];
-    let mut blocks: Vec<Block> = Vec::new();
+    let mut parts: Vec<Part> = Vec::new();
     for _ in 0..1 + rng.below(7) {
         let basis = beside(rng, &bases, fine);
         bases.push(basis);
         let panel = rng.pick(&panels);
-        blocks.extend(Block::any(rng, panel, basis));
+        parts.extend(Part::any(rng, panel, basis));
     }
-    blocks
+    parts
 }
 
 fn any_panel(rng: &mut Random) -> u16 {
@@ -93,10 +92,10 @@ fn beside(rng: &mut Random, bases: &[Basis], fine: i64) -> Basis {
     }
 }
 
-impl Block {
+impl Part {
     /// A parallelogram or the hull of some lattice points. None where it has no
     /// area or leaves the range.
-    fn any(rng: &mut Random, panel: u16, basis: Basis) -> Option<Block> {
+    fn any(rng: &mut Random, panel: u16, basis: Basis) -> Option<Part> {
         let mut ends = || {
             let any = [rng.between(0, GRID), rng.between(0, GRID)];
             rng.pick(&[[0, GRID], [0, 2], any])
@@ -114,7 +113,7 @@ impl Block {
         let corners = spanned(points?, n).filter(|_| n != [0; 3])?;
         let lattice = (0..=GRID).flat_map(|s| (0..=GRID).map(move |t| [s, t]));
         let lattice = lattice.filter_map(whole);
-        Some(Block {
+        Some(Part {
             panel,
             basis,
             lattice: lattice.filter(|&p| holds(&corners, p)).collect(),
@@ -126,7 +125,7 @@ impl Block {
         holds(&self.corners, p)
     }
 
-    /// Square to the block, nearly, through two of its lattice points.
+    /// Square to the part, nearly, through two of its lattice points.
     fn any_line(&self, rng: &mut Random) -> Option<Plane> {
         let [p, q] = [rng.pick(&self.lattice), rng.pick(&self.lattice)];
         let n = self.basis.normal();
@@ -209,19 +208,18 @@ fn join_two(rng: &mut Random, pieces: &mut Vec<Corners>) {
     }
 }
 
-/// A cutting of all blocks: pieces of one panel may be joined across its blocks,
+/// A cutting of all parts: pieces of one panel may be joined across its parts,
 /// some stand again, and each is listed from any corner, either way round.
-pub fn cutting(rng: &mut Random, blocks: &[Block]) -> Vec<Patch> {
+pub fn cutting(rng: &mut Random, parts: &[Part]) -> Vec<Patch> {
     let mut patches = Vec::new();
-    let mut left: Vec<&Block> = blocks.iter().collect();
+    let mut left: Vec<&Part> = parts.iter().collect();
     while let Some(first) = left.pop() {
-        let (alike, others): (Vec<&Block>, Vec<&Block>) = left
-            .into_iter()
-            .partition(|block| is_one_panel(first, block));
+        let (alike, others): (Vec<&Part>, Vec<&Part>) =
+            left.into_iter().partition(|part| is_one_panel(first, part));
         left = others;
         let mut pieces = first.cut_up(rng);
-        for block in alike {
-            pieces.extend(block.cut_up(rng));
+        for part in alike {
+            pieces.extend(part.cut_up(rng));
         }
         for _ in 0..rng.below(3) {
             join_two(rng, &mut pieces);
@@ -237,8 +235,8 @@ pub fn cutting(rng: &mut Random, blocks: &[Block]) -> Vec<Patch> {
     patches
 }
 
-/// Are they blocks of one panel in one plane?
-fn is_one_panel(one: &Block, other: &Block) -> bool {
+/// Are they parts of one panel in one plane?
+fn is_one_panel(one: &Part, other: &Part) -> bool {
     let plane = [one.corners[0], one.corners[1], one.corners[2]];
     let mut corners = other.corners.iter();
     one.panel == other.panel && corners.all(|&p| side(&plane, p) == 0)

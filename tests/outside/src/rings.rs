@@ -9,7 +9,7 @@ use crate::stations::{in_one_node, piece, scene_of, site, square, window};
 use crate::survey::survey;
 use crate::trial::{accepted, digits, Trial};
 
-/// Before a plane at forward 100 the lines just beside the cells' own pass
+/// In the plane at forward 100 the lines just beside the cells' own pass
 /// through x hardly right of −50, 0 and 50 and z hardly below 50, 0 and −50, x
 /// being farther off than z. The right and lower cells miss the square.
 const MIDDLE: [u16; 3] = [3, 3, 4];
@@ -165,17 +165,24 @@ fn others() -> [Other; 2] {
 pub fn covered() -> Vec<(&'static str, bool)> {
     let s = square(5, 50, 100);
     let ways = [s.clone(), turned_round(s)];
-    let at = |over, under| ways.iter().map(|s| covers(s, over, under)).collect();
+    let at = |numerators, denominator| {
+        ways.iter()
+            .map(|s| covers(s, numerators, denominator))
+            .collect()
+    };
     let (yes, no) = (vec![true; 2], vec![false; 2]);
     let is = |held: Vec<bool>, due: &Vec<bool>| held == *due;
     vec![
         ("S covers its corner", is(at([-50, 100, -50], 1), &yes)),
-        ("S covers half of an edge", is(at([1, 200, 100], 2), &yes)),
+        (
+            "S covers a point of an edge",
+            is(at([1, 200, 100], 2), &yes),
+        ),
         ("S covers its middle", is(at([0, 100, 0], 1), &yes)),
-        ("S ends a unit aside", is(at([51, 100, 0], 1), &no)),
+        ("S ends a unit to the right", is(at([51, 100, 0], 1), &no)),
         ("S ends half a unit behind", is(at([0, 201, 0], 2), &no)),
         (
-            "S ends a part of a unit aside",
+            "S ends a part of a unit below",
             is(at([0, 3_000, -1_501], 30), &no),
         ),
         ("cuttings of one panel cover the same", same(&one_panel())),

@@ -15,11 +15,11 @@ use outside::consistency::{
     booked_once, old_directions_hold, pair_holds, parts_are_told_apart, rays_agree, sums_hold,
     turned_back,
 };
+use outside::cuttings_check::{faults_show, made, pairs_hold, stored_cover, tampering_shows};
 use outside::differential::{case, put, Case, Tally};
 use outside::fault::Faulty;
 use outside::generate::{FULL, SMALL};
 use outside::random::Random;
-use outside::ring_check::{faults_show, made, pairs_hold, stored_cover, tampering_shows};
 use outside::rings::covered;
 use outside::stations::stations;
 use outside::steps::steps_agree;

@@ -20,7 +20,7 @@ pub struct Tally {
     pub level: Shown,
     pub turned: Shown,
     pub pieces: Pieces,
-    pub rings: Rings,
+    pub cuttings: CuttingsTally,
     pub differences: BTreeMap<Difference, u64>,
     pub failed: u64,
 }
@@ -49,7 +49,7 @@ pub struct Pieces {
 /// Two cuttings each: how many there were, and in how many of them the request
 /// asks something of a library.
 #[derive(Default)]
-pub struct Rings {
+pub struct CuttingsTally {
     pub pairs: u64,
     /// Rings laid out in vain on the way to these.
     pub given_up: u64,
@@ -102,7 +102,7 @@ impl Tally {
     }
 }
 
-impl Rings {
+impl CuttingsTally {
     pub fn add(&mut self, pair: &Cuttings, lent: [&Lent; 2]) {
         let [one, other] = lent.map(|lent| &lent.patch_counts);
         let [plain, beyond] = pair.done(Sight::Plain);

@@ -1,5 +1,6 @@
 //! Two cuttings without a library: each pair covers the same points, one that was
-//! tampered with does not, and the faults that pairs show by themselves.
+//! tampered with and shows another picture does not, and the faults that pairs
+//! show by themselves.
 
 use crate::block::Reading;
 use crate::call::Call;
@@ -14,7 +15,7 @@ use crate::random::Random;
 use crate::ray::Sight;
 use crate::scene::Scene;
 use crate::survey::survey;
-use crate::tally::Rings;
+use crate::tally::CuttingsTally;
 use crate::wrong_cuttings::{CUT_LOOKS, SEEN_TOO, UNSEEN, WRITES};
 
 /// Pairs of the generator.
@@ -43,13 +44,13 @@ pub fn stored_cover() -> Reading<usize> {
 
 /// Each pair covers the same points, and the model keeps F-5 on it.
 pub fn pairs_hold(pairs: &[Cuttings]) -> usize {
-    let mut rings = Rings::default();
+    let mut tally = CuttingsTally::default();
     let mut failed = 0;
     for (k, pair) in pairs.iter().enumerate() {
         let [one, other] = pair.patches();
         let mut noise = Random::new(k as u64, 0);
         let outcomes = check_cuttings(&Faulty::none(), pair, &mut noise);
-        rings.add(pair, [&outcomes[0].lent, &outcomes[1].lent]);
+        tally.add(pair, [&outcomes[0].lent, &outcomes[1].lent]);
         let same = same_cover(&one, &other);
         if !same || outcomes.iter().any(|o| !o.differences.is_empty()) {
             println!("FAILS two cuttings {k}: cover the same {same}");
@@ -57,11 +58,11 @@ pub fn pairs_hold(pairs: &[Cuttings]) -> usize {
         }
     }
     println!("two cuttings: {} pairs, {failed} failed", pairs.len());
-    for (times, name) in rings.told() {
+    for (times, name) in tally.told() {
         println!("two cuttings: {times} {name}");
     }
-    println!("two cuttings: {} rings given up", rings.given_up);
-    failed + usize::from(rings.is_thin())
+    println!("two cuttings: {} rings given up", tally.given_up);
+    failed + usize::from(tally.is_thin())
 }
 
 /// The second scene with one patch under another panel, or a corner of it or all
@@ -109,8 +110,8 @@ pub fn tampering_shows(pairs: &[Cuttings]) -> usize {
     missed + usize::from(told == 0 || shown == 0)
 }
 
-/// Every fault that depends on the cutting is seen by two cuttings alone, and
-/// none that does not.
+/// The faults listed as depending on the cutting are seen by two cuttings alone,
+/// and those listed as unseen are not.
 pub fn faults_show(pairs: &[Cuttings]) -> usize {
     let own = WRITES.iter().map(|told| told.0);
     let own = own.chain(CUT_LOOKS.iter().map(|told| told.0));
