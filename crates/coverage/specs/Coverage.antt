@@ -21,7 +21,7 @@ abbrev pub edgeSide : Patch → Edge → Vec → ℕ → ℤ
 edgeSide p e q k = dot (normal p) (cross (minus (e .to) (e .from)) (minus q (times (pos k) (e .from))))
 
 -- The point lies on the patch, "its pieces' edges and corners counted in": in its plane, and on the inner side of every edge or on the edge. (So it is for a patch that
--- question 8 lets pass. Of no other is anything promised: both scenes are accepted.)
+-- questions 6 and 8 let pass. Of no other is anything promised: both scenes are accepted.)
 unfoldable pub covered : Patch → Vec → ℕ → Bool
 covered p q k =
     isZero (planeSide p q k) && every (λ (e : Edge). leZ (pos 0) (edgeSide p e q k)) (edges (p .corners))

@@ -137,9 +137,6 @@ same-trans h k = sign-same (same-sign h ∙ same-sign k) (same-≢ h)
 pub record WeakSign (s a : ℤ) : Type 0 where
   pub agree : pos zero ≤ℤ (s *ℤ a)
 
-pub same→weak : {s a : ℤ} → SameSign s a → WeakSign s a
-same→weak h = record { agree = <→≤ (h .agree) }
-
 pub same-weak-+ : {s a b : ℤ} → SameSign s a → WeakSign s b → SameSign s (a +ℤ b)
 same-weak-+ {s} {a} {b} h k = record { agree = <-by (+-pos-nonneg (h .agree) (k .agree)) (ring (s ∷ a ∷ b ∷ []) (search reify depth 40 fits 200000, tt)) }
 

@@ -39,7 +39,7 @@ module _ {p : Patch} (h : Proper p) where
   pub three-corners : 3 ≤ length (p .corners)
   three-corners = leb→le 3 (length (p .corners)) (both (leb 3 (length (p .corners))) (leb (length (p .corners)) 8) .0 (h .counted) .0)
 
-  pub some-corner : 0 < length (p .corners)
+  some-corner : 0 < length (p .corners)
   some-corner = omega (arith, three-corners)
 
   pub corner-mem : (k : ℕ) → k < 3 → List·Memᴰ (corner p k) (p .corners)
