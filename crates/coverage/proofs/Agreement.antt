@@ -33,12 +33,12 @@ pub record Matched (eye : Vec) (ps qs : List Patch) : Type 0 where
       (p : Patch) → List·Memᴰ p ps → eyeProduct eye p ≢ pos 0 →
       (q : Vec) (k : ℕ) → 0 < k → T (covered p q k) → PanelCovers qs (p .panel) q k
 
--- same cover: each list is matched by the other, from every eye
-same-matched : {ps qs : List Patch} → SameCover ps qs → (eye : Vec) → Matched eye ps qs × Matched eye qs ps
-same-matched same eye = (
-  record { matched = λ p m _ q k h t. same (p .panel) q k h .0 (record { piece = p; listed = m; ofPanel = refl; covers = t }) },
-  record { matched = λ p m _ q k h t. same (p .panel) q k h .1 (record { piece = p; listed = m; ofPanel = refl; covers = t }) },
-)
+-- a list that covers whatever another does matches it, from every eye
+covers-matched :
+    {ps qs : List Patch} → ((n : ℕ) (q : Vec) (k : ℕ) → 0 < k → PanelCovers ps n q k → PanelCovers qs n q k) →
+    (eye : Vec) → Matched eye ps qs
+covers-matched covers eye =
+    record { matched = λ p m _ q k h t. covers (p .panel) q k h (record { piece = p; listed = m; ofPanel = refl; covers = t }) }
 
 module _ {eye D : Vec} (eye-within : VecWithin 10000 eye) (generic : Generic D) where
   -- a piece of a list that the line meets where it meets p, of the same panel (no farther than p, which is enough)
@@ -107,6 +107,7 @@ pub same-cells :
     {ps qs : List Patch} → Sound ps → Sound qs → SameCover ps qs →
     cellPanel (v .eye) (cellLine (v .camera)) ps ≡ cellPanel (v .eye) (cellLine (v .camera)) qs
 same-cells v view axes P Q same =
-    let match = same-matched same (v .eye) in
+    let forth = covers-matched (λ n q k h. same n q k h .0) (v .eye) in
+    let back = covers-matched (λ n q k h. same n q k h .1) (v .eye) in
     let eye-within = parts-within 10000 (v .eye) (view-bounded v view .point) in
-    fun-ext (λ i. fun-ext (λ j. cuttings-agree eye-within (line-generic v view axes i j) P Q (match .0) (match .1)))
+    fun-ext (λ i. fun-ext (λ j. cuttings-agree eye-within (line-generic v view axes i j) P Q forth back))

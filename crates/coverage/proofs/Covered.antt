@@ -1,5 +1,5 @@
 -- What it says of a point that a patch covers it, or a panel; and that the numbers behind it are linear in the point.
-use mathlib.Core.Path.{_≡_, refl, sym, _∙_, ap, subst}
+use mathlib.Core.Path.{_≡_, refl, sym, _∙_, ap, ap₂, subst}
 use mathlib.Core.Bool.{Bool, not, _&&_}
 use mathlib.Core.Logic.{_↔_, _⊎_, inl, inr}
 use mathlib.Core.List.{List, [], _∷_, List·Memᴰ, List·Memᴰ·head, List·Memᴰ·tail}
@@ -9,7 +9,7 @@ use lib.IntN.{ℤ, pos, _+ℤ_, _*ℤ_}
 use lib.Signed.{leZ, leZ-yes, _≤ℤ_}
 use Rattle.integer.proofs.Identity.{ring, reify}
 use Rattle.model.specs.Lists.{every, any}
-use Rattle.model.specs.Vector.{Vec, minus, plus, times, dot, isZero}
+use Rattle.model.specs.Vector.{Vec, minus, plus, times, dot, cross, isZero}
 use Rattle.model.specs.Patch.{Patch, Edge, edges}
 use Rattle.model.proofs.Tests.{both, every-true, any-true}
 use Rattle.model.proofs.Patches.{is-zero}
@@ -36,7 +36,7 @@ covered-says p q k = (
     parts : T (covered p q k) ↔ (T (isZero (planeSide p q k)) × T (every side (edges (p .corners))))
     parts = both (isZero (planeSide p q k)) (every side (edges (p .corners)))
 
--- ---- its numbers: for the plane through a with normal n, and for an edge from a along w
+-- ---- its numbers, for the plane through a with normal n
 pub plane-sum :
     (q q′ a n : Vec) (k k′ : ℤ) →
     dot (minus (plus q q′) (times (k +ℤ k′) a)) n ≡ dot (minus q (times k a)) n +ℤ dot (minus q′ (times k′ a)) n
@@ -45,25 +45,28 @@ plane-sum q q′ a n k k′ =
     (q .x ∷ q .y ∷ q .z ∷ q′ .x ∷ q′ .y ∷ q′ .z ∷ a .x ∷ a .y ∷ a .z ∷ n .x ∷ n .y ∷ n .z ∷ k ∷ k′ ∷ [])
     (search reify depth 40 fits 200000, tt)
 
-pub edge-sum :
-    (q q′ a n w : Vec) (k k′ : ℤ) →
-    det n w (minus (plus q q′) (times (k +ℤ k′) a)) ≡ det n w (minus q (times k a)) +ℤ det n w (minus q′ (times k′ a))
-edge-sum q q′ a n w k k′ =
-    ring
-    (q .x ∷ q .y ∷ q .z ∷ q′ .x ∷ q′ .y ∷ q′ .z ∷ a .x ∷ a .y ∷ a .z ∷ n .x ∷ n .y ∷ n .z ∷ w .x ∷ w .y ∷ w .z ∷ k ∷ k′ ∷ [])
-    (search reify depth 40 fits 200000, tt)
-
 pub plane-times : (q a n : Vec) (k m : ℤ) → dot (minus (times m q) (times (m *ℤ k) a)) n ≡ m *ℤ dot (minus q (times k a)) n
 plane-times q a n k m =
     ring
     (q .x ∷ q .y ∷ q .z ∷ a .x ∷ a .y ∷ a .z ∷ n .x ∷ n .y ∷ n .z ∷ k ∷ m ∷ [])
     (search reify depth 40 fits 200000, tt)
 
+-- an edge's number is that of the plane through the edge, across the patch
+pub across : (n w x : Vec) → det n w x ≡ dot x (cross n w)
+across n w x =
+    ring (n .x ∷ n .y ∷ n .z ∷ w .x ∷ w .y ∷ w .z ∷ x .x ∷ x .y ∷ x .z ∷ []) (search reify depth 40 fits 200000, tt)
+
+pub edge-sum :
+    (q q′ a n w : Vec) (k k′ : ℤ) →
+    det n w (minus (plus q q′) (times (k +ℤ k′) a)) ≡ det n w (minus q (times k a)) +ℤ det n w (minus q′ (times k′ a))
+edge-sum q q′ a n w k k′ =
+    across n w (minus (plus q q′) (times (k +ℤ k′) a)) ∙ plane-sum q q′ a (cross n w) k k′
+    ∙ sym (ap₂ _+ℤ_ (across n w (minus q (times k a))) (across n w (minus q′ (times k′ a))))
+
 pub edge-times : (q a n w : Vec) (k m : ℤ) → det n w (minus (times m q) (times (m *ℤ k) a)) ≡ m *ℤ det n w (minus q (times k a))
 edge-times q a n w k m =
-    ring
-    (q .x ∷ q .y ∷ q .z ∷ a .x ∷ a .y ∷ a .z ∷ n .x ∷ n .y ∷ n .z ∷ w .x ∷ w .y ∷ w .z ∷ k ∷ m ∷ [])
-    (search reify depth 40 fits 200000, tt)
+    across n w (minus (times m q) (times (m *ℤ k) a)) ∙ plane-times q a (cross n w) k m
+    ∙ ap (m *ℤ_) (sym (across n w (minus q (times k a))))
 
 -- ---- a panel covers a point
 module _ {n : ℕ} {q : Vec} {k : ℕ} where

@@ -13,10 +13,10 @@ use Rattle.model.specs.Vector.{Vec, minus, times, dot, cross}
 use Rattle.model.specs.Patch.{Patch, Edge, Proper, corner, normal, edges}
 use Rattle.model.proofs.Vectors.{det, dot-times}
 use Rattle.model.proofs.Rounds.{edge-ends}
-use Rattle.model.proofs.Patches.{three-corners, first-corner, corner-height, turns, normal-square}
+use Rattle.model.proofs.Patches.{three-corners, first-corner, corner-level, turns, normal-square}
 use Rattle.model.proofs.Crossing.{Crossing, crossing}
 use Rattle.coverage.specs.Coverage.{planeSide, edgeSide, covered}
-use Rattle.coverage.proofs.Covered.{Covered, covered-says}
+use Rattle.coverage.proofs.Covered.{Covered, covered-says, across}
 use Rattle.coverage.proofs.Points.{corner-covered}
 
 -- Of vectors perpendicular to n, x is made of u and w, seen in any direction N.
@@ -72,12 +72,6 @@ module _ {p : Patch} (proper : Proper p) (q : Vec) (k : ℕ) (t : T (covered p q
   found : Crossing (p .corners) first diagonal
   found = crossing diagonal leaving entering (three-corners proper) (first-corner proper)
 
-  level : {c : Vec} → List·Memᴰ c (p .corners) → dot (minus c first) (normal p) ≡ pos 0
-  level {c} l = corner-height proper l first ∙ nowhere first (normal p)
-    where
-      nowhere : (m n : Vec) → dot (minus m m) n ≡ pos 0
-      nowhere m n = ring (m .x ∷ m .y ∷ m .z ∷ n .x ∷ n .y ∷ n .z ∷ []) (search reify depth 40 fits 200000, tt)
-
   -- Where all corners are at height h or above, along any N, so is the point q / k: q is at k h or above.
   pub covered-within :
       (N : Vec) (h : ℤ) → ((c : Vec) → List·Memᴰ c (p .corners) → h ≤ℤ dot c N) → (pos k *ℤ h) ≤ℤ dot q N
@@ -93,7 +87,7 @@ module _ {p : Patch} (proper : Proper p) (q : Vec) (k : ℕ) (t : T (covered p q
       (*-nonneg (on .inEdge (found .isEdge)) (≤-diff (high first (first-corner proper)))))
       (weighed (det (normal p) (minus u first) (minus w first)) (pos k) h (edgeSide p e q k) (diagonal w) (diagonal u) (dot first N) (dot u N) (dot w N) (dot q N)
       (heights (det (normal p) (minus u first) (minus w first)) (diagonal w) (diagonal u) (pos k) first u w
-      (made-of (normal p) (minus q (times (pos k) first)) (minus u first) (minus w first) N (normal-square proper) (on .inPlane) (level (ends .0)) (level (ends .1))))
+      (made-of (normal p) (minus q (times (pos k) first)) (minus u first) (minus w first) N (normal-square proper) (on .inPlane) (corner-level proper (ends .0)) (corner-level proper (ends .1))))
       (inside (normal p) first u w (pos k)))
     where
       turn : (n m u w : Vec) → det n (minus w u) (minus m u) ≡ det n (minus u m) (minus w m)
@@ -162,15 +156,11 @@ corners-enough {p} proper r corners q k t = covered-says r q k .1 (record { inPl
         opposite : (x : ℤ) → pos 0 -ℤ x ≡ negsuc 0 *ℤ x
         opposite x = ring (x ∷ []) (search reify depth 40 fits 200000, tt)
 
-    seen : (n w x : Vec) → det n w x ≡ dot x (cross n w)
-    seen n w x =
-        ring (n .x ∷ n .y ∷ n .z ∷ w .x ∷ w .y ∷ w .z ∷ x .x ∷ x .y ∷ x .z ∷ []) (search reify depth 40 fits 200000, tt)
-
     in-edge : {e : Edge} → List·Memᴰ e (edges (r .corners)) → pos 0 ≤ℤ edgeSide r e q k
     in-edge {e} l =
-        subst (pos 0 ≤ℤ_) (sym (seen (normal r) (minus (e .to) (e .from)) (minus q (times (pos k) (e .from)))))
+        subst (pos 0 ≤ℤ_) (sym (across (normal r) (minus (e .to) (e .from)) (minus q (times (pos k) (e .from)))))
         (beyond proper q k t (cross (normal r) (minus (e .to) (e .from))) (e .from)
-        (λ c m. subst (pos 0 ≤ℤ_) (seen (normal r) (minus (e .to) (e .from)) (minus c (times (pos 1) (e .from)))) (at c m .inEdge l)))
+        (λ c m. subst (pos 0 ≤ℤ_) (across (normal r) (minus (e .to) (e .from)) (minus c (times (pos 1) (e .from)))) (at c m .inEdge l)))
 
 -- So patches with the same corners cover the same points, whichever way round these are listed and from whichever on.
 pub same-corners :

@@ -7,14 +7,14 @@ use Prim.Native.Nat.{ℕ, _+_, _*_, _<_}
 use lib.Dec.{T, lt→ltb}
 use lib.IntN.{ℤ, pos, _+ℤ_, _-ℤ_, _*ℤ_, *ℤ-zero}
 use lib.Signed.{_<ℤ_, _≤ℤ_, ltZ-yes}
-use Rattle.integer.proofs.Identity.{ring, reify, combine₁, combine₂}
+use Rattle.integer.proofs.Identity.{ring, reify, combine₂}
 use Rattle.integer.proofs.Order.{+-nonneg, <-by, <→≤, ≡→≤}
 use Rattle.integer.proofs.Products.{*-nonneg, *-nonneg-cancel, *-zero-cancel}
 use Rattle.model.specs.Vector.{Vec, minus, plus, times, dot}
 use Rattle.model.specs.Patch.{Patch, Edge, Proper, corner, normal, edges}
 use Rattle.model.proofs.Vectors.{det}
 use Rattle.model.proofs.Rounds.{edge-corner}
-use Rattle.model.proofs.Patches.{corner-height, turns}
+use Rattle.model.proofs.Patches.{corner-level, turns}
 use Rattle.coverage.specs.Coverage.{planeSide, edgeSide, covered}
 use Rattle.coverage.proofs.Covered.{covered-says, plane-sum, edge-sum, plane-times, edge-times}
 
@@ -62,14 +62,11 @@ between-covered p q q′ k k′ s t =
 pub corner-covered : {p : Patch} → Proper p → {c : Vec} → List·Memᴰ c (p .corners) → T (covered p c 1)
 corner-covered {p} proper {c} m = covered-says p c 1 .1 (record { inPlane = in-plane; inEdge = λ {e} l. in-edge l (edge-corner l m) })
   where
-    at-once : (c a n : Vec) → dot (minus c (times (pos 1) a)) n ≡ dot (minus c a) n -ℤ dot (minus a a) n
+    at-once : (c a n : Vec) → dot (minus c (times (pos 1) a)) n ≡ dot (minus c a) n
     at-once c a n = ring (c .x ∷ c .y ∷ c .z ∷ a .x ∷ a .y ∷ a .z ∷ n .x ∷ n .y ∷ n .z ∷ []) (search reify depth 40 fits 200000, tt)
 
-    none-left : {x y : ℤ} → x ≡ y → x -ℤ y ≡ pos 0
-    none-left {x} {y} e = combine₁ (pos 1) e (ring (x ∷ y ∷ []) (search reify depth 40 fits 200000, tt))
-
     in-plane : planeSide p c 1 ≡ pos 0
-    in-plane = at-once c (corner p 0) (normal p) ∙ none-left (corner-height proper m (corner p 0))
+    in-plane = at-once c (corner p 0) (normal p) ∙ corner-level proper m
 
     once : (n w c v : Vec) → det n w (minus c (times (pos 1) v)) -ℤ pos 0 ≡ det n w (minus c v)
     once n w c v =

@@ -6,10 +6,10 @@ use Prim.Native.Nat.{ℕ, suc, _+_, _*_, _≤_, _<_}
 use native.Mathlib.Nat.{mul-pos, mul-le-mul, le-refl, le-of-lt}
 use native.Mathlib.Omega.{arith}
 use lib.Dec.{T, lit≤, lit<, lt→ltb, le→leb}
-use lib.IntN.{ℤ, pos, negℤ}
+use lib.IntN.{ℤ, pos, negsuc, negℤ}
 use lib.Signed.{_<ℤ_, ltZ-yes, leZ-yes}
 use Rattle.integer.specs.Magnitude.{Within}
-use Rattle.integer.proofs.Identity.{ring, reify}
+use Rattle.integer.proofs.Identity.{ring, reify, combine₁}
 use Rattle.integer.proofs.Magnitude.{within-more, within-negation}
 use Rattle.model.specs.Vector.{Vec, minus, plus, times, dot}
 use Rattle.model.specs.Bounds.{VecWithin}
@@ -110,11 +110,15 @@ module _ (k : Camera) (axes : T (axesProper (k .axes))) (i j : ℕ) where
   -- the line that the cell is read along is perpendicular to a vector only where the sight line, right and up all are
   pub line-zero :
       {w : Vec} → VecWithin largest w → dot (cellLine k i j) w ≡ pos 0 →
-      (dot (direction k i j) w ≡ pos 0) × (dot (k .axes .right) w ≡ pos 0) × (negℤ (dot (k .axes .up) w) ≡ pos 0)
+      (dot (direction k i j) w ≡ pos 0) × (dot (k .axes .right) w ≡ pos 0) × (dot (k .axes .up) w ≡ pos 0)
   unfolding cellLine
   line-zero {w} h e =
       let l = lean-dot (k .axes) (direction k i j) w (pos (fine * (fine * fine))) (pos (2 * (fine * fine))) (pos (2 * fine)) in
-      weighted-zero fine-steep (right-part h) (up-part h) (sym l ∙ e)
+      let z = weighted-zero fine-steep (right-part h) (up-part h) (sym l ∙ e) in
+      (z .0, z .1, opposite (dot (k .axes .up) w) (z .2))
+    where
+      opposite : (x : ℤ) → negℤ x ≡ pos 0 → x ≡ pos 0
+      opposite x e = combine₁ (negsuc 0) e (ring (x ∷ []) (search reify depth 40 fits 200000, tt))
 
   steep-alike : {α β γ α′ β′ γ′ : ℤ} → Steep (pos most) α β γ → Steep (pos most) α′ β′ γ′ → Alike (line α β γ) (line α′ β′ γ′)
   steep-alike s t = record { sides = λ h. (λ l. leans t h .1 (leans s h .0 l), λ l. leans s h .1 (leans t h .0 l)) }

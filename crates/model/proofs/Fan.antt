@@ -52,6 +52,18 @@ sign-of {k} {σ} {D} {t} hk hσ ht e =
           (*-pos (sq-pos hσ) ht));
     }
 
+-- the eye sees an edge and another corner as a triangle that turns by the eye product's sign
+pub corner-sign :
+    (eye : Vec) {p : Patch} → Proper p → eyeProduct eye p ≢ pos 0 → {e : Edge} → List·Memᴰ e (edges (p .corners)) →
+    {m : Vec} → List·Memᴰ m (e .others) → List·Memᴰ m (p .corners) →
+    SameSign (eyeProduct eye p) (det (minus m eye) (minus (e .from) eye) (minus (e .to) eye))
+corner-sign eye {p} proper faced {e} l {m} isOther isCorner =
+    sign-of (normal-square proper) faced (turns proper l isOther)
+    (triangle eye (normal p) m (e .from) (e .to) (eyeProduct eye p)
+    (corner-height proper isCorner eye)
+    (corner-height proper (edge-ends l .0) eye)
+    (corner-height proper (edge-ends l .1) eye))
+
 module _ {eye d : Vec} {p : Patch} (proper : Proper p) (h : Meets eye d p) {m : Vec} (isCorner : List·Memᴰ m (p .corners)) where
   -- on which side of the diagonal from m to a corner the ray passes
   abbrev diagonal : Vec → ℤ
@@ -78,12 +90,7 @@ module _ {eye d : Vec} {p : Patch} (proper : Proper p) (h : Meets eye d p) {m : 
         α = det d (minus (e .from) eye) (minus (e .to) eye);
         β = det d (minus (e .to) eye) (minus m eye);
         γ = det d (minus m eye) (minus (e .from) eye);
-        D-sign =
-            sign-of (normal-square proper) (h .faced) (turns proper (c .isEdge) (c .isOther))
-            (triangle eye (normal p) m (e .from) (e .to) (eyeProduct eye p)
-            (corner-height proper isCorner eye)
-            (corner-height proper (edge-ends (c .isEdge) .0) eye)
-            (corner-height proper (edge-ends (c .isEdge) .1) eye));
+        D-sign = corner-sign eye proper (h .faced) (c .isEdge) (c .isOther) isCorner;
         α-sign = h .passed (c .isEdge);
         β-sign =
             record { agree = subst (pos 0 ≤ℤ_) (sym (turn-back (eyeProduct eye p) d (minus m eye) (minus (e .to) eye))) (neg-of-nonpos (c .after)) };
@@ -110,7 +117,8 @@ ahead {σ} {D} {α} {β} {γ} {x} {y} {z} {k} hD hα hβ hγ hx hy hz e =
     (combine₁ (negℤ σ) e (ring (σ ∷ D ∷ α ∷ β ∷ γ ∷ x ∷ y ∷ z ∷ k ∷ []) (search reify depth 40 fits 200000, tt)))
     (total .agree))
 
-along :
+-- a number whose multiple is made of numbers that are 0
+pub along :
     {D x y z k : ℤ} (α β γ : ℤ) →
     D ≢ pos 0 →
     x ≡ pos 0 →

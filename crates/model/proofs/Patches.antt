@@ -48,12 +48,15 @@ module _ {p : Patch} (h : Proper p) where
   pub first-corner : List·Memᴰ (corner p 0) (p .corners)
   first-corner = corner-mem 0 (omega arith)
 
-  -- every corner is as high above the eye as the first
-  pub corner-height : {c : Vec} → List·Memᴰ c (p .corners) → (eye : Vec) → dot (minus c eye) (normal p) ≡ eyeProduct eye p
+  -- every corner lies in the plane of the first three
+  pub corner-level : {c : Vec} → List·Memᴰ c (p .corners) → side (patchPlane p) c ≡ pos 0
   unfolding flat
-  corner-height {c} m eye =
-      level-from (normal p) eye (corner p 0) c
-      (is-zero (side (patchPlane p) c) .0 (every-true (λ (q : Vec). isZero (side (patchPlane p) q)) (p .corners) .0 (h .isFlat) c m))
+  corner-level {c} m =
+      is-zero (side (patchPlane p) c) .0 (every-true (λ (q : Vec). isZero (side (patchPlane p) q)) (p .corners) .0 (h .isFlat) c m)
+
+  -- so it is as high above the eye as the first
+  pub corner-height : {c : Vec} → List·Memᴰ c (p .corners) → (eye : Vec) → dot (minus c eye) (normal p) ≡ eyeProduct eye p
+  corner-height {c} m eye = level-from (normal p) eye (corner p 0) c (corner-level m)
 
   -- the corners turn the normal's way
   pub turns : {e : Edge} → List·Memᴰ e (edges (p .corners)) → {q : Vec} → List·Memᴰ q (e .others) → pos 0 <ℤ det (normal p) (minus (e .to) (e .from)) (minus q (e .from))

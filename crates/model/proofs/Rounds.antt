@@ -79,19 +79,24 @@ round-mem cs k {c} h =
     subst (List·Memᴰ c) (take-append-drop k cs)
     (⊎-elim (Memᴰ·append-right (take k cs)) (Memᴰ·append-left (drop k cs)) (List·Memᴰ·append-cases (drop k cs) h))
 
-pub edge-ends : {cs : List Vec} {e : Edge} → List·Memᴰ e (edges cs) → List·Memᴰ (e .from) cs × List·Memᴰ (e .to) cs
+-- an edge by the place of the corner that it starts from
+edge-place : {cs : List Vec} {e : Edge} → List·Memᴰ e (edges cs) → (k : ℕ) × (k < length cs) × (firstEdge (round cs k) ≡ e)
 unfolding edges
-edge-ends {cs} {e} h = go (Memᴰ·of-map (λ (k : ℕ). firstEdge (round cs k)) (range 0 (length cs)) h)
+edge-place {cs} {e} h = go (Memᴰ·of-map (λ (k : ℕ). firstEdge (round cs k)) (range 0 (length cs)) h)
   where
-    go : (k : ℕ) × List·Memᴰ k (range 0 (length cs)) × (firstEdge (round cs k) ≡ e) → List·Memᴰ (e .from) cs × List·Memᴰ (e .to) cs
-    go (k, h, f) =
-        let l : k < length cs = omega (arith, of-range 0 (length cs) h) in
-        let r : List Vec = drop (suc k) cs ++ take k cs in
-        let both = first-ends (getD cs k origin) r in
-        let e′ : e ≡ firstEdge (getD cs k origin ∷ r) = sym f ∙ ap firstEdge (from-place cs k l) in (
-          round-mem cs k (Memᴰ·cast (ap (λ (e : Edge). e .from) e′) (subst (List·Memᴰ _) (sym (from-place cs k l)) (both .0))),
-          round-mem cs k (Memᴰ·cast (ap (λ (e : Edge). e .to) e′) (subst (List·Memᴰ _) (sym (from-place cs k l)) (both .1))),
-        )
+    go : (k : ℕ) × List·Memᴰ k (range 0 (length cs)) × (firstEdge (round cs k) ≡ e) → (k : ℕ) × (k < length cs) × (firstEdge (round cs k) ≡ e)
+    go (k, m, f) = (k, omega (arith, of-range 0 (length cs) m), f)
+
+pub edge-ends : {cs : List Vec} {e : Edge} → List·Memᴰ e (edges cs) → List·Memᴰ (e .from) cs × List·Memᴰ (e .to) cs
+edge-ends {cs} {e} h =
+    let p = edge-place h in
+    let k = p .0 in
+    let r : List Vec = drop (suc k) cs ++ take k cs in
+    let both = first-ends (getD cs k origin) r in
+    let e′ : e ≡ firstEdge (getD cs k origin ∷ r) = sym (p .2) ∙ ap firstEdge (from-place cs k (p .1)) in (
+      round-mem cs k (Memᴰ·cast (ap (λ (e : Edge). e .from) e′) (subst (List·Memᴰ _) (sym (from-place cs k (p .1))) (both .0))),
+      round-mem cs k (Memᴰ·cast (ap (λ (e : Edge). e .to) e′) (subst (List·Memᴰ _) (sym (from-place cs k (p .1))) (both .1))),
+    )
 
 third-other : (cs : List Vec) → 3 ≤ length cs → (q : Vec) × List·Memᴰ q (firstEdge cs .others) × List·Memᴰ q cs
 third-other [] h = absurd (omega arith)
@@ -105,16 +110,10 @@ round-length cs k h = length-append (drop k cs) (take k cs) ∙ simp (length-tak
 -- every edge of three corners or more has another corner
 pub edge-other :
     {cs : List Vec} {e : Edge} → 3 ≤ length cs → List·Memᴰ e (edges cs) → (q : Vec) × List·Memᴰ q (e .others) × List·Memᴰ q cs
-unfolding edges
-edge-other {cs} {e} three h = go (Memᴰ·of-map (λ (k : ℕ). firstEdge (round cs k)) (range 0 (length cs)) h)
-  where
-    go :
-        (k : ℕ) × List·Memᴰ k (range 0 (length cs)) × (firstEdge (round cs k) ≡ e) →
-        (q : Vec) × List·Memᴰ q (e .others) × List·Memᴰ q cs
-    go (k, h, f) =
-        let l : k < length cs = omega (arith, of-range 0 (length cs) h) in
-        let t = third-other (round cs k) (rw (round-length cs k l) three) in
-        (t .0, subst (λ (x : Edge). List·Memᴰ (t .0) (x .others)) f (t .1), round-mem cs k (t .2))
+edge-other {cs} three h =
+    let p = edge-place h in
+    let t = third-other (round cs (p .0)) (rw (round-length cs (p .0) (p .1)) three) in
+    (t .0, subst (λ (x : Edge). List·Memᴰ (t .0) (x .others)) (p .2) (t .1), round-mem cs (p .0) (t .2))
 
 first-corners : (cs : List Vec) {c : Vec} → List·Memᴰ c cs → (c ≡ firstEdge cs .from) ⊎ ((c ≡ firstEdge cs .to) ⊎ List·Memᴰ c (firstEdge cs .others))
 first-corners [] m = absurd (List·Memᴰ·not-nil m)
@@ -128,16 +127,11 @@ first-corners (u ∷ v ∷ cs) (List·Memᴰ·tail (List·Memᴰ·tail m)) = inr
 pub edge-corner :
     {cs : List Vec} {e : Edge} → List·Memᴰ e (edges cs) → {c : Vec} → List·Memᴰ c cs →
     (c ≡ e .from) ⊎ ((c ≡ e .to) ⊎ List·Memᴰ c (e .others))
-unfolding edges
-edge-corner {cs} {e} h {c} m = go (Memᴰ·of-map (λ (k : ℕ). firstEdge (round cs k)) (range 0 (length cs)) h)
+edge-corner {cs} h {c} m =
+    let p = edge-place h in
+    subst (λ (x : Edge). (c ≡ x .from) ⊎ ((c ≡ x .to) ⊎ List·Memᴰ c (x .others))) (p .2) (first-corners (round cs (p .0)) (turned (p .0)))
   where
     turned : (k : ℕ) → List·Memᴰ c (round cs k)
     turned k =
         ⊎-elim (Memᴰ·append-right (drop k cs)) (Memᴰ·append-left (take k cs))
         (List·Memᴰ·append-cases (take k cs) (subst (List·Memᴰ c) (sym (take-append-drop k cs)) m))
-
-    go :
-        (k : ℕ) × List·Memᴰ k (range 0 (length cs)) × (firstEdge (round cs k) ≡ e) →
-        (c ≡ e .from) ⊎ ((c ≡ e .to) ⊎ List·Memᴰ c (e .others))
-    go (k, _, f) =
-        subst (λ (x : Edge). (c ≡ x .from) ⊎ ((c ≡ x .to) ⊎ List·Memᴰ c (x .others))) f (first-corners (round cs k) (turned k))
