@@ -73,7 +73,8 @@ extern "C" {
  * What both calls return: 0, or the number of the first question answered with no. The questions
  * are put in the order in which they stand here, each to the whole scene before the next, so a
  * scene with several faults is refused for the first of them. The numbers are names and do not say
- * the order: 14 comes right after 10.
+ * the order: 14 comes right after 10. No call returns 13: it was the number of a question that was
+ * struck, and no other question will have it.
  */
 enum ring_result {
     RING_DONE = 0,
@@ -106,10 +107,7 @@ enum ring_result {
     RING_BAD_BUFFERS = 11, /* picture_len is not width x height, counts_len is not 1,025,
                               patch_counts_len is not the number of the scene's patches, or
                               unlit_len is not height x 256 */
-    RING_BAD_COUNTER = 12, /* the station counter stands at 4,294,967,295 and cannot rise */
-    RING_BAD_STRETCHES = 13 /* a row would need more than 128 unlit stretches while it is painted.
-                              Stretches never touch and a row has at most 256 cells, so no
-                              accepted window comes to this */
+    RING_BAD_COUNTER = 12  /* the station counter stands at 4,294,967,295 and cannot rise */
 };
 
 /*

@@ -34,7 +34,6 @@ IS(RING_BAD_VIEW, 10);      /* 10: eye and window */
 IS(RING_BAD_AXES, 14);      /* 14: right, forward and up */
 IS(RING_BAD_BUFFERS, 11);   /* 11: the lengths of what is lent */
 IS(RING_BAD_COUNTER, 12);   /* 12: the station counter */
-IS(RING_BAD_STRETCHES, 13); /* 13: unlit stretches of a row */
 
 /* Question 10: "width 1 to 256, height 1 to 128, lens 1 to 4,096". */
 IS(RING_WIDTH_MAX, 256);

@@ -38,7 +38,7 @@ SAID = {
     "RING_H": "5 0 1024",                           # "One length unit is 5 mm"; a length of 0; "at most 1,024 nodes"
     "RING_LEVEL_VIEW": "1 0 0 0 1 0 0 0 1 0 20 0 256 128 160",  # "(1,0,0), (0,1,0), (0,0,1)", and the numbers of a call
     "RING_PICTURE_LEN": "20 1 9",                   # after 8 bytes three pairs of "u32 offset and length": the second's length
-    "ring_result": "0 14 10",                       # "put right after question 10"
+    "ring_result": "0 14 10 13",                    # "put right after question 10"; "question 13 is struck"
     "RING_BAD_HEADER": "32 57376 1 0",
     "RING_BAD_SECTIONS": "26 6 6 1024 1024 4096",
     "RING_BAD_RANGE": "10000 10000",
@@ -49,7 +49,6 @@ SAID = {
     "RING_BAD_AXES": "100 100 0 0 0",
     "RING_BAD_BUFFERS": "1025 256",
     "RING_BAD_COUNTER": "4294967295",
-    "RING_BAD_STRETCHES": "128 256",
     "ring_survey": "0 0 1 1 1 1 0 1025 0 0 0 256 256 256 128 0 0 0 128",  # columns, rows, directions; what is lent, in order
 }
 
@@ -124,6 +123,7 @@ def names(header, body, archive):
         check("header.c says what %s is" % name, name in stated)
     results = re.findall(r"\b(RING_\w+) = ", header)
     check("header.c lists the results in the header's order", [name for name in stated if name in results] == results)
+    check("no result has a number that is struck", not {"13"} & set(re.findall(r"\bRING_\w+ = (\d+)", header)))
     check("header.c declares the calls of the header", calls(body) == calls(header))
     check("the archive exports the calls of the header", exported(archive) == set(calls(header)))
 

@@ -8,8 +8,8 @@
 --axes turns the camera: its vectors right, forward and up, which question 14 is about. Without
 it the view is level, (1,0,0), (0,1,0), (0,0,1), as it is for `ringbill`.
 
-Prints `accepted`, or `refused N` and in words what was found. Questions 11 to 13 are about the
-caller's buffers, counter and rows and are not asked here. Examples:
+Prints `accepted`, or `refused N` and in words what was found. Questions 11 and 12 are about the
+caller's buffers and counter and are not asked here. Examples:
 
     $ gate.py samples/ring.view
     accepted

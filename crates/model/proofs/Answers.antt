@@ -10,7 +10,7 @@ use lib.ListN.{length}
 use Rattle.model.specs.Format.{decode}
 use Rattle.model.specs.Call.{Call, callView}
 use Rattle.model.specs.Accepted.{AcceptedScene}
-use Rattle.model.specs.Questions.{Question, answer, sceneQuestions, sceneAnswer, viewInRange, axesProper, lengthsFit, counterBelowEnd, rowsFit, callQuestions, onScene, questions, surveyAnswer}
+use Rattle.model.specs.Questions.{Question, answer, sceneQuestions, sceneAnswer, viewInRange, axesProper, lengthsFit, counterBelowEnd, callQuestions, onScene, questions, surveyAnswer}
 
 abbrev passOn : Bool → ℕ → ℕ → ℕ
 passOn b next number = elim b as (λ (x : Bool). ℕ) [ true ↦ next | false ↦ number ]
@@ -156,7 +156,6 @@ pub record AcceptedCall (c : Call) : Type 0 where
   pub axes : T (axesProper (c .camera .axes))
   pub lengths : T (lengthsFit (c .camera) (length (decode (c .scene) .patches)) (c .lengths))
   pub counter : T (counterBelowEnd (c .counter))
-  pub rows : T (rowsFit c)
 
 pub accepted-call : (c : Call) → surveyAnswer c ≡ 0 ↔ AcceptedCall c
 unfolding callQuestions
@@ -176,14 +175,12 @@ accepted-call c = (said, asked)
         let b = all-yes _ _ c numbered (a .1) in
         let d = all-yes _ _ c numbered (b .1) in
         let f = all-yes _ _ c numbered (d .1) in
-        let g = all-yes _ _ c numbered (f .1) in
         record {
           scene = accepted-scene (c .scene) .0 s;
           view = a .0;
           axes = b .0;
           lengths = d .0;
           counter = f .0;
-          rows = g .0;
         }
 
     asked : AcceptedCall c → surveyAnswer c ≡ 0
@@ -193,5 +190,4 @@ accepted-call c = (said, asked)
         ∙ answer-yes _ _ c (h .axes)
         ∙ answer-yes _ _ c (h .lengths)
         ∙ answer-yes _ _ c (h .counter)
-        ∙ answer-yes _ _ c (h .rows)
         ∙ answer-done c

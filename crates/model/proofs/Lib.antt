@@ -11,6 +11,7 @@ pub mod Tests
 pub mod Loops
 pub mod Answers
 pub mod FirstNo
+pub mod Struck
 pub mod CallLimits
 pub mod PanelNumbers
 -- the geometry of met patches

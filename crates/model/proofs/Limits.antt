@@ -2,7 +2,7 @@
 use mathlib.Core.Bool.{Bool, true, not, cond, _&&_}
 use mathlib.Core.List.{List, [], _∷_, _++_}
 use Prim.Native.Nat.{ℕ, suc, _+_, _%_}
-use lib.Dec.{T, eqb}
+use lib.Dec.{T, eqb, leb}
 use lib.IntN.{ℤ, pos, negℤ, _-ℤ_}
 use lib.Signed.{leZ}
 use lib.ListN.{length, getD, take, drop, replicate}
@@ -10,12 +10,12 @@ use Rattle.model.specs.Lists.{every, range}
 use Rattle.model.specs.Vector.{Vec, Plane, vec, origin, isZero}
 use Rattle.model.specs.Patch.{Patch, cornersCounted}
 use Rattle.model.specs.Format.{Scene, u16At, u32At, signed16}
-use Rattle.model.specs.Row.{rowOf, usedPart}
+use Rattle.model.specs.Row.{segments, rowPairs, rowOf, usedPart}
 use Rattle.model.specs.Picture.{counts}
 use Rattle.model.specs.View.{Axes, Camera, levelAxes}
 use Rattle.model.specs.Lent.{Lengths}
 use Rattle.model.specs.Call.{callView}
-use Rattle.model.specs.Questions.{hasHeader, hasSections, coordinatesInRange, properChild, panelsInRange, viewInRange, axesProper, lengthsFit, counterBelowEnd, rowFits}
+use Rattle.model.specs.Questions.{hasHeader, hasSections, coordinatesInRange, properChild, panelsInRange, viewInRange, axesProper, lengthsFit, counterBelowEnd}
 use Rattle.model.specs.Removal.{isChosen}
 use Rattle.model.proofs.Encode.{headerBytes}
 use Rattle.model.proofs.Computing.{everything}
@@ -160,7 +160,7 @@ axesLimits =
     ∷ limit (λ n. axesProper (axesOfParts ((pos n -ℤ pos 1) ∷ drop 1 level))) (2 ∷ []) (0 ∷ 1 ∷ [])
     ∷ []
 
--- ---- questions 10 to 13, of a call
+-- ---- questions 10 to 12, of a call
 
 -- a camera with a window of 4 by 3 cells, and lengths for it and a scene of five patches
 abbrev fourByThree : Camera
@@ -168,10 +168,6 @@ fourByThree = record { axes = levelAxes; window = record { width = 4; height = 3
 
 abbrev lengths : ℕ → ℕ → ℕ → ℕ → Lengths
 lengths p n b u = record { picture = p; counts = n; patchCounts = b; unlit = u }
-
--- every other column shows a square, so that n columns need half as many segments
-abbrev everyOther : ℕ → Vec
-everyOther i = vec (pos 0) (pos (i % 2)) (pos 0)
 
 abbrev callLimits : List Limit
 callLimits =
@@ -185,11 +181,6 @@ callLimits =
     ∷ limit (λ n. lengthsFit fourByThree 0 (lengths 12 1025 n 768)) (0 ∷ []) (1 ∷ [])
     ∷ limit (λ n. lengthsFit fourByThree 5 (lengths 12 1025 5 n)) (768 ∷ []) (767 ∷ 769 ∷ [])
     ∷ limit counterBelowEnd (0 ∷ 4294967294 ∷ []) (4294967295 ∷ [])
-    -- 128 segments, and 129
-    ∷ limit
-    (λ n. rowFits n origin everyOther (record { panel = 1; corners = square (pos 100) (pos 50) } ∷ []))
-    (256 ∷ [])
-    (257 ∷ [])
     ∷ []
 
 -- ---- the bytes' numbers, the rows and the counts
@@ -202,6 +193,8 @@ formLimits =
     ∷ limit (λ n. leZ (pos 0) (signed16 n)) (0 ∷ 32767 ∷ []) (32768 ∷ 65535 ∷ [])
     ∷ limit (λ n. isZero (signed16 65535 -ℤ negℤ (pos n))) (1 ∷ []) (0 ∷ 2 ∷ [])
     ∷ limit (λ n. isZero (signed16 32768 -ℤ negℤ (pos n))) (32768 ∷ []) (32767 ∷ 32769 ∷ [])
+    -- of n columns every other one is unlit: at most 128 segments in a row of at most 256
+    ∷ limit (λ n. leb (length (segments n (λ i. eqb (i % 2) 0))) rowPairs) (255 ∷ 256 ∷ []) (257 ∷ [])
     -- a row has 256 numbers, row 1 of the lists those from 256 on
     ∷ limit (λ n. eqb (length (rowOf 4 (λ i. true))) n) (256 ∷ []) (255 ∷ 257 ∷ [])
     ∷ limit (λ n. eqb (length (usedPart (replicate n 1) 0)) 256) (256 ∷ 257 ∷ []) (255 ∷ [])

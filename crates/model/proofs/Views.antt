@@ -54,7 +54,7 @@ level-proper = tt
 
 -- a call of the old view
 module _ (c : Call) (level : c .camera .axes ≡ levelAxes) where
-  -- Every old call keeps its answer: that of the questions without 14. (Question 13 goes along the call's lines, those of `level-lines`.)
+  -- Every old call keeps its answer: that of the questions without 14.
   pub level-answer : surveyAnswer c ≡ answer (without 14 questions) c
   unfolding surveyAnswer questions sceneQuestions callQuestions
   level-answer =

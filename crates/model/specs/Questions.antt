@@ -4,18 +4,17 @@ use mathlib.Core.List.{List, [], _∷_, _++_, map}
 use Prim.Native.Nat.{ℕ, suc, _+_, _*_, _-_, _/_, _%_}
 use lib.Dec.{eqb, leb, ltb}
 use lib.IntN.{ℤ, pos, natAbs}
-use lib.ListN.{length, take}
+use lib.ListN.{length}
 use lib.Signed.{ltZ}
-use Rattle.model.specs.Lists.{every, any, range, occurrences}
+use Rattle.model.specs.Lists.{every, range, occurrences}
 use Rattle.model.specs.Vector.{Vec, Plane, dot, cross, planeNormal, isZero}
 use Rattle.model.specs.Patch.{Patch, cornersCounted, flat, strictlyConvex}
-use Rattle.model.specs.Ray.{met}
-use Rattle.model.specs.Tree.{order, divides}
+use Rattle.model.specs.Tree.{divides}
 use Rattle.model.specs.Format.{Header, Section, Run, NodeRecord, PatchRecord, Scene, headerOf, decode, sceneVersion, headerSize, nodeSize, patchSize, cornerSize, mostNodes, mostPatches, mostCorners, highestPanel, noChild, inRun, patchTable, patchTree}
 use Rattle.model.specs.View.{Axes, Camera, View}
 use Rattle.model.specs.Lent.{Lengths}
-use Rattle.model.specs.Call.{Call, callView, callLine}
-use Rattle.model.specs.Row.{segments, rowPairs, rowLength}
+use Rattle.model.specs.Call.{Call, callView}
+use Rattle.model.specs.Row.{rowLength}
 use Rattle.model.specs.Picture.{countEntries}
 
 -- a question has its number and its test
@@ -210,24 +209,6 @@ lengthsFit c patches l =
 unfoldable pub counterBelowEnd : ℕ → Bool
 counterBelowEnd n = ltb n 4294967295
 
--- the column is unlit after some patches are painted: none of them is met there
-unfoldable pub unlitAfter : Vec → (ℕ → Vec) → List Patch → ℕ → Bool
-unlitAfter eye ray painted i = not (any (met eye (ray i)) painted)
-
--- at each moment of the painting the row needs at most 128 segments: before the first patch of the walk, and after each
-unfoldable pub rowFits : ℕ → Vec → (ℕ → Vec) → List Patch → Bool
-rowFits width eye ray walk =
-    every (λ (k : ℕ). leb (length (segments width (unlitAfter eye ray (take k walk)))) rowPairs)
-    (range 0 (suc (length walk)))
-
--- 13. "Does every row, while it is painted, need at most 128 unlit stretches?"
-unfoldable pub rowsFit : Call → Bool
-rowsFit c =
-    every
-    (λ (j : ℕ).
-    rowFits (c .camera .window .width) (c .eye) (λ (i : ℕ). callLine c i j)
-    (order (c .eye) (patchTree (decode (c .scene))))) (range 0 (c .camera .window .height))
-
 -- The questions on the call, in the order of asking. Document 02, F-1: 14 is "put right after question 10".
 unfoldable pub callQuestions : List (Question Call)
 callQuestions =
@@ -235,7 +216,6 @@ callQuestions =
     ∷ record { number = 14; test = λ c. axesProper (c .camera .axes) }
     ∷ record { number = 11; test = λ c. lengthsFit (c .camera) (length (decode (c .scene) .patches)) (c .lengths) }
     ∷ record { number = 12; test = λ c. counterBelowEnd (c .counter) }
-    ∷ record { number = 13; test = rowsFit }
     ∷ []
 
 -- a question on a scene, put to a call
@@ -244,6 +224,10 @@ onScene q = record { number = q .number; test = λ c. q .test (c .scene) }
 
 unfoldable pub questions : List (Question Call)
 questions = map onScene sceneQuestions ++ callQuestions
+
+-- Numbers that questions had once. Document 02, F-6: "so question 13 is struck and its number is never used again."
+abbrev pub struck : List ℕ
+struck = 13 ∷ []
 
 -- "The result is "done" or this number": 0, or the number of the first no
 unfoldable pub surveyAnswer : Call → ℕ

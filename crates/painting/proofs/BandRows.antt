@@ -9,14 +9,13 @@ use Rattle.model.specs.Vector.{Vec}
 use Rattle.model.specs.Patch.{Patch}
 use Rattle.model.specs.Format.{decode, patchNumbered}
 use Rattle.model.specs.Row.{rowLength}
-use Rattle.model.specs.Questions.{unlitAfter}
 use Rattle.geometry.specs.Machine.{vecOf}
 use Rattle.geometry.specs.Raster.{lineAt}
 use Rattle.format.proofs.Tables.{same-table}
 use Rattle.segments.proofs.Rows.{row-congr}
 use Rattle.edges.specs.declared.Sight.{Sight}
 use Rattle.painting.specs.declared.Band.{Band}
-use Rattle.scanline.specs.Shown.{shownAfter}
+use Rattle.scanline.specs.Shown.{shownAfter, unlitAfter}
 use Rattle.scanline.specs.Laying.{walkOf}
 use Rattle.placing.specs.Framing.{Framed, withRow, RowPlaced, RowDone, RowsUpTo}
 use Rattle.placing.specs.Booked.{AtMost}

@@ -10,9 +10,8 @@ use Rattle.model.specs.Vector.{Vec}
 use Rattle.model.specs.Patch.{Patch}
 use Rattle.model.specs.Ray.{met}
 use Rattle.model.specs.Booking.{firstIs}
-use Rattle.model.specs.Questions.{unlitAfter}
 use Rattle.segments.proofs.Tallies.{tally-or, tally-congr}
-use Rattle.scanline.specs.Shown.{newlyLit}
+use Rattle.scanline.specs.Shown.{unlitAfter, newlyLit}
 
 -- how many cells of a row are booked to patch n: those whose rays meet it, and no patch of the walk before it
 unfoldable pub rowCells : Vec → (ℕ → Vec) → (ℕ → Patch) → List ℕ → ℕ → ℕ → ℕ

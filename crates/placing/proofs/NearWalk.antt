@@ -17,7 +17,6 @@ use Rattle.model.specs.Ray.{met, panelOf, firstMet}
 use Rattle.model.specs.Booking.{firstIs}
 use Rattle.model.specs.Format.{decode, patchNumbered}
 use Rattle.model.specs.Row.{rowLength}
-use Rattle.model.specs.Questions.{unlitAfter}
 use Rattle.geometry.specs.Machine.{vecOf}
 use Rattle.geometry.specs.Raster.{lineAt}
 use Rattle.format.specs.declared.layout.Layout.{Layout}
@@ -26,7 +25,7 @@ use Rattle.segments.proofs.Rows.{row-congr}
 use Rattle.segments.proofs.Tallies.{tally-congr}
 use Rattle.selection.specs.Selection.{spanAt, reached, reaching, passing, Selected}
 use Rattle.edges.specs.declared.Sight.{Sight}
-use Rattle.scanline.specs.Shown.{shownAfter}
+use Rattle.scanline.specs.Shown.{shownAfter, unlitAfter}
 use Rattle.scanline.specs.Laying.{PatchDrawable, Drawable, walkOf}
 use Rattle.placing.specs.Framing.{withRow, RowDone}
 use Rattle.placing.proofs.FirstBooked.{rowCells}

@@ -14,11 +14,10 @@ use Rattle.model.specs.Lists.{range}
 use Rattle.model.specs.Vector.{Vec}
 use Rattle.model.specs.Patch.{Patch}
 use Rattle.model.specs.Row.{rowLength}
-use Rattle.model.specs.Questions.{unlitAfter}
 use Rattle.format.proofs.Tables.{length-table}
 use Rattle.segments.proofs.Rows.{row-length}
 use Rattle.segments.proofs.Full.{first-length}
-use Rattle.scanline.specs.Shown.{RowPainted, RowLit}
+use Rattle.scanline.specs.Shown.{unlitAfter, RowPainted, RowLit}
 use Rattle.placing.specs.Framing.{RowsPainted, Framed, withRow, RowPlaced, RowDone, cellsOf, unlitOf, RowsUpTo}
 use Rattle.scanline.proofs.Columns.{each-lit}
 use Rattle.scanline.proofs.WalkPainted.{as-long}

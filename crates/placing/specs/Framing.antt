@@ -8,8 +8,7 @@ use Rattle.model.specs.Lists.{range}
 use Rattle.model.specs.Vector.{Vec}
 use Rattle.model.specs.Patch.{Patch}
 use Rattle.model.specs.Row.{rowOf, rowLength}
-use Rattle.model.specs.Questions.{unlitAfter}
-use Rattle.scanline.specs.Shown.{shownAfter}
+use Rattle.scanline.specs.Shown.{shownAfter, unlitAfter}
 
 -- a picture of a size that rows and their reach are made for, and lists with just the room for its rows
 pub record Framed (width height : ℕ) (picture unlit : List ℕ) : Type 0 where

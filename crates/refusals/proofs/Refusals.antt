@@ -1,5 +1,5 @@
--- Scenes and calls at the limits of the questions, over bytes: one list under one statement. Each question is seen to say yes and no, except 13, which never
--- says no; and where two questions say no, the one that is asked first gives the answer.
+-- Scenes and calls at the limits of the questions, over bytes: one list under one statement. Each question is seen to say yes and no;
+-- and where two questions say no, the one that is asked first gives the answer.
 use mathlib.Core.Path.{_≡_, refl}
 use mathlib.Core.Bool.{Bool, true, false, cond}
 use mathlib.Core.List.{List, [], _∷_, _++_, map}

@@ -16,11 +16,10 @@ use Rattle.model.specs.Format.{Scene, decode, patchTable, patchOf, patchNumbere
 use Rattle.model.specs.Row.{rowOf}
 use Rattle.model.specs.Picture.{cells, picture, cellPanel, unlitLists}
 use Rattle.model.specs.Booking.{cellsWhere, patchCells}
-use Rattle.model.specs.Questions.{unlitAfter}
 use Rattle.model.specs.Accepted.{AcceptedScene}
 use Rattle.walk.proofs.Seen.{accepted, of-walk, first-met-closest}
 use Rattle.walk.proofs.Numbered.{first-has}
-use Rattle.scanline.specs.Shown.{shownAfter}
+use Rattle.scanline.specs.Shown.{shownAfter, unlitAfter}
 use Rattle.placing.specs.Framing.{RowsPainted}
 use Rattle.placing.specs.Booked.{BookedUpTo}
 use Rattle.model.proofs.PanelSums.{patch-entries, patch-entry}

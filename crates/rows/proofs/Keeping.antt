@@ -5,13 +5,14 @@ use mathlib.Core.List.{List, [], _∷_, _++_}
 use Prim.Native.Nat.{ℕ, suc, _+_, _*_, _-_, _≤_, _<_}
 use native.Mathlib.Omega.{arith}
 use lib.ListN.{length, length-append}
-use borrow.Author.Tests.{lt-ltb, le-ltb, ltb-true, ltb-false}
+use borrow.Author.Tests.{ltb-true, ltb-false}
 use Rattle.model.specs.Row.{Segment, numbersOf}
 use Rattle.segments.specs.Segments.{rowFrom, segmentAt, written, Holds, Reads}
-use Rattle.segments.specs.Columns.{remainsBefore, remainsAfter, remains}
+use Rattle.segments.specs.Columns.{remains}
 use Rattle.pairs.specs.Pairs.{Inserts, Removes}
 use Rattle.rows.specs.Step.{Overlaps, Keeps}
-use Rattle.segments.proofs.Segments.{segment-path, lower, tail-ordered, head-placed}
+use Rattle.segments.proofs.Segments.{lower, tail-ordered, head-placed}
+use Rattle.segments.proofs.Remains.{before-some, before-none, after-some, after-none}
 use Rattle.segments.proofs.Numbers.{shaped, shape-row, pair-written}
 use Rattle.pairs.proofs.Moves.{read-here, further, read-segment}
 
@@ -31,38 +32,6 @@ module _ {width k : ℕ} {row : List ℕ} {done : List Segment} {s : Segment} {r
       ap (λ (r : List ℕ). written r k t) (held .row-is ∙ sh .row-is)
       ∙ pair-written done (s .offset) (s .count) _ k t (held .place)
       ∙ shape-row {passed = done} {rest = t ∷ rest} (record { size = sh .size; row-is = refl })
-
-one : {s t : Segment} → s .offset ≡ t .offset → s .count ≡ t .count → s ∷ [] ≡ t ∷ []
-one p q = ap (λ (x : Segment). x ∷ []) (segment-path p q)
-
-module _ (first last : ℕ) (s : Segment) where
-  before-some :
-      s .offset < first → first < s .offset + s .count →
-      remainsBefore first s ≡ record { offset = s .offset; count = first - s .offset } ∷ []
-  unfolding remainsBefore
-  before-some h l = rw (lt-ltb (s .offset) first h) (one refl (omega arith))
-
-  pub before-none : first ≤ s .offset → remainsBefore first s ≡ []
-  unfolding remainsBefore
-  before-none h = rw (le-ltb (s .offset) first h)
-
-  pub before-all : 0 < s .count → s .offset + s .count ≤ first → remainsBefore first s ≡ s ∷ []
-  unfolding remainsBefore
-  before-all h l = rw (lt-ltb (s .offset) first (omega arith)) (one refl (omega arith))
-
-  after-some :
-      s .offset ≤ last → suc last < s .offset + s .count →
-      remainsAfter last s ≡ record { offset = last + 1; count = s .offset + s .count - (last + 1) } ∷ []
-  unfolding remainsAfter
-  after-some h l = rw (lt-ltb (suc last) (s .offset + s .count) l) (one (omega arith) (omega arith))
-
-  pub after-none : s .offset + s .count ≤ suc last → remainsAfter last s ≡ []
-  unfolding remainsAfter
-  after-none h = rw (le-ltb (suc last) (s .offset + s .count) h)
-
-  pub after-all : 0 < s .count → last < s .offset → remainsAfter last s ≡ s ∷ []
-  unfolding remainsAfter
-  after-all h l = rw (lt-ltb (suc last) (s .offset + s .count) (omega arith)) (one (omega arith) (omega arith))
 
 -- a segment's columns before the span, and those after it
 abbrev prior : ℕ → ℕ → Segment

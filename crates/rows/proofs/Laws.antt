@@ -1,13 +1,15 @@
--- For callers: rows stay rows, and what a full row means.
+-- For callers: rows stay rows; and the spans that are laid on a fresh one.
 use mathlib.Core.Path.{_≡_, sym, ap, _∙_}
 use mathlib.Core.Bool.{Bool, true}
-use mathlib.Core.List.{List}
-use Prim.Native.Nat.{ℕ, _≤_}
+use mathlib.Core.List.{List, [], _∷_, _++_}
+use Prim.Native.Nat.{ℕ, suc, _≤_}
 use native.Mathlib.Omega.{arith}
 use lib.ListN.{length}
 use Rattle.model.specs.Row.{rowOf, afterSpan}
-use Rattle.rows.specs.Span.{Row, Lays}
+use Rattle.rows.specs.Span.{Row, Lays, Reports}
+use Rattle.segments.specs.Looks.{Columns, fresh, afterSpans, mostLooks}
 use Rattle.segments.proofs.Painting.{painted-length}
+use Rattle.segments.proofs.Looking.{looks-bounded, after-next}
 
 -- a fresh row is a row, a row on which a span was laid is one, and a row has 256 numbers
 pub row-fresh : {width n : ℕ} {row : List ℕ} → width ≡ n → n ≤ 256 → row ≡ rowOf n (λ (i : ℕ). true) → Row width row
@@ -21,3 +23,19 @@ row-laid {first} {last} {panel} {row} {cells} {row′} {cells′} r lays =
     let l = lays (r .unlit) (r .row-is) in
     let e : length cells ≡ length cells′ = sym (ap length (l .cells-are) ∙ painted-length _ panel cells) in
     record { fits = rw e at (r .fits); unlit = afterSpan (r .unlit) first last; row-is = l .row-is ∙ rw e }
+
+-- ---- spans laid one after the other on a fresh row: `before` are those laid so far
+
+pub row-next :
+    {first last panel : ℕ} {cells row′ cells′ : List ℕ} (before : List Columns) →
+    Lays (afterSpans fresh before) first last panel cells row′ cells′ →
+    row′ ≡ rowOf (length cells) (afterSpans fresh (before ++ record { first = first; last = last } ∷ []))
+row-next {first} {last} {cells = cells} before l =
+    l .row-is ∙ ap (rowOf (length cells)) (sym (after-next before (record { first = first; last = last }) fresh))
+
+-- Document 02, F-6: "The k-th span of a fresh row looks at no more than the smaller of k and 128". So laying it reports.
+pub looked-bounded :
+    {first last width lit looked : ℕ} {full : Bool} (before : List Columns) → width ≤ 256 →
+    Reports (afterSpans fresh before) first last width full lit looked → looked ≤ mostLooks (suc (length before))
+looked-bounded {first} {last} {width} before fits r =
+    rw (r .looked-is) (looks-bounded width fits before (record { first = first; last = last }))

@@ -18,10 +18,11 @@ use Rattle.positions.specs.Positions.{Acts}
 use Rattle.rows.specs.Step.{Overlaps, Keeps, Reached, Steps}
 use Rattle.segments.proofs.Tests.{same-le, failed, and-failed}
 use Rattle.segments.proofs.Segments.{column-bounds, bounds-column}
+use Rattle.segments.proofs.Remains.{apart}
 use Rattle.segments.proofs.Painting.{painted-congr, painted-none}
 use Rattle.segments.proofs.Tallies.{tally-congr, tally-clear, tally-span}
 use Rattle.pairs.proofs.Moves.{read-segment}
-use Rattle.rows.proofs.Keeping.{held-segment, before-none, before-all, after-none, after-all}
+use Rattle.rows.proofs.Keeping.{held-segment}
 
 advance : (b : Bool) (s : Segment) (k : ℕ) → cond b (k + 1) k ≡ k + length (piece b s)
 advance true s k = refl
@@ -56,13 +57,6 @@ shared first last s i h =
     b = min last (s .offset + (s .count - 1))
 
 -- a span and a segment that share none
-pub apart :
-    (first last : ℕ) (s : Segment) → first ≤ last → 0 < s .count → (s .offset + s .count ≤ first) ⊎ (last < s .offset) →
-    remains first last s ≡ s ∷ []
-unfolding remains
-apart first last s h f (inl e) = rw (before-all first last s f e, after-none first last s (omega arith))
-apart first last s h f (inr e) = rw (before-none first last s (omega arith), after-all first last s f e)
-
 none-shared :
     (first last : ℕ) (s : Segment) (i : ℕ) → (s .offset + s .count ≤ first) ⊎ (last < s .offset) →
     (inSegment s i && inSpan first last i) ≡ false

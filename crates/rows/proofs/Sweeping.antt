@@ -3,29 +3,31 @@ use mathlib.Core.Path.{_≡_, refl, sym, ap, subst, _∙_}
 use mathlib.Core.Logic.{_⊎_, inl, inr}
 use mathlib.Core.Bool.{Bool, true, false, _&&_, _||_, and-false, and-or-distrib-right}
 use mathlib.Core.List.{List, [], _∷_, _++_, append-assoc, append-nil}
-use Prim.Native.Nat.{ℕ, suc, _+_, _*_, _-_, _≤_, _<_, min}
+use Prim.Native.Nat.{ℕ, suc, _+_, _*_, _-_, _≤_, _<_}
 use native.Mathlib.Nat.{zero-add}
 use native.Mathlib.Omega.{arith}
-use lib.Dec.{leb, ltb}
+use lib.Dec.{leb}
 use lib.ListN.{length, length-append}
-use borrow.Author.Tests.{leb-true, leb-false}
+use borrow.Author.Tests.{leb-true, leb-false, lt-ltb, le-ltb}
 use Rattle.model.specs.Lists.{range}
 use Rattle.model.specs.Row.{Segment, numbersOf, segments, rowOf, afterSpan}
-use Rattle.segments.specs.Columns.{inSpan, painted, piece, remainsBefore, remains}
+use Rattle.segments.specs.Columns.{inSpan, painted, remainsBefore, remains}
 use Rattle.rows.specs.Span.{Row, Lays}
-use Rattle.segments.specs.Segments.{inSegment, Placed, Ordered, none, more, rowFrom, segmentAt, Holds}
+use Rattle.segments.specs.Segments.{inSegment, Placed, Ordered, rowFrom, segmentAt, Holds}
+use Rattle.segments.specs.Looks.{lookedAt}
 use Rattle.rows.specs.Step.{Steps}
 use Rattle.model.proofs.Tests.{lt-or-ge}
 use Rattle.segments.proofs.Segments.{member, lower, tail-ordered, head-placed, column-after, member-before}
-use Rattle.segments.proofs.Sets.{segments-ordered, segments-member, few}
+use Rattle.segments.proofs.Sets.{segments-ordered, segments-member, segments-congr, few}
 use Rattle.segments.proofs.Rows.{zeros, segments-few, row-congr, row-determines}
 use Rattle.segments.proofs.Cut.{cut, span-behind, remains-ordered, segments-cut}
 use Rattle.segments.proofs.Painting.{painted-length, painted-congr, painted-twice, painted-none}
 use Rattle.segments.proofs.Tallies.{tally-or, tally-congr, tally-clear}
 use Rattle.segments.proofs.Numbers.{shaped}
 use Rattle.pairs.proofs.Moves.{read-here, two-zeros}
-use Rattle.rows.proofs.Keeping.{held-segment, after-none}
-use Rattle.rows.proofs.Stepping.{apart, spanned}
+use Rattle.segments.proofs.Remains.{after-none, one-before, cut-rest}
+use Rattle.rows.proofs.Keeping.{held-segment}
+use Rattle.rows.proofs.Stepping.{spanned}
 
 -- the span has been laid on the segments before `rest`; it is still to be laid on these
 pub record Sweeping (row₀ cells₀ : List ℕ) (first last panel : ℕ) (row cells : List ℕ) (k looked lit : ℕ) (rest : List Segment) : Type 0 where
@@ -42,6 +44,7 @@ pub record Sweeping (row₀ cells₀ : List ℕ) (first last panel : ℕ) (row c
       painted (λ (i : ℕ). unlit i && inSpan first last i) panel cells₀
       ≡ painted (λ (i : ℕ). member rest i && inSpan first last i) panel cells
   pub lit-law : spanned first last (length cells₀) unlit ≡ lit + spanned first last (length cells₀) (member rest)
+  pub looked-law : lookedAt last (segments (length cells₀) unlit) ≡ looked + lookedAt last rest
 
 pub sweep-starts :
     {row cells : List ℕ} (first last panel : ℕ) → (r : Row (length cells) row) →
@@ -65,31 +68,34 @@ sweep-starts {row} {cells} first last panel r =
       row-law = refl;
       cells-law = painted-congr _ _ panel cells (λ i h. rw (segments-member (length cells) (r .unlit) i h));
       lit-law = tally-congr _ _ (length cells) (λ i h. rw (segments-member (length cells) (r .unlit) i h)) ∙ sym (zero-add _);
+      looked-law = sym (zero-add _);
     }
 
 -- what is to be shown at the end, for every set of which the row at entry is the row
-abbrev pub Swept : List ℕ → List ℕ → ℕ → ℕ → ℕ → List ℕ → List ℕ → ℕ → Type 0
-Swept row₀ cells₀ first last panel row cells lit =
+abbrev pub Swept : List ℕ → List ℕ → ℕ → ℕ → ℕ → List ℕ → List ℕ → ℕ → ℕ → Type 0
+Swept row₀ cells₀ first last panel row cells lit looked =
     ((unlit : ℕ → Bool) → row₀ ≡ rowOf (length cells₀) unlit → Lays unlit first last panel cells₀ row cells)
-    × ((unlit : ℕ → Bool) → row₀ ≡ rowOf (length cells₀) unlit → lit ≡ spanned first last (length cells₀) unlit)
+    × (((unlit : ℕ → Bool) → row₀ ≡ rowOf (length cells₀) unlit → lit ≡ spanned first last (length cells₀) unlit)
+    × ((unlit : ℕ → Bool) → row₀ ≡ rowOf (length cells₀) unlit → looked ≡ lookedAt last (segments (length cells₀) unlit)))
 
--- the row, the cells and the columns lit are as the law says for one such set, so for every one
+-- the row, the cells, the columns lit and the segments looked at are as the law says for one such set, so for every one
 pub swept :
-    {row₀ cells₀ : List ℕ} {first last panel : ℕ} {row cells : List ℕ} {lit : ℕ} (unlit : ℕ → Bool) → first ≤ last →
+    {row₀ cells₀ : List ℕ} {first last panel : ℕ} {row cells : List ℕ} {lit looked : ℕ} (unlit : ℕ → Bool) → first ≤ last →
     length cells₀ ≤ 256 → row₀ ≡ rowOf (length cells₀) unlit →
     row ≡ rowFrom (cut first last (segments (length cells₀) unlit)) →
     cells ≡ painted (λ (i : ℕ). unlit i && inSpan first last i) panel cells₀ →
     lit ≡ spanned first last (length cells₀) unlit →
-    Swept row₀ cells₀ first last panel row cells lit
+    looked ≡ lookedAt last (segments (length cells₀) unlit) →
+    Swept row₀ cells₀ first last panel row cells lit looked
 unfolding rowOf rowFrom
-swept {row₀} {cells₀} {first} {last} {panel} u span fits start r c l = (
+swept {row₀} {cells₀} {first} {last} {panel} u span fits start r c l k = (
   λ v e. record {
     row-is =
         r ∙ ap rowFrom (sym (segments-cut w u first last span))
         ∙ row-congr w (afterSpan u first last) (afterSpan v first last) (λ i h. rw (same v e i h));
     cells-are = c ∙ painted-congr _ _ panel cells₀ (λ i h. rw (same v e i h));
   },
-  λ v e. l ∙ tally-congr _ _ w (λ i h. rw (same v e i h)),
+  (λ v e. l ∙ tally-congr _ _ w (λ i h. rw (same v e i h)), λ v e. k ∙ ap (lookedAt last) (segments-congr w u v (same v e))),
 )
   where
     w : ℕ
@@ -107,20 +113,6 @@ held-end {w} {k} {row} {done} held h =
     let e : row ≡ numbersOf done ++ 0 ∷ 0 ∷ zeros (n - 2) =
     held .row-is ∙ shaped done [] (held .few) .row-is ∙ rw (two-zeros n (omega (arith, held .place))) in
     ap (λ (r : List ℕ). segmentAt r k .count) e ∙ ap (λ (x : Segment). x .count) (read-here done z (zeros (n - 2)) k (held .place))
-
--- the segments after one that ends beyond the span are left as they are
-cut-rest : {width low : ℕ} (first last : ℕ) {ss : List Segment} → first ≤ last → last < low → Ordered width low ss → cut first last ss ≡ ss
-unfolding cut
-cut-rest first last h l none = refl
-cut-rest first last h l (more low s p o) = rw (apart first last s h (p .filled) (inr (omega arith)), cut-rest first last h (omega arith) o)
-
-one-before : (first : ℕ) (s : Segment) → length (remainsBefore first s) ≤ 1
-unfolding remainsBefore
-one-before first s = go (ltb (s .offset) first)
-  where
-    go : (b : Bool) → length (piece b (record { offset = s .offset; count = min (first - s .offset) (s .count) })) ≤ 1
-    go true = omega arith
-    go false = omega arith
 
 -- the span was laid on the first segment of those left
 module _
@@ -185,21 +177,22 @@ module _
   go-here : go ≡ leb (s .offset + s .count) last
   go-here = subst (λ (x : Segment). go ≡ leb (x .offset + x .count) last) here (step .go-is)
 
-  pub step-stops : go ≡ false → Swept row₀ cells₀ first last panel row′ cells′ (lit + lit-here)
-  unfolding cut
+  pub step-stops : go ≡ false → Swept row₀ cells₀ first last panel row′ cells′ (lit + lit-here) (looked + 1)
+  unfolding cut lookedAt
   step-stops e =
       let h : last < s .offset + s .count = leb-false (s .offset + s .count) last (sym go-here ∙ e) in
       swept (inv .unlit) span (inv .fits) (inv .start)
       (laid-row ∙ ap rowFrom (sym (inv .row-law ∙ rw (cut-rest first last span (omega arith) after))))
       (sym (laid-cells ∙ painted-none _ panel cells′ (λ i l. clear i (lt-or-ge last i) h)))
       (omega (arith, laid-lit, tally-clear _ (length cells₀) (λ i l. clear i (lt-or-ge last i) h)))
+      (sym (inv .looked-law ∙ rw (lt-ltb last (s .offset + s .count) h)))
     where
       clear : (i : ℕ) → (last < i) ⊎ (i ≤ last) → last < s .offset + s .count → (member ss i && inSpan first last i) ≡ false
       clear i (inl l) h = rw (span-behind first last i l, and-false)
       clear i (inr l) h = rw (member-before i (omega arith) after)
 
   pub step-goes : go ≡ true → Sweeping row₀ cells₀ first last panel row′ cells′ next (looked + 1) (lit + lit-here) ss
-  unfolding cut remains
+  unfolding cut remains lookedAt
   step-goes e =
       let h : s .offset + s .count ≤ last = leb-true (s .offset + s .count) last (sym go-here ∙ e) in
       let n : next ≡ k + length (remainsBefore first s) = subst (λ (x : Segment). next ≡ k + length (remainsBefore first x)) here (step .next-is) in
@@ -225,4 +218,5 @@ module _
         row-law = inv .row-law ∙ sym (append-assoc (inv .done) (remains first last s) (cut first last ss));
         cells-law = laid-cells;
         lit-law = laid-lit;
+        looked-law = inv .looked-law ∙ rw (le-ltb last (s .offset + s .count) h) (omega arith);
       }

@@ -3,11 +3,13 @@ use mathlib.Core.Path.{_≡_, refl, sym, ap, subst⁻¹, _∙_}
 use mathlib.Core.Bool.{Bool, true, false, _&&_}
 use mathlib.Core.List.{List, [], _∷_}
 use Prim.Native.Nat.{ℕ, _+_, _≤_, _<_}
+use native.Mathlib.Nat.{add-zero}
 use native.Mathlib.Omega.{arith}
 use lib.ListN.{length}
 use Rattle.model.specs.Row.{Segment, segments}
 use Rattle.rows.specs.Span.{Row}
 use Rattle.segments.specs.Columns.{inSpan}
+use Rattle.segments.specs.Looks.{lookedAt}
 use Rattle.segments.specs.Segments.{inSegment, Placed, rowFrom, segmentAt, Reads}
 use Rattle.rows.specs.Step.{Reached, Steps}
 use Rattle.segments.proofs.Segments.{member, head-placed}
@@ -37,17 +39,18 @@ sweep-fits {cells₀} {first} {last} {row} {cells} {k} inv step = (
 )
 
 module _ {row₀ cells₀ : List ℕ} {first last panel : ℕ} (span : first ≤ last) {row cells : List ℕ} {k looked lit : ℕ} where
-  sweep-empty : Sweeping row₀ cells₀ first last panel row cells k looked lit [] → Swept row₀ cells₀ first last panel row cells lit
-  unfolding cut member
+  sweep-empty : Sweeping row₀ cells₀ first last panel row cells k looked lit [] → Swept row₀ cells₀ first last panel row cells lit looked
+  unfolding cut member lookedAt
   sweep-empty inv =
       swept (inv .unlit) span (inv .fits) (inv .start) (inv .held .row-is ∙ ap rowFrom (sym (inv .row-law)))
       (sym (inv .cells-law ∙ painted-none _ panel cells (λ i h. refl)))
       (omega (arith, inv .lit-law, tally-clear (λ (i : ℕ). member [] i && inSpan first last i) (length cells₀) (λ i h. refl)))
+      (sym (inv .looked-law ∙ add-zero _))
 
   -- no segment is left
   pub sweep-out :
       {rest : List Segment} → Sweeping row₀ cells₀ first last panel row cells k looked lit rest → 128 ≤ looked →
-      Swept row₀ cells₀ first last panel row cells lit
+      Swept row₀ cells₀ first last panel row cells lit looked
   sweep-out {rest = []} inv h = sweep-empty inv
   sweep-out {rest = s ∷ ss} inv h = absurd (omega (arith, inv .left))
 
@@ -58,7 +61,7 @@ module _ {row₀ cells₀ : List ℕ} {first last panel : ℕ} (span : first ≤
 
     pub sweep-ends :
         {rest : List Segment} → Sweeping row₀ cells₀ first last panel row cells k looked lit rest → count ≡ 0 →
-        Swept row₀ cells₀ first last panel row cells lit
+        Swept row₀ cells₀ first last panel row cells lit looked
     sweep-ends {rest = []} inv e = sweep-empty inv
     sweep-ends {rest = s ∷ ss} inv e = absurd (omega (arith, filled-read inv))
 
@@ -82,7 +85,7 @@ module _ {row₀ cells₀ : List ℕ} {first last panel : ℕ} (span : first ≤
         (step : Steps k first last panel row cells row′ cells′ next go lit-here) where
       pub sweep-stops :
           {rest : List Segment} → Sweeping row₀ cells₀ first last panel row cells k looked lit rest → looked < 128 →
-          (count ≡ 0 → ⊥) → go ≡ false → Swept row₀ cells₀ first last panel row′ cells′ (lit + lit-here)
+          (count ≡ 0 → ⊥) → go ≡ false → Swept row₀ cells₀ first last panel row′ cells′ (lit + lit-here) (looked + 1)
       sweep-stops {rest = []} inv h n e = absurd (n (r .count-is ∙ held-end (inv .held) (omega (arith, inv .passed))))
       sweep-stops {rest = s ∷ ss} inv h n e = step-stops span inv step e
 

@@ -7,6 +7,7 @@ use lib.ListN.{length}
 use Rattle.model.specs.Lists.{range, tally}
 use Rattle.model.specs.Row.{rowOf, afterSpan}
 use Rattle.segments.specs.Columns.{inSpan, painted, allLit}
+use Rattle.segments.specs.Looks.{looks}
 
 -- the numbers are those of a row under work, for some set of unlit columns
 pub record Row (width : ℕ) (row : List ℕ) : Type 0 where
@@ -20,8 +21,9 @@ pub record Lays (unlit : ℕ → Bool) (first last panel : ℕ) (cells row′ ce
   pub row-is : row′ ≡ rowOf (length cells) (afterSpan unlit first last)
   pub cells-are : cells′ ≡ painted (λ (i : ℕ). unlit i && inSpan first last i) panel cells
 
--- what it reports: whether no column is unlit any more, and how many it newly lit, those that were unlit and lie in the span. Document 02, F-2: "Laying a span on a
--- row now also says how many cells it newly lit."
-pub record Reports (unlit : ℕ → Bool) (first last width : ℕ) (full : Bool) (lit : ℕ) : Type 0 where
+-- what it reports: whether no column is unlit any more; how many it newly lit, those that were unlit and lie in the span; and how many segments it looked at.
+-- Document 02, F-2: "Laying a span on a row now also says how many cells it newly lit." F-6: "The number looked at is reported, and equals that definition."
+pub record Reports (unlit : ℕ → Bool) (first last width : ℕ) (full : Bool) (lit looked : ℕ) : Type 0 where
   pub full-is : full ≡ allLit width (afterSpan unlit first last)
   pub lit-is : lit ≡ tally (λ (i : ℕ). unlit i && inSpan first last i) (range 0 width)
+  pub looked-is : looked ≡ looks width unlit (record { first = first; last = last })

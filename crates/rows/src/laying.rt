@@ -12,8 +12,9 @@ ghost use Prim.Native.Nat.{ℕ, _+_, _≤_, _<_, min, max};
 ghost use lib.ListN.{length};
 ghost use Rattle.rows.specs.Span.{Row, Lays};
 ghost use Rattle.model.specs.Lists.{range, tally};
-ghost use Rattle.model.specs.Row.{rowOf};
+ghost use Rattle.model.specs.Row.{segments, rowOf};
 ghost use Rattle.segments.specs.Columns.{inSpan};
+ghost use Rattle.segments.specs.Looks.{lookedAt};
 ghost use Rattle.segments.specs.Segments.{segmentAt};
 ghost use Rattle.rows.specs.Step.{Overlaps, Keeps, Reached, Steps};
 
@@ -28,6 +29,8 @@ pub struct Step {
 pub struct Swept {
     // The cells that it newly lit.
     pub lit: u16,
+    // The segments that it looked at.
+    pub looked: u16,
 }
 
 fn larger(a: u16, b: u16) -> u16
@@ -118,14 +121,16 @@ pub fn sweep(row: &mut [u16; 256], cells: &mut [u16], first: u16, last: u16, pan
         Lays unlit first last panel (now (cells .entry)) (now (row .exit)) (now (cells .exit))) ⌝ }
     ensures counted { λ r. ⌜ ((unlit : ℕ → Bool) → now (row .entry) ≡ rowOf (length (now (cells .entry))) unlit →
         r .lit ≡ tally (λ (i : ℕ). unlit i && inSpan first last i) (range 0 (length (now (cells .entry))))) ⌝ }
+    ensures looked { λ r. ⌜ ((unlit : ℕ → Bool) → now (row .entry) ≡ rowOf (length (now (cells .entry))) unlit →
+        r .looked ≡ lookedAt last (segments (length (now (cells .entry))) unlit)) ⌝ }
 {
     let mut k: usize = 0;
-    let mut looked: usize = 0;
+    let mut looked: u16 = 0;
     let mut lit: u16 = 0;
     while looked < 128 {
         let p = pair_at(row, k);
         if p.count == 0 {
-            return Swept { lit };
+            return Swept { lit, looked };
         }
         let s = lay_on(row, cells, k, first, last, panel);
         lit += s.lit;
@@ -133,8 +138,11 @@ pub fn sweep(row: &mut [u16; 256], cells: &mut [u16], first: u16, last: u16, pan
             k = s.next;
             looked += 1;
         } else {
-            return Swept { lit };
+            return Swept {
+                lit,
+                looked: looked + 1,
+            };
         }
     }
-    Swept { lit }
+    Swept { lit, looked }
 }

@@ -16,6 +16,8 @@ pub struct Laid {
     pub full: bool,
     // How many cells it newly lit: the columns of the span that were unlit.
     pub lit: u16,
+    // How many of the row's segments it looked at.
+    pub looked: u16,
 }
 
 // A row whose columns are all unlit.
@@ -29,14 +31,14 @@ pub fn fresh(width: u16) -> [u16; 256]
 
 // Lays the span of the columns `first` to `last` on a row, in place, and paints the panel into those that were unlit.
 // `cells` is the row's part of the picture; its length is the width, and the span may end beyond it. With `last` below
-// `first` the span is empty. The row must be one that `fresh` or this function left: its callers hold no other, and a
+// `first` the span is empty: it is not laid and looks at nothing. The row must be one that `fresh` or this function left: its callers hold no other, and a
 // test of it would cost as much as the work.
 pub fn lay(row: &mut [u16; 256], cells: &mut [u16], first: u16, last: u16, panel: u16) -> Laid
     requires { ⌜ Row (length (now cells)) (now row) ⌝ }
     ensures laid { λ r. ⌜ ((unlit : ℕ → Bool) → now (row .entry) ≡ rowOf (length (now (cells .entry))) unlit →
         Lays unlit first last panel (now (cells .entry)) (now (row .exit)) (now (cells .exit))) ⌝ }
     ensures reported { λ r. ⌜ ((unlit : ℕ → Bool) → now (row .entry) ≡ rowOf (length (now (cells .entry))) unlit →
-        Reports unlit first last (length (now (cells .entry))) (r .full) (r .lit)) ⌝ }
+        Reports unlit first last (length (now (cells .entry))) (r .full) (r .lit) (r .looked)) ⌝ }
 {
     if first <= last {
         let swept = sweep(row, cells, first, last, panel);
@@ -44,12 +46,14 @@ pub fn lay(row: &mut [u16; 256], cells: &mut [u16], first: u16, last: u16, panel
         return Laid {
             full: count == 0,
             lit: swept.lit,
+            looked: swept.looked,
         };
     }
     let count = row[1];
     Laid {
         full: count == 0,
         lit: 0,
+        looked: 0,
     }
 }
 

@@ -1,29 +1,42 @@
-// Lays a span in each of the eight positions against the segment of columns 4 to 11 of a row of 16 columns, whose second segment is columns 14 and 15.
-// Writes the position's number, the row's used pairs, and its cells: 1 beside the segments, 2 in the span.
-use row_lines::write_row;
+// Lays a span on a row of 16 columns whose segments are columns 4 to 11 and 14 to 15: in each of the eight positions against the first of them, and then on columns that are lit,
+// at the row's end and beyond it, wholly beyond it, and without a column; and one on a row that is full. Writes after each its number, what laying it reported (the segments looked at, the
+// cells newly lit, 1 where no column is unlit any more), the row's used pairs, and its cells: 1 beside the segments, 2 in the span.
+use row_lines::lay_and_write;
 ghost use mathlib.Core.Path.{_≡_};
 ghost use lib.ListN.{length};
+ghost use Rattle.rows.specs.Span.{Row};
 
-// The row with its two segments, and the span laid on it.
-fn laid(cells: &mut [u16], first: u16, last: u16) -> [u16; 256]
+// The row with its two segments.
+fn two_segments(cells: &mut [u16]) -> [u16; 256]
     requires { ⌜ length (now cells) ≡ 16 ⌝ }
+    ensures { λ r. ⌜ Row (length (now (cells .exit))) r ⌝ }
 {
     let mut row = rows::fresh(16);
     rows::lay(&mut row, cells, 0, 3, 1);
     rows::lay(&mut row, cells, 12, 13, 1);
-    rows::lay(&mut row, cells, first, last, 2);
     row
 }
 
-fn show(position: u32, first: u16, last: u16) {
-    let mut cells = [0u16; 16];
-    let row = laid(&mut cells, first, last);
-    write_row(
-        position,
-        &row,
-        &cells,
+// A span of panel 2.
+fn lay_over(number: u32, row: &mut [u16; 256], cells: &mut [u16], first: u16, last: u16)
+    requires { ⌜ Row (length (now cells)) (now row) ⌝ }
+    ensures { λ r. ⌜ Row (length (now (cells .exit))) (now (row .exit)) ⌝ }
+{
+    lay_and_write(
+        number,
+        row,
+        cells,
+        first,
+        last,
+        2,
         b"rows_demo: a row could not be written\n",
     );
+}
+
+fn show(number: u32, first: u16, last: u16) {
+    let mut cells = [0u16; 16];
+    let mut row = two_segments(&mut cells);
+    lay_over(number, &mut row, &mut cells, first, last);
 }
 
 fn main() {
@@ -35,4 +48,13 @@ fn main() {
     show(6, 2, 14);
     show(7, 6, 14);
     show(8, 12, 14);
+    show(9, 12, 13);
+    show(10, 15, 15);
+    show(11, 14, 20);
+    show(12, 16, 65535);
+    show(13, 9, 8);
+    let mut cells = [0u16; 16];
+    let mut row = two_segments(&mut cells);
+    lay_over(14, &mut row, &mut cells, 0, 15);
+    lay_over(15, &mut row, &mut cells, 3, 5);
 }

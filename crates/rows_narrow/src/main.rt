@@ -22,6 +22,7 @@ fn show(step: u32, row: &[u16; 256], cells: &[u16])
 {
     write_row(
         step,
+        &cells[..0],
         row,
         cells,
         b"rows_narrow: a row could not be written\n",

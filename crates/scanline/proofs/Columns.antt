@@ -79,7 +79,7 @@ pub span-laid :
     {s : Span} {panel : ℕ} {row cells row′ cells′ : List ℕ} {r : Laid} →
     s .first < s .end →
     ((unlit : ℕ → Bool) → row ≡ rowOf (length cells) unlit → Lays unlit (s .first) (s .end - 1) panel cells row′ cells′) →
-    ((unlit : ℕ → Bool) → row ≡ rowOf (length cells) unlit → Reports unlit (s .first) (s .end - 1) (length cells) (r .full) (r .lit)) →
+    ((unlit : ℕ → Bool) → row ≡ rowOf (length cells) unlit → Reports unlit (s .first) (s .end - 1) (length cells) (r .full) (r .lit) (r .looked)) →
     ColumnsLaid (covers s) panel row cells row′ cells′ r
 span-laid {s} {panel} {row} {cells} {row′} {cells′} {r} h lays reports =
     columns-congr {columns = inSpan (s .first) (s .end - 1)} (λ unlit e i l u. up-to-end s i h)
@@ -95,7 +95,7 @@ span-laid {s} {panel} {row} {cells} {row′} {cells′} {r} h lays reports =
 
 pub span-missed :
     {s : Span} {panel : ℕ} {row cells : List ℕ} → s .end ≤ s .first →
-    ColumnsLaid (covers s) panel row cells row cells (record { full = false; lit = 0 })
+    ColumnsLaid (covers s) panel row cells row cells (record { full = false; lit = 0; looked = 0 })
 span-missed {s} {panel} {row} {cells} h =
     columns-congr {columns = λ (i : ℕ). false} (λ unlit e i l u. sym (outside s i h))
     (record {

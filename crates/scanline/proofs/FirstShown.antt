@@ -11,8 +11,7 @@ use Rattle.model.specs.Lists.{any}
 use Rattle.model.specs.Vector.{Vec}
 use Rattle.model.specs.Patch.{Patch}
 use Rattle.model.specs.Ray.{met, panelOf, firstMet}
-use Rattle.model.specs.Questions.{unlitAfter}
-use Rattle.scanline.specs.Shown.{shownAfter}
+use Rattle.scanline.specs.Shown.{shownAfter, unlitAfter}
 use Rattle.model.proofs.FirstMet.{orElse, firstMet-append}
 
 any-append : {A : Type 0} (test : A → Bool) (xs ys : List A) → any test (xs ++ ys) ≡ (any test xs || any test ys)

@@ -11,13 +11,12 @@ use Rattle.model.specs.Vector.{Vec}
 use Rattle.model.specs.Patch.{Patch}
 use Rattle.model.specs.Ray.{met}
 use Rattle.model.specs.Row.{rowOf}
-use Rattle.model.specs.Questions.{unlitAfter}
 use Rattle.format.proofs.Tables.{length-table, table-at, same-table}
 use Rattle.rows.specs.Span.{Row}
 use Rattle.rows.specs.declared.Laid.{Laid}
 use Rattle.segments.proofs.Rows.{row-congr}
 use Rattle.segments.proofs.Painting.{painted-length, painted-at}
-use Rattle.scanline.specs.Shown.{shownAfter, RowPainted, newlyLit}
+use Rattle.scanline.specs.Shown.{shownAfter, unlitAfter, RowPainted, newlyLit}
 use Rattle.scanline.specs.Laying.{ColumnsPainted, PatchLaid}
 use Rattle.scanline.proofs.Clearing.{zero-table}
 use Rattle.scanline.proofs.FirstShown.{unlit-first, shown-first, unlit-next, shown-next, unlit-stays, shown-stays}

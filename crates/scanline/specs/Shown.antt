@@ -1,19 +1,22 @@
 -- What a row shows after a walk is painted in it.
 use mathlib.Core.Path.{_≡_}
-use mathlib.Core.Bool.{false, _&&_}
+use mathlib.Core.Bool.{Bool, false, not, _&&_}
 use mathlib.Core.List.{List, map}
 use Prim.Native.Nat.{ℕ, _≤_, _<_}
 use lib.ListN.{length, getD, take}
-use Rattle.model.specs.Lists.{range, tally}
+use Rattle.model.specs.Lists.{any, range, tally}
 use Rattle.model.specs.Vector.{Vec}
 use Rattle.model.specs.Patch.{Patch}
 use Rattle.model.specs.Ray.{met, panelOf, firstMet}
 use Rattle.model.specs.Row.{rowOf}
-use Rattle.model.specs.Questions.{unlitAfter}
 
 -- the panel that column i shows after some patches are painted: the first of them that is met, or 0
 unfoldable pub shownAfter : Vec → (ℕ → Vec) → List Patch → ℕ → ℕ
 shownAfter eye ray painted i = panelOf (firstMet eye (ray i) painted)
+
+-- column i is unlit after some patches are painted: none of them is met there
+unfoldable pub unlitAfter : Vec → (ℕ → Vec) → List Patch → ℕ → Bool
+unlitAfter eye ray painted i = not (any (met eye (ray i)) painted)
 
 -- a row's cells and its unlit segments after a walk is painted
 pub record RowPainted (eye : Vec) (ray : ℕ → Vec) (walk : List Patch) (width : ℕ) (cells row : List ℕ) : Type 0 where

@@ -43,6 +43,7 @@ fn lay_span(span: Span, panel: u16, row: &mut [u16; 256], cells: &mut [u16]) -> 
         return Laid {
             full: false,
             lit: 0,
+            looked: 0,
         };
     }
     rows::lay(row, cells, first as u16, (end - 1) as u16, panel)

@@ -39,6 +39,14 @@ span-ahead first last i a = rw (lt-leb first i a)
 pub span-behind : (first last i : ℕ) → last < i → inSpan first last i ≡ false
 span-behind first last i a = rw (lt-leb i last a, and-false)
 
+-- an empty span has no column
+pub span-empty : (first last : ℕ) → last < first → (i : ℕ) → inSpan first last i ≡ false
+span-empty first last h i = side (lt-or-ge i first)
+  where
+    side : (i < first) ⊎ (first ≤ i) → inSpan first last i ≡ false
+    side (inl l) = span-ahead first last i l
+    side (inr l) = span-behind first last i (omega arith)
+
 member-piece : (b : Bool) (s : Segment) (i : ℕ) → member (piece b s) i ≡ (b && inSegment s i)
 unfolding member
 member-piece true s i = or-false (inSegment s i)

@@ -1,4 +1,4 @@
--- The row of a set that is empty, the row of all columns, and the span that is empty.
+-- The row of a set that is empty, and the row of all columns.
 use mathlib.Core.Path.{_≡_, refl, sym, _∙_}
 use mathlib.Core.Logic.{_⊎_, inl, inr}
 use mathlib.Core.Bool.{Bool, true, false, not, _||_, or-true}
@@ -52,7 +52,7 @@ first-length width fits unlit =
         )
 
 -- the row of which every column is unlit
-all-columns : (n : ℕ) → segments (suc n) (λ (i : ℕ). true) ≡ record { offset = 0; count = suc n } ∷ []
+pub all-columns : (n : ℕ) → segments (suc n) (λ (i : ℕ). true) ≡ record { offset = 0; count = suc n } ∷ []
 unfolding member
 all-columns n =
     let s : Segment = record { offset = 0; count = suc n } in

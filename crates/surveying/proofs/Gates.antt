@@ -1,21 +1,19 @@
 -- The call's answer: the scene's, and then the questions on the call, by the general law of the first no.
 use mathlib.Core.Path.{_≡_, sym, _∙_, ap}
-use mathlib.Core.Bool.{Bool, true, false}
+use mathlib.Core.Bool.{Bool}
 use mathlib.Core.List.{List}
 use Prim.Native.Nat.{ℕ}
 use lib.ListN.{length}
 use Rattle.model.specs.View.{Camera}
 use Rattle.model.specs.Lent.{Lengths}
 use Rattle.model.specs.Format.{decode}
-use Rattle.model.specs.Call.{Call, callView}
-use Rattle.model.specs.Questions.{sceneAnswer, viewInRange, lengthsFit, rowsFit, callQuestions, surveyAnswer}
-use Rattle.model.proofs.Tests.{is-true, true-of}
+use Rattle.model.specs.Call.{Call}
+use Rattle.model.specs.Questions.{sceneAnswer, lengthsFit, callQuestions, surveyAnswer}
 use Rattle.model.proofs.Answers.{scene-first, call-next}
 use Rattle.model.proofs.FirstNo.{RefusedAt, refused-at, AllYes, no-no}
 use Rattle.format.specs.declared.layout.Layout.{Layout}
 use Rattle.format.specs.Layout.{LaidOut}
 use Rattle.format.proofs.Decoded.{patch-count}
-use Rattle.surveying.proofs.Results.{rows-always-fit}
 
 pub scene-says-no : (c : Call) {n : ℕ} → n ≡ sceneAnswer (c .scene) → (n ≡ 0 → ⊥) → n ≡ surveyAnswer c
 scene-says-no c scene f = scene ∙ sym (scene-first c (λ z. f (scene ∙ z)))
@@ -41,8 +39,4 @@ pub lengths-said :
     r ≡ lengthsFit a (length (decode bytes .patches)) k
 lengths-said a k laid e = e ∙ ap (λ (n : ℕ). lengthsFit a n k) (sym (patch-count laid))
 
--- question 13 never says no
-pub rows-yes : (c : Call) → viewInRange (callView c) ≡ true → rowsFit c ≡ true
-rows-yes c e = true-of (rows-always-fit c (is-true e))
-
-pub ruleset asked = (scene-yes, lengths-said, rows-yes)
+pub ruleset asked = (scene-yes, lengths-said)

@@ -1,4 +1,3 @@
--- Question 13, the answer of a call, and what an accepted one leaves.
-pub mod Results
+-- The answer of a call, and what an accepted one leaves.
 mod Gates
 mod Calls

@@ -14,7 +14,7 @@ ghost use Rattle.model.specs.Questions.{surveyAnswer};
 ghost use Rattle.camera.specs.Machine.{viewOf};
 ghost use Rattle.contract.specs.Contract.{lentOf, lengthsBy, gateCall, Surveyed};
 
-// The answer of the survey on these numbers: 0, or the number of the first question that says no. Question 13 never does, so it is not asked.
+// The answer of the survey on these numbers: 0, or the number of the first question that says no.
 pub fn survey_answer(
     scene: &[u8],
     eye: Vector,

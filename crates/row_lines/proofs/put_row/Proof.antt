@@ -8,54 +8,49 @@ use Rattle.row_lines.proofs.put_row.Tie as tie
 
 put-number-requires : tie.Need-put-number-requires
 put-number-requires c κs =
-    record { within = omega (arith, decimal-length _ (c .before .before .before .before .fits .number .fits)) }
+    record { within = omega (arith, decimal-length _ (c .before .before .before .before .before .fits .number .fits)) }
 
 -- the line's number is at most ten bytes long
 few : (c : tie.After-put-number) → c .put-number .result ≤ 10
 few c =
-    omega (arith, c .put-number .ensures .end, decimal-length _ (c .before .before .before .before .before .fits .number .fits))
-
-put-byte-requires : tie.Need-put-byte-requires
-put-byte-requires c κs = record { within = omega (arith, few (c .before .before .before)) }
+    omega (arith, c .put-number .ensures .end, decimal-length _ (c .before .before .before .before .before .before .fits .number .fits))
 
 put-numbers-requires : tie.Need-put-numbers-requires
-put-numbers-requires c κs = omega (arith, few (c .before .before .before .before .before .before .before))
+put-numbers-requires c κs = omega (arith, few (c .before .before .before))
 
-put-text-requires : tie.Need-put-text-requires
-put-text-requires c κs =
-    let marked = c .before .before .before .before .before .before .before .before in
-    record { within = omega (arith, few (marked .before .before .before .before)) }
+put-byte-requires : tie.Need-put-byte-requires
+put-byte-requires c κs = record { within = omega (arith, few (c .before .before .before .before .before .before .before)) }
+
+-- from after the colon back to after the line's number
+abbrev begun : tie.After-put-byte → tie.After-put-number
+begun c = c .before .before .before .before .before .before .before .before
 
 put-numbers-requires-2 : tie.Need-put-numbers-requires-2
-put-numbers-requires-2 c κs =
-    let paired = c .before .before .before .before .before .before .before .before in
-    let marked = paired .before .before .before .before in
-    omega (arith, few (marked .before .before .before .before))
+put-numbers-requires-2 c κs = omega (arith, few (begun (c .before .before .before)))
+
+put-text-requires : tie.Need-put-text-requires
+put-text-requires c κs = record { within = omega (arith, few (begun (c .before .before .before .before .before .before .before .before))) }
+
+put-numbers-requires-3 : tie.Need-put-numbers-requires-3
+put-numbers-requires-3 c κs = omega (arith, few (begun (c .before .before .before .before .before .before .before .before .before .before .before .before)))
 
 put-byte-requires-2 : tie.Need-put-byte-requires-2
-put-byte-requires-2 c κs =
-    let parted = c .before .before .before .before .before .before .before in
-    let paired = parted .before .before .before .before .before in
-    let marked = paired .before .before .before .before in
-    record { within = omega (arith, few (marked .before .before .before .before)) }
+put-byte-requires-2 c κs = record { within = omega (arith, few (begun (c .before .before .before .before .before .before .before .before .before .before .before .before .before .before .before .before))) }
 
 returns : tie.Need-returns
-returns c =
-    let parted = c .before .before .before .before .before .before .before .before .before .before in
-    let paired = parted .before .before .before .before .before in
-    let marked = paired .before .before .before .before in
-    omega (arith, few (marked .before .before .before .before))
+returns c = omega (arith, few (begun (c .before .before .before .before .before .before .before .before .before .before .before .before .before .before .before .before .before .before .before)))
 
 pub put-row-spec : {M : Type 1} → statement M
 put-row-spec =
     tie.close
     (tie.spec
     put-number-requires
-    put-byte-requires
     put-numbers-requires
+    put-byte-requires
+    put-numbers-requires-2
     (λ c. search needs)
     put-text-requires
-    put-numbers-requires-2
+    put-numbers-requires-3
     put-byte-requires-2
     (λ c. search needs)
     returns)

@@ -77,6 +77,9 @@ add-lit c =
 add-looked : tie.Need-add-looked Inv-loop μ-loop
 add-looked c = omega arith
 
+add-one : tie.Need-add-t16 Inv-loop μ-loop
+add-one c = omega arith
+
 loop-less : tie.Need-loop-less Inv-loop μ-loop
 loop-less c = omega arith
 
@@ -95,6 +98,7 @@ sweep-spec =
     add-looked
     loop-less
     loop-again
+    add-one
     same-length-2
     returns-2
     same-length-3
