@@ -19,7 +19,7 @@ use Rattle.model.specs.Questions.{hasHeader, hasSections, coordinatesInR
 use Rattle.model.specs.Removal.{isChosen}
 use Rattle.model.proofs.Encode.{headerBytes}
 use Rattle.model.proofs.Computing.{everything}
-use Rattle.model.proofs.Scenes.{square, fittingCall}
+use Rattle.model.proofs.Scenes.{fittingCall}
 
 -- a test, numbers that pass it, and numbers that do not
 record Limit : Type 0 where

@@ -9,7 +9,7 @@ use Rattle.model.specs.Questions.{Question, answer, sceneQuestions, call
 use Rattle.model.proofs.Tests.{both}
 
 -- what holds of 0 and of each question's number holds of the answer
-answer-holds :
+pub answer-holds :
     {A : Type 0} (test : ℕ → Bool) → T (test 0) → (qs : List (Question A)) (a : A) →
     T (every (λ (q : Question A). test (q .number)) qs) → T (test (answer qs a))
 unfolding answer
@@ -23,14 +23,14 @@ answer-holds {A} test zero-holds (q ∷ qs) a t =
     go true here later = later
     go false here later = here
 
-abbrev pub neverStruck : ℕ → Bool
-neverStruck n = not (any (eqb n) struck)
+abbrev pub notStruck : ℕ → Bool
+notStruck n = not (any (eqb n) struck)
 
 -- by computing, question by question
-pub none-struck : T (every (λ (q : Question Call). neverStruck (q .number)) questions)
+pub none-struck : T (every (λ (q : Question Call). notStruck (q .number)) questions)
 unfolding questions sceneQuestions callQuestions
 none-struck = tt
 
-pub never-struck : (c : Call) → T (neverStruck (surveyAnswer c))
+pub never-struck : (c : Call) → T (notStruck (surveyAnswer c))
 unfolding surveyAnswer
-never-struck c = answer-holds neverStruck tt questions c none-struck
+never-struck c = answer-holds notStruck tt questions c none-struck

@@ -225,7 +225,8 @@ onScene q = record { number = q .number; test = λ c. q .test (c .scene) }
 unfoldable pub questions : List (Question Call)
 questions = map onScene sceneQuestions ++ callQuestions
 
--- Numbers that questions had once. Document 02, F-6: "so question 13 is struck and its number is never used again."
+-- Numbers that questions had once. Document 02, F-6: "so question 13 is struck and its number is never used again." Each list of questions that gives answers is held
+-- to it, as `none-struck` holds this one.
 abbrev pub struck : List ℕ
 struck = 13 ∷ []
 

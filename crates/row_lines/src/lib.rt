@@ -1,4 +1,4 @@
-// A row of unlit segments and its cells, written as a line: for the programs that show how spans are laid.
+// A row of unlit segments and its cells, written as a line, and spans laid with what they report: for the programs that show how spans are laid.
 use console::write_or_tell;
 use rows::Laid;
 use text::put_byte;

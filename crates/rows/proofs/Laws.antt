@@ -33,9 +33,12 @@ pub row-next :
 row-next {first} {last} {cells = cells} before l =
     l .row-is ∙ ap (rowOf (length cells)) (sym (after-next before (record { first = first; last = last }) fresh))
 
--- Document 02, F-6: "The k-th span of a fresh row looks at no more than the smaller of k and 128". So laying it reports.
+-- Document 02, F-6: "The k-th span of a fresh row looks at no more than the smaller of k and 128": the number that `lay` reports, by its own promise.
 pub looked-bounded :
-    {first last width lit looked : ℕ} {full : Bool} (before : List Columns) → width ≤ 256 →
-    Reports (afterSpans fresh before) first last width full lit looked → looked ≤ mostLooks (suc (length before))
-looked-bounded {first} {last} {width} before fits r =
-    rw (r .looked-is) (looks-bounded width fits before (record { first = first; last = last }))
+    {first last lit looked : ℕ} {full : Bool} {row : List ℕ} (cells : List ℕ) (before : List Columns) →
+    length cells ≤ 256 →
+    row ≡ rowOf (length cells) (afterSpans fresh before) →
+    ((unlit : ℕ → Bool) → row ≡ rowOf (length cells) unlit → Reports unlit first last (length cells) full lit looked) →
+    looked ≤ mostLooks (suc (length before))
+looked-bounded {first} {last} cells before fits e reports =
+    rw (reports _ e .looked-is) (looks-bounded (length cells) fits before (record { first = first; last = last }))

@@ -31,7 +31,7 @@ pub fn fresh(width: u16) -> [u16; 256]
 
 // Lays the span of the columns `first` to `last` on a row, in place, and paints the panel into those that were unlit.
 // `cells` is the row's part of the picture; its length is the width, and the span may end beyond it. With `last` below
-// `first` the span is empty: it is not laid and looks at nothing. The row must be one that `fresh` or this function left: its callers hold no other, and a
+// `first` the span is empty: it is not laid and looks at no segment. The row must be one that `fresh` or this function left: its callers hold no other, and a
 // test of it would cost as much as the work.
 pub fn lay(row: &mut [u16; 256], cells: &mut [u16], first: u16, last: u16, panel: u16) -> Laid
     requires { ⌜ Row (length (now cells)) (now row) ⌝ }

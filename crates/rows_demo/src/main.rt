@@ -1,5 +1,5 @@
-// Lays a span on a row of 16 columns whose segments are columns 4 to 11 and 14 to 15: in each of the eight positions against the first of them, and then on columns that are lit,
-// at the row's end and beyond it, wholly beyond it, and without a column; and one on a row that is full. Writes after each its number, what laying it reported (the segments looked at, the
+// Lays a span on a row of 16 columns whose segments are columns 4 to 11 and 14 to 15: in each of the eight positions against the first of them, then up to a column that is lit and on such columns alone,
+// at the row's end and beyond it, wholly beyond it, and without a column; and then one over all of the row, and one on the row that is full. Writes after each its number, what laying it reported (the segments looked at, the
 // cells newly lit, 1 where no column is unlit any more), the row's used pairs, and its cells: 1 beside the segments, 2 in the span.
 use row_lines::lay_and_write;
 ghost use mathlib.Core.Path.{_≡_};
@@ -48,13 +48,14 @@ fn main() {
     show(6, 2, 14);
     show(7, 6, 14);
     show(8, 12, 14);
-    show(9, 12, 13);
-    show(10, 15, 15);
-    show(11, 14, 20);
-    show(12, 16, 65535);
-    show(13, 9, 8);
+    show(9, 2, 12);
+    show(10, 12, 13);
+    show(11, 15, 15);
+    show(12, 14, 20);
+    show(13, 16, 65535);
+    show(14, 9, 8);
     let mut cells = [0u16; 16];
     let mut row = two_segments(&mut cells);
-    lay_over(14, &mut row, &mut cells, 0, 15);
-    lay_over(15, &mut row, &mut cells, 3, 5);
+    lay_over(15, &mut row, &mut cells, 0, 15);
+    lay_over(16, &mut row, &mut cells, 3, 5);
 }

@@ -17,6 +17,7 @@ fn lay_every_fourth(row: &mut [u16; 256], cells: &mut [u16], first: u16, panel: 
     }
 }
 
+// The row after several spans: nothing is reported of it.
 fn show(step: u32, row: &[u16; 256], cells: &[u16])
     requires { ⌜ Row (length (now cells)) (now row) ⌝ }
 {

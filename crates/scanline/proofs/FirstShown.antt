@@ -6,13 +6,16 @@ use mathlib.Core.Option.{Option, none, some}
 use Prim.Native.Nat.{ℕ, _≤_}
 use native.Mathlib.Omega.{arith}
 use lib.Dec.{eqb}
+use lib.ListN.{length}
 use borrow.Author.Tests.{ne-eqb}
 use Rattle.model.specs.Lists.{any}
 use Rattle.model.specs.Vector.{Vec}
 use Rattle.model.specs.Patch.{Patch}
 use Rattle.model.specs.Ray.{met, panelOf, firstMet}
+use Rattle.model.specs.Row.{rowPairs, segments}
 use Rattle.scanline.specs.Shown.{shownAfter, unlitAfter}
 use Rattle.model.proofs.FirstMet.{orElse, firstMet-append}
+use Rattle.segments.proofs.Rows.{segments-few}
 
 any-append : {A : Type 0} (test : A → Bool) (xs ys : List A) → any test (xs ++ ys) ≡ (any test xs || any test ys)
 any-append test [] ys = refl
@@ -24,6 +27,10 @@ any-append test (x ∷ xs) ys = go (test x) (any-append test xs ys)
     go false e = e
 
 module _ (eye : Vec) (ray : ℕ → Vec) where
+  -- Document 02, F-6: "a row never needs more than 128 stretches". So it is at each moment of the painting, whatever is painted by then: what question 13 asked.
+  pub rows-need-few : (width : ℕ) → width ≤ 256 → (painted : List Patch) → length (segments width (unlitAfter eye ray painted)) ≤ rowPairs
+  rows-need-few width fits painted = segments-few width fits (unlitAfter eye ray painted)
+
   pub unlit-first : (i : ℕ) → unlitAfter eye ray [] i ≡ true
   unfolding unlitAfter
   unlit-first i = refl

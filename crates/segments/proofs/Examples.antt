@@ -16,8 +16,8 @@ to first last = record { first = first; last = last }
 
 pub looks-worked :
     map (looks 16 twoSegments)
-    (to 1 2 ∷ to 2 6 ∷ to 6 8 ∷ to 2 11 ∷ to 6 11 ∷ to 12 13 ∷ to 2 14 ∷ to 6 14 ∷ to 12 14 ∷ to 15 15 ∷ to 14 20 ∷ to 16 65535 ∷ to 9 8 ∷ [])
-    ≡ 1 ∷ 1 ∷ 1 ∷ 1 ∷ 1 ∷ 2 ∷ 2 ∷ 2 ∷ 2 ∷ 2 ∷ 2 ∷ 2 ∷ 0 ∷ []
+    (to 1 2 ∷ to 2 6 ∷ to 6 8 ∷ to 2 11 ∷ to 6 11 ∷ to 2 12 ∷ to 12 13 ∷ to 2 14 ∷ to 6 14 ∷ to 12 14 ∷ to 15 15 ∷ to 14 20 ∷ to 16 65535 ∷ to 9 8 ∷ [])
+    ≡ 1 ∷ 1 ∷ 1 ∷ 1 ∷ 1 ∷ 2 ∷ 2 ∷ 2 ∷ 2 ∷ 2 ∷ 2 ∷ 2 ∷ 2 ∷ 0 ∷ []
 unfolding joined segmentsFrom segments lookedAt looks
 looks-worked = refl
 

@@ -1,14 +1,14 @@
 -- How many segments laying a span looks at: never more than there are, and a span adds at most one.
 use mathlib.Core.Path.{_≡_, refl, ap}
 use mathlib.Core.Logic.{_⊎_, inl, inr}
-use mathlib.Core.Bool.{Bool, true, false, cond, and-true}
+use mathlib.Core.Bool.{Bool, true, false, and-true}
 use mathlib.Core.List.{List, [], _∷_, _++_, map, sum}
-use Prim.Native.Nat.{ℕ, zero, suc, _+_, _≤_, _<_, min}
+use Prim.Native.Nat.{ℕ, zero, suc, _+_, _≤_, _<_}
 use native.Mathlib.Omega.{arith}
 use lib.Dec.{leb}
 use lib.ListN.{length, length-append}
 use Rattle.model.specs.Lists.{range}
-use Rattle.model.specs.Row.{Segment, segments, rowPairs, afterSpan}
+use Rattle.model.specs.Row.{Segment, segments, afterSpan}
 use Rattle.model.proofs.Tests.{lt-or-ge}
 use Rattle.segments.specs.Columns.{remainsBefore, remains}
 use Rattle.segments.specs.Segments.{Ordered, none, more}
@@ -22,19 +22,19 @@ use Rattle.segments.proofs.Full.{all-columns}
 looked-few : (last : ℕ) (ss : List Segment) → lookedAt last ss ≤ length ss
 unfolding lookedAt
 looked-few last [] = omega arith
-looked-few last (s ∷ ss) = go (endsFrom last s) (looked-few last ss)
+looked-few last (s ∷ ss) = go (endsFrom last s) refl (looked-few last ss)
   where
-    go : (b : Bool) → lookedAt last ss ≤ length ss → cond b 1 (suc (lookedAt last ss)) ≤ suc (length ss)
-    go true h = omega arith
-    go false h = omega arith
+    go : (b : Bool) → endsFrom last s ≡ b → lookedAt last ss ≤ length ss → lookedAt last (s ∷ ss) ≤ suc (length ss)
+    go true e h = rw e (omega arith)
+    go false e h = rw e (omega arith)
 
 looks-few : (width : ℕ) (unlit : ℕ → Bool) (c : Columns) → looks width unlit c ≤ length (segments width unlit)
 unfolding looks
-looks-few width unlit c = go (leb (c .first) (c .last))
+looks-few width unlit c = go (leb (c .first) (c .last)) refl
   where
-    go : (b : Bool) → cond b (lookedAt (c .last) (segments width unlit)) 0 ≤ length (segments width unlit)
-    go true = looked-few (c .last) (segments width unlit)
-    go false = omega arith
+    go : (b : Bool) → leb (c .first) (c .last) ≡ b → looks width unlit c ≤ length (segments width unlit)
+    go true e = rw e (looked-few _ (segments width unlit))
+    go false e = rw e (omega arith)
 
 -- a span adds at most one segment: each one before its end keeps at most one piece, the one at its end at most two, those after it stay
 cut-grows : {width low : ℕ} (first last : ℕ) {ss : List Segment} → first ≤ last → Ordered width low ss → length (cut first last ss) ≤ suc (length ss)

@@ -72,6 +72,7 @@ pairs-member [] i = refl
 pairs-member (s ∷ ss) i = rw (pairs-member ss i)
 
 module _ (width : ℕ) (fits : width ≤ 256) (unlit : ℕ → Bool) where
+  -- Document 02, F-6: "a row never needs more than 128 stretches": whichever columns are unlit.
   pub segments-few : length (segments width unlit) ≤ 128
   segments-few = omega (arith, few (segments-ordered width unlit))
 

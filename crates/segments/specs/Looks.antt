@@ -5,12 +5,12 @@ use Prim.Native.Nat.{ℕ, suc, _+_, min}
 use lib.Dec.{leb, ltb}
 use Rattle.model.specs.Row.{Segment, segments, rowPairs, afterSpan}
 
--- the columns of a span, from `first` to `last`: none where `last` is below `first`
+-- a span by its columns, from `first` to `last`, both counted in: none where `last` is below `first`
 pub record Columns : Type 0 where
   pub first : ℕ
   pub last : ℕ
 
--- the segment "ends at or after" a column
+-- the segment "ends at or after" a column: its last column, offset + count − 1, is not before it
 abbrev pub endsFrom : ℕ → Segment → Bool
 endsFrom column s = ltb column (s .offset + s .count)
 

@@ -1,0 +1,2 @@
+-- The worst case of laying spans.
+pub mod WorstCase
