@@ -2,7 +2,7 @@
 
 use crate::call::{Call, Lent, Library};
 use crate::cuttings::Cuttings;
-use crate::gate::Gate;
+use crate::gate::{Gate, STRUCK};
 use crate::pairs::{parts, Pair};
 use crate::random::Random;
 use crate::scene::Scene;
@@ -14,6 +14,8 @@ pub enum Difference {
     Answer,
     /// The gate's number is another.
     Gate,
+    /// A call answered a number that is struck, whatever is due.
+    Struck,
     Picture,
     Counts,
     PatchCounts,
@@ -77,6 +79,7 @@ pub fn check_due(library: &dyn Library, call: &Call, due: &Due, rng: &mut Random
     let mut found = Vec::new();
     note(&mut found, answer != number, Answer);
     note(&mut found, gate != number, Gate);
+    note(&mut found, [answer, gate].contains(&STRUCK), Struck);
     note(&mut found, asked.scene != call.scene, TouchedScene);
     match &due.result {
         Ok(done) => {
@@ -151,8 +154,10 @@ pub fn check_cuttings(library: &dyn Library, pair: &Cuttings, rng: &mut Random) 
 /// The gate alone, for lengths that nobody can lend.
 pub fn check_gate(library: &dyn Library, call: &Call) -> (u32, Vec<Difference>) {
     let number = Gate::of_the_paper().judge(call);
+    let answer = library.gate(call);
     let mut found = Vec::new();
-    note(&mut found, library.gate(call) != number, Gate);
+    note(&mut found, answer != number, Gate);
+    note(&mut found, answer == STRUCK, Struck);
     (number, found)
 }
 

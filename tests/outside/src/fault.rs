@@ -5,7 +5,7 @@ use crate::call::{Call, Lent, Library};
 use crate::compare::Difference;
 use crate::cuttings::Cuttings;
 use crate::differential::{case, put, Case, Tally};
-use crate::gate::Gate;
+use crate::gate::{Gate, STRUCK};
 use crate::generate::Size;
 use crate::random::Random;
 use crate::scene::Scene;
@@ -14,7 +14,7 @@ use crate::wrong_booking::{Book, Painted, BOOKS};
 use crate::wrong_buffers::{Spoil, Trace, SPOILS, TRACES};
 use crate::wrong_camera::CAMERAS;
 use crate::wrong_cuttings::{Write, CUT_LOOKS, WRITES};
-use crate::wrong_gate::WRONG;
+use crate::wrong_gate::{WRONG, WRONG_STRUCK};
 use crate::wrong_joints::JOINTS;
 use crate::wrong_lengths::{LENGTHS, SHORT_LENGTHS};
 use crate::wrong_paint::{painted, Look, LOOKS};
@@ -30,8 +30,9 @@ pub struct Faulty {
     write: Write,
     spoil: Spoil,
     trace: Trace,
-    /// Does a row that holds 128 stretches give 13?
-    thirteen: bool,
+    /// Does a row that holds 128 stretches give 13, a number that is struck and
+    /// never an answer?
+    struck: bool,
 }
 
 impl Faulty {
@@ -47,7 +48,7 @@ impl Faulty {
             write: |_, done| done,
             spoil: |_, _, _| (),
             trace: |_| (),
-            thirteen: false,
+            struck: false,
         }
     }
 
@@ -94,8 +95,11 @@ impl Faulty {
             ..Faulty::named(name, &[shows])
         });
         let full = Faulty {
-            thirteen: true,
-            ..Faulty::named("13 at 128 stretches", &[Difference::Answer])
+            struck: true,
+            ..Faulty::named(
+                "13 at 128 stretches, though it is struck",
+                &[Difference::Answer, Difference::Struck],
+            )
         };
         spoils.chain(traces).chain([full]).collect()
     }
@@ -107,11 +111,16 @@ impl Faulty {
             survey_gate: wrong(),
             ..Faulty::named(name, &both)
         });
+        let struck = WRONG_STRUCK.iter().map(|&(name, wrong)| Faulty {
+            gate: wrong(),
+            survey_gate: wrong(),
+            ..Faulty::named(name, &[both[0], both[1], Difference::Struck])
+        });
         let short = SHORT_LENGTHS.iter().map(|&(name, wrong)| Faulty {
             gate: wrong(),
             ..Faulty::named(name, &[Difference::Gate])
         });
-        wrong.chain(short).collect()
+        wrong.chain(struck).chain(short).collect()
     }
 
     /// The case of a run by which this fault has shown as it must, if any.
@@ -186,8 +195,8 @@ impl Library for Faulty {
         }
         let done = self.painted(call);
         let is_full = |row: &[u16]| row[255] > 0;
-        if self.thirteen && done.unlit.chunks(256).any(is_full) {
-            return 13;
+        if self.struck && done.unlit.chunks(256).any(is_full) {
+            return STRUCK;
         }
         let before = lent.clone();
         done.leave(lent);

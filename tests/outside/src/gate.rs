@@ -1,13 +1,16 @@
 //! The gate: "Each question is put to the whole scene before the next. The
 //! first no gives its number".
 //!
-//! Question 13 is not asked: a row of at most 256 cells never needs more than
-//! 128 stretches that do not touch.
+//! 13 is not among them: "a row never needs more than 128 stretches, so question
+//! 13 is struck and its number is never used again."
 
 use crate::axes::Axes;
 use crate::call::{Call, COUNTS, ROW};
 use crate::scene::{pair_at, u16_at, u32_at, Patch, Scene, HEADER, NONE, SIZES};
 use crate::vector::{cross, dot, minus, normal, side, wide, Point, Vector};
+
+/// A struck number: no question has it, and no call ever answers it.
+pub const STRUCK: u32 = 13;
 
 pub type Question = fn(&Call, &Scene) -> bool;
 

@@ -180,6 +180,21 @@ pub const WRONG: &[WrongGate] = &[
     ("14 before all but 1 and 2", || moved(14, 3)),
 ];
 
+/// Gates that still answer 13, which is struck.
+pub const WRONG_STRUCK: &[WrongGate] = &[
+    ("12 answered as 13", || {
+        let mut gate = Gate::of_the_paper();
+        let at = place(&gate, 12);
+        gate.questions[at].0 = STRUCK;
+        gate
+    }),
+    ("13 asked of the widest rows", || {
+        let mut gate = Gate::of_the_paper();
+        gate.questions.push((STRUCK, |c, _| c.view.width < 256));
+        gate
+    }),
+];
+
 fn sized(size: fn(&[u8]) -> bool) -> Gate {
     Gate {
         size,

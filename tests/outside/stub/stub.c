@@ -2,6 +2,7 @@
  * STUB_FAULT chooses the fault:
  *   silent  says "done" and touches nothing;
  *   scribe  refuses with 1 and changes all it was lent, the scene too;
+ *   struck  refuses with 13, a number that no call answers any more;
  *   blank   says "done" with a blank picture, rightly counted;
  *   beyond  as blank, and reads and writes one place outside its buffers;
  *   booker  as blank, and books one patch more than the table has. */
@@ -45,6 +46,8 @@ uint32_t ring_survey(const uint8_t *scene, size_t scene_len,
         *counter ^= 1;
         return 1;
     }
+    if (fault_is("struck"))
+        return 13;
     if (fault_is("silent") || counts_len == 0)
         return 0;
     memset(picture, 0, picture_len * sizeof *picture);
@@ -80,5 +83,7 @@ uint32_t ring_gate(const uint8_t *scene, size_t scene_len,
     (void)up_x, (void)up_y, (void)up_z;
     (void)width, (void)height, (void)lens, (void)picture_len;
     (void)counts_len, (void)patch_counts_len, (void)unlit_len, (void)counter;
+    if (fault_is("struck"))
+        return 13;
     return fault_is("scribe") ? 1 : 0;
 }
