@@ -1,7 +1,7 @@
 #!/usr/bin/env bash
-# The tests from outside, over the library as it was just proved: its read-only memory, the C header, the console example, the stored bills, the inputs and outputs that fail, and through the C interface the stored cases and the
-# ray-by-ray program in Rust.
-#   outside.sh [CASES [SEED]]      more cases, or others; for each case there are two pairs of cuttings besides
+# The tests from outside, over the library as it was just proved: its read-only memory, the C header, the console example, the stored bills, the inputs and outputs that fail, spans laid on rows by the programs for that, and
+# through the C interface the stored cases and the ray-by-ray program in Rust.
+#   outside.sh [CASES [SEED]]      more cases, or others; for each case there are two pairs of cuttings besides, and for five of them a sequence of spans
 set -euo pipefail
 cd "$(dirname "${BASH_SOURCE[0]}")/.."
 cases=${1:-3000}
@@ -13,7 +13,8 @@ trap 'rm -f "$log"; kill $(jobs -p) 2>/dev/null || true' EXIT
 rt staticlib survey >"$log" 2>&1 || { cat "$log"; exit 1; }
 tail -n 1 "$log"
 export SURVEY_LIB_DIR=$PWD/target/staticlib
-ringbill=$PWD/target/bin/ringbill
+programs=$PWD/target/bin
+ringbill=$programs/ringbill
 
 # What runs in the background is beside the next, as each keeps one core busy.
 from_c() {
@@ -29,6 +30,7 @@ cat "$log"
 
 tests/bills.sh "$ringbill"
 tests/failures.sh "$ringbill"
+(cd tests/outside && cargo run --quiet --release --offline --features library --bin laying -- --sequences $((cases / 5)) --seed "$seed" --rows-laid "$programs/rows_laid" --rows-dearest "$programs/rows_dearest")
 tests/memory.sh 100 "$seed" >"$log" 2>&1 &
 (cd tests/outside && cargo run --quiet --release --offline --features library --bin differential -- --cases "$cases" --seed "$seed" --ringbill "$ringbill")
 wait $! && status=0 || status=$?

@@ -1,9 +1,11 @@
 //! Stored cases altered in one place: each must be unreadable or differ.
 
 use crate::block::{Block, Reading};
-use crate::cases::{files, trials, trials_of, File};
+use crate::cases::{files, said, said_by, File, Said};
 use crate::compare::check_due;
 use crate::random::Random;
+use crate::row_cases::RowCase;
+use crate::row_fault::Laying;
 use crate::trial::Trial;
 
 /// The keys of what is due; a change of another number need not show.
@@ -16,6 +18,9 @@ const DUE: &[&str] = &[
     "patch_counts_b",
     "unlit_row",
     "counter_after",
+    "bound",
+    "reach",
+    "span",
 ];
 
 type Lines = Vec<String>;
@@ -24,28 +29,43 @@ fn key(line: &str) -> &str {
     line.split(' ').next().unwrap_or("")
 }
 
-fn read(lines: &Lines, file: &File) -> Reading<Vec<Trial>> {
+fn read(lines: &Lines, file: &File) -> Reading<Said> {
     let text = lines.join("\n");
-    trials_of(Block::of(&text, 1)?, file)
+    said_by(Block::of(&text, 1)?, file)
 }
 
-/// Is the block unreadable, or does a trial of it disagree with what was due
-/// before?
-fn is_seen(lines: &Lines, file: &File, before: &[Trial], rng: &mut Random) -> bool {
-    match read(lines, file) {
-        Err(_) => true,
-        Ok(others) => before.iter().zip(others).any(|(trial, other)| {
-            let outcome = check_due(&trial.due, &other.call, &other.due, rng);
-            !outcome.differences.is_empty()
-        }),
+/// Is the block unreadable, or does it disagree with what was due before?
+fn is_seen(lines: &Lines, file: &File, before: &Said, rng: &mut Random) -> bool {
+    match (before, read(lines, file)) {
+        (_, Err(_)) => true,
+        (Said::Calls(before), Ok(Said::Calls(others))) => calls_differ(before, &others, rng),
+        (Said::Row(before), Ok(Said::Row(other))) => rows_differ(before, &other),
+        _ => false,
     }
 }
 
-/// The line with one digit behind its key changed; a table without entries has
-/// none, and gets one.
+fn calls_differ(before: &[Trial], others: &[Trial], rng: &mut Random) -> bool {
+    before.iter().zip(others).any(|(trial, other)| {
+        let outcome = check_due(&trial.due, &other.call, &other.due, rng);
+        !outcome.differences.is_empty()
+    })
+}
+
+/// Bounds are held to the model: of the maker's spans they say nothing.
+fn rows_differ(before: &RowCase, other: &RowCase) -> bool {
+    let found = match before {
+        RowCase::Spans(laid) => other.check(laid),
+        _ => other.check(&Laying::right()),
+    };
+    !found.is_empty()
+}
+
+/// The line with one digit behind its key changed, or behind the columns of a
+/// span; a table without entries has none, and gets one.
 fn renumbered(line: &str, rng: &mut Random) -> String {
     let is_digit = |at: &usize| line.as_bytes()[*at].is_ascii_digit();
-    let digits: Vec<usize> = (key(line).len()..line.len()).filter(is_digit).collect();
+    let from = line.find(" looked ").unwrap_or(key(line).len());
+    let digits: Vec<usize> = (from..line.len()).filter(is_digit).collect();
     if digits.is_empty() {
         return format!("{line} 0");
     }
@@ -113,7 +133,7 @@ pub fn files_are_refused() -> Reading<bool> {
         if key(&other) != key(second) {
             broken.push(format!("# a file\n\n{other}\n"));
         }
-        broken.iter().all(|text| trials(text, file).is_err())
+        broken.iter().all(|text| said(text, file).is_err())
     };
     Ok(files.iter().enumerate().all(is_refused))
 }

@@ -71,6 +71,12 @@ impl<'a> Block<'a> {
         }
     }
 
+    /// Is the next line of this key?
+    pub fn is_next(&self, key: &str) -> bool {
+        let next = self.lines.clone().next();
+        next.is_some_and(|line| line.split(' ').next() == Some(key))
+    }
+
     pub fn words(&mut self, key: &str) -> Reading<Vec<&'a str>> {
         Ok(match self.text(key)? {
             "" => Vec::new(),

@@ -1,13 +1,15 @@
-//! The stored cases: calls with all that is due for them, from another program
-//! that was written from the same papers.
+//! The stored cases: calls with all that is due for them, and spans laid on rows,
+//! from another program that was written from the same papers.
 
 use std::fs;
 use std::path::PathBuf;
 
 use crate::block::{blocks, Block, Reading};
 use crate::call::Call;
+use crate::gate::STRUCK;
 use crate::keys::{counts, patch_counts, picture, unlit_row, view};
 use crate::ray::Sight;
+use crate::row_cases::{row_case, RowCase};
 use crate::scene::patches_told;
 use crate::survey::{self, survey_by, Done, Due};
 use crate::trial::{Suite, Trial};
@@ -34,6 +36,7 @@ const FILES: &[File] = &[
     file("F-2.txt", 187, 2),
     file("F-3.txt", 187, 3),
     file("F-5.txt", 80, 5),
+    file("F-6.txt", 61, 6),
 ];
 
 /// The request that brought the patch table.
@@ -42,6 +45,10 @@ const PATCH_TABLE: u32 = 2;
 const JOINTS: u32 = 3;
 /// The request that compares two cuttings.
 const CUTTINGS: u32 = 5;
+/// The request that asks what the spans of a row look at.
+const ROWS: u32 = 6;
+/// How many spans its file tells of: one line left out is seen.
+const SPANS: usize = 832;
 
 impl File {
     /// How its cases read a sight line.
@@ -57,13 +64,21 @@ impl File {
         self.request == CUTTINGS
     }
 
-    /// The kind of its blocks.
-    fn kind(&self) -> &'static str {
-        match self.is_of_cuttings() {
-            true => "pair",
-            false => "case",
+    /// The kinds of its blocks.
+    fn kinds(&self) -> &'static [&'static str] {
+        match self.request {
+            CUTTINGS => &["pair"],
+            ROWS => &["bounds", "spans"],
+            _ => &["case"],
         }
     }
+}
+
+/// What a block says.
+pub enum Said {
+    /// One call, or two on two cuttings.
+    Calls(Vec<Trial>),
+    Row(RowCase),
 }
 
 fn folder() -> PathBuf {
@@ -87,28 +102,60 @@ pub fn files() -> Reading<Vec<(&'static File, String)>> {
     FILES.iter().map(read).collect()
 }
 
-/// Each file's cases, every block read to its last line.
-pub fn stored() -> Reading<Vec<Suite>> {
+/// Each file with what its blocks say, every block read to its last line.
+fn read() -> Reading<Vec<(&'static File, Vec<Said>)>> {
     let mut all = Vec::new();
     for (file, text) in files()? {
         let File { name, blocks, .. } = file;
-        let told = trials(&text, file).map_err(|why| format!("{name}, {why}"))?;
+        let told = said(&text, file).map_err(|why| format!("{name}, {why}"))?;
         if told.len() != *blocks {
             return Err(format!("{name} has {} blocks, not {blocks}", told.len()));
         }
-        let mut trials: Vec<Trial> = told.into_iter().flatten().collect();
-        if file.request < PATCH_TABLE {
-            let own = trials.iter_mut();
-            own.for_each(|trial| complete(trial, file.sight()));
-        }
-        all.push(Suite {
-            name,
-            sight: file.sight(),
-            cuttings: file.is_of_cuttings(),
-            trials,
-        });
+        all.push((file, told));
     }
     Ok(all)
+}
+
+/// The files of calls.
+pub fn stored() -> Reading<Vec<Suite>> {
+    let of_calls = |(file, _): &(&File, _)| file.request != ROWS;
+    let files = read()?.into_iter().filter(of_calls);
+    let suite = |(file, told): (&'static File, Vec<Said>)| Suite {
+        name: file.name,
+        sight: file.sight(),
+        cuttings: file.is_of_cuttings(),
+        trials: calls(file, told),
+    };
+    Ok(files.map(suite).collect())
+}
+
+fn calls(file: &File, told: Vec<Said>) -> Vec<Trial> {
+    let mut all = Vec::new();
+    for said in told {
+        if let Said::Calls(trials) = said {
+            all.extend(trials);
+        }
+    }
+    if file.request < PATCH_TABLE {
+        let own = all.iter_mut();
+        own.for_each(|trial| complete(trial, file.sight()));
+    }
+    all
+}
+
+/// The file of rows.
+pub fn stored_rows() -> Reading<Vec<RowCase>> {
+    let row = |said| match said {
+        Said::Row(case) => Some(case),
+        Said::Calls(_) => None,
+    };
+    let told = read()?.into_iter().flat_map(|(_, told)| told);
+    let all: Vec<RowCase> = told.filter_map(row).collect();
+    let spans: usize = all.iter().map(RowCase::spans).sum();
+    match spans == SPANS {
+        true => Ok(all),
+        false => Err(format!("{spans} spans are stored, {SPANS} known")),
+    }
 }
 
 /// A file that knows of no patch table leaves its numbers to the model.
@@ -118,24 +165,25 @@ fn complete(trial: &mut Trial, sight: Sight) {
     }
 }
 
-/// The trials of each block.
-pub fn trials(text: &str, file: &File) -> Reading<Vec<Vec<Trial>>> {
-    let read = |block| trials_of(block, file);
+/// What each block says.
+pub fn said(text: &str, file: &File) -> Reading<Vec<Said>> {
+    let read = |block| said_by(block, file);
     blocks(text)?.into_iter().map(read).collect()
 }
 
-/// What a block says, by its kind and by the request in force: one trial, or
-/// two on two cuttings.
-pub fn trials_of(mut block: Block, file: &File) -> Reading<Vec<Trial>> {
-    if block.kind != file.kind() {
-        return Err(block.wrong(&format!("not of kind {}", file.kind())));
+/// What a block says, by its kind and by the request in force.
+pub fn said_by(mut block: Block, file: &File) -> Reading<Said> {
+    let kinds = file.kinds();
+    if !kinds.contains(&block.kind) {
+        return Err(block.wrong(&format!("of none of the kinds {kinds:?}")));
     }
-    let trials = match file.is_of_cuttings() {
-        true => two_cuttings(&mut block)?.into(),
-        false => vec![survey_call(&mut block, file.request)?],
+    let said = match file.request {
+        CUTTINGS => Said::Calls(two_cuttings(&mut block)?.into()),
+        ROWS => Said::Row(row_case(&mut block)?),
+        request => Said::Calls(vec![survey_call(&mut block, request)?]),
     };
     block.end()?;
-    Ok(trials)
+    Ok(said)
 }
 
 /// "`pair`: two cuttings and one view". The file leaves the counters free: they
@@ -202,6 +250,7 @@ fn survey_call(block: &mut Block, request: u32) -> Reading<Trial> {
 fn due(block: &mut Block, call: &Call, request: u32) -> Reading<Due> {
     let result = match block.number("answer")? {
         0 => Ok(done(block, call, request)?),
+        STRUCK => return Err(block.wrong("a number that is struck")),
         number => Err(number),
     };
     Ok(Due {

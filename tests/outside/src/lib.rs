@@ -1,12 +1,16 @@
 //! An outside check of the lining survey, in exact whole numbers.
 //!
 //! The model: `vector`, `axes`, `scene`, `gate`, `ray`, `survey`, `bill`,
-//! `stations`; beside it `walk`.
+//! `stations`; beside it `walk`; and of one row `row`, `dearest`.
 //! The cases: `random`, `polygon`, `soup`, `works`, `hinge`, `tree`, `loose`,
 //! `mount`, `view`, `generate`, `damage`, `stored`, `header`, `outer`, `pairs`;
 //! of two cuttings `cut`, `panels`, `planner`, `along`, `cuttings`, and `cover`.
 //! Cases with what is due known beforehand: `trial`, `turned`, `booking`,
 //! `joints`, `stretches`, `rings`, and from files `block`, `keys`, `cases`.
+//! Rows by two programs: `program`, `row_programs`, `row_cases`, `row_stations`,
+//! `row_trials`, `row_spans`, `row_tally`, `row_compare`, and what shows that
+//! these can fail: `row_check`, `row_fault`, `wrong_looks`, `wrong_rows`,
+//! `wrong_makers`.
 //! The comparison: `compare`, `differential`, `tally`, `beside`; and what shows
 //! that it can fail: `fault`, `wrong_gate`, `wrong_lengths`, `wrong_questions`,
 //! `wrong_paint`, `wrong_joints`, `wrong_camera`, `wrong_booking`,
@@ -29,6 +33,7 @@ pub mod cut;
 pub mod cuttings;
 pub mod cuttings_check;
 pub mod damage;
+pub mod dearest;
 pub mod differential;
 pub mod fault;
 pub mod gate;
@@ -44,9 +49,20 @@ pub mod pairs;
 pub mod panels;
 pub mod planner;
 pub mod polygon;
+pub mod program;
 pub mod random;
 pub mod ray;
 pub mod rings;
+pub mod row;
+pub mod row_cases;
+pub mod row_check;
+pub mod row_compare;
+pub mod row_fault;
+pub mod row_programs;
+pub mod row_spans;
+pub mod row_stations;
+pub mod row_tally;
+pub mod row_trials;
 pub mod scene;
 pub mod soup;
 pub mod stations;
@@ -69,5 +85,8 @@ pub mod wrong_cuttings;
 pub mod wrong_gate;
 pub mod wrong_joints;
 pub mod wrong_lengths;
+pub mod wrong_looks;
+pub mod wrong_makers;
 pub mod wrong_paint;
 pub mod wrong_questions;
+pub mod wrong_rows;

@@ -16,9 +16,8 @@ mod library;
 
 use std::env;
 use std::fs;
-use std::io::Write;
 use std::ops::Range;
-use std::process::{exit, Command, Stdio};
+use std::process::exit;
 
 use library::Linked;
 use outside::bill::{bill, LONGEST, SHORTEST};
@@ -26,6 +25,7 @@ use outside::compare::Difference;
 use outside::differential::{case, put, two_cuttings, Case, Tally};
 use outside::gate::Gate;
 use outside::generate::{FULL, SMALL};
+use outside::program::printed;
 use outside::random::Random;
 use outside::trial::hold_library;
 
@@ -223,18 +223,4 @@ fn bills_agree(program: &str, made: &Case, k: u64) -> bool {
         }
         printed(program, &input) == bill(&input)
     })
-}
-
-fn printed(program: &str, input: &[u8]) -> String {
-    let mut child = Command::new(program)
-        .stdin(Stdio::piped())
-        .stdout(Stdio::piped())
-        .spawn()
-        .expect("ringbill starts");
-    let mut stdin = child.stdin.take().expect("a pipe");
-    // A program may stop reading once it knows its answer.
-    let _ = stdin.write_all(input);
-    drop(stdin);
-    let output = child.wait_with_output().expect("ringbill ends");
-    String::from_utf8_lossy(&output.stdout).into_owned()
 }

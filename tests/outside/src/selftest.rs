@@ -3,7 +3,8 @@
 //! `selftest` runs the paper's stations and the stored cases on the model, the
 //! model against itself and the comparison against faulty libraries.
 //! `selftest --bill` reads an input of `ringbill` and prints what the model
-//! makes of it.
+//! makes of it, and so do `selftest --rows-laid` and `selftest --rows-dearest`
+//! with an input of the programs of rows.
 
 use std::io::Read;
 use std::process::exit;
@@ -18,9 +19,13 @@ use outside::consistency::{
 use outside::cuttings_check::{faults_show, made, pairs_hold, stored_cover, tampering_shows};
 use outside::differential::{case, put, Case, Tally};
 use outside::fault::Faulty;
+use outside::gate::{Gate, STRUCK};
 use outside::generate::{FULL, SMALL};
 use outside::random::Random;
 use outside::rings::covered;
+use outside::row_check::rows_hold;
+use outside::row_fault::Laying;
+use outside::row_programs::{written_for_dearest, written_for_laid};
 use outside::stations::stations;
 use outside::steps::steps_agree;
 use outside::survey::is_read_otherwise;
@@ -29,15 +34,39 @@ use outside::trial::hold_model;
 const SEED: u64 = 20;
 
 fn main() {
-    if std::env::args().any(|word| word == "--bill") {
-        let mut input = Vec::new();
-        let read = std::io::stdin().read_to_end(&mut input);
-        read.expect("an input");
-        print!("{}", bill(&input));
-        return;
+    match std::env::args().nth(1).as_deref() {
+        None => (),
+        Some("--bill") => return print(bill),
+        Some("--rows-laid") => return print(|input| written_for_laid(&Laying::right(), input)),
+        Some("--rows-dearest") => {
+            return print(|input| written_for_dearest(&Laying::right(), input))
+        }
+        Some(word) => {
+            eprintln!("selftest: not understood: {word}");
+            exit(2)
+        }
     }
+    let failed = failing();
+    println!("selftest: {failed} failed");
+    exit(i32::from(failed > 0));
+}
+
+/// What the model makes of standard input.
+fn print(made_of: impl Fn(&[u8]) -> String) {
+    let mut input = Vec::new();
+    let read = std::io::stdin().read_to_end(&mut input);
+    read.expect("an input");
+    print!("{}", made_of(&input));
+}
+
+/// All checks; gives how many fail.
+fn failing() -> usize {
     let mut failed = 0;
-    let old = [("the old view's directions", old_directions_hold())];
+    let asked = Gate::of_the_paper().numbers();
+    let old = [
+        ("the old view's directions", old_directions_hold()),
+        ("13 is no question's number", !asked.contains(&STRUCK)),
+    ];
     let told = stations().into_iter().chain(parts_are_told_apart());
     for (name, held) in told.chain(covered()).chain(old) {
         println!("{} {name}", if held { "holds" } else { "FAILS" });
@@ -49,11 +78,10 @@ fn main() {
         1
     });
     failed += cuttings(1_000);
+    failed += rows_hold(SEED, 400);
     failed += consistent(400);
     failed += sound(600);
-    failed += faults(6_000);
-    println!("selftest: {failed} failed");
-    exit(i32::from(failed > 0));
+    failed + faults(6_000)
 }
 
 /// No stored case can be altered unseen.

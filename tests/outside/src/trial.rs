@@ -62,7 +62,7 @@ pub fn refused(name: &str, call: Call, number: u32) -> Trial {
 }
 
 /// As many differences as are shown one by one.
-const SHOWN: usize = 20;
+pub const SHOWN: usize = 20;
 
 /// Trials, and how the numbers due in them read a sight line.
 pub struct Suite {
@@ -140,7 +140,7 @@ fn brought_up(suite: &mut Suite) -> bool {
 }
 
 /// Puts each trial to the library that is to answer its call, and says how
-/// many agree; gives how many do not. None at all is a fault as well.
+/// many agree; gives how many do not.
 ///
 /// Of two cuttings the second is also held to what the library left of the
 /// first, whatever is due for either.
@@ -169,9 +169,15 @@ fn hold<L: Library>(suite: &Suite, library: impl Fn(&Call) -> L) -> usize {
             }
         }
     }
-    println!("cases: {} of {of} agree", trials.len() - failed);
+    agreeing(of, trials.len(), failed)
+}
+
+/// Says how many of these cases agree; gives how many do not. None at all is a
+/// fault as well.
+pub fn agreeing(of: &str, all: usize, failed: usize) -> usize {
+    println!("cases: {} of {of} agree", all - failed);
     if failed > 0 {
         println!("cases: {failed} of {of} differ");
     }
-    failed + usize::from(trials.is_empty())
+    failed + usize::from(all == 0)
 }

@@ -48,6 +48,7 @@ must silent 1 '' Answer Gate Picture Counts PatchCounts Unlit Counter \
     SecondShowsKept CuttingsPicture CuttingsCounts CuttingsUnlit
 must scribe 1 '' Answer Gate TouchedPicture TouchedCounts TouchedPatchCounts \
     TouchedUnlit TouchedCounter TouchedScene
+must struck 1 '' Answer Gate Struck
 must blank 1 '' Answer Gate Picture Counts PatchCounts Unlit TouchedPicture \
     TouchedCounts TouchedPatchCounts TouchedUnlit TouchedCounter \
     FirstShowsClosest
@@ -61,4 +62,39 @@ if command -v valgrind >/dev/null; then
 fi
 [ -s "$work/outside-3-0-0.case" ] || { echo "no case was written"; exit 1; }
 "$differential" --no-such-word 2>/dev/null && exit 1
+
+# The programs of rows: the model in their place, and with it wrong in one way.
+laying="$built/release/laying" selftest=$PWD/$built/release/selftest
+# rows NAME COMMAND: a program in the folder of this run
+rows() {
+    printf '#!/bin/sh\n%s\n' "$2" >"$work/$1"
+    chmod +x "$work/$1"
+}
+rows laid "$selftest --rows-laid"
+rows dearest "$selftest --rows-dearest"
+# laid_so CODE LAID DEAREST WORDS: wants this exit code, and these words in the report
+laid_so() {
+    got=0
+    "$laying" --sequences 100 --seed 3 --rows-laid "$work/$2" --rows-dearest "$work/$3" \
+        >"$work/report" 2>&1 || got=$?
+    [ "$got" = "$1" ] && grep -q "$4" "$work/report" ||
+        { echo "rows, $2 $3: exit $got, not $1, or not said: $4"; tail -n 40 "$work/report"; exit 1; }
+    echo "rows, $2 $3: exit $got"
+}
+laid_so 0 laid dearest ' 0 differences$'
+rows silent 'cat >/dev/null'
+laid_so 1 silent dearest ' differences: Form$'
+laid_so 1 laid silent '^rows: .* differences: \[Form\]'
+rows ended "$selftest --rows-laid; exit 3"
+laid_so 1 ended dearest ' differences: Form$'
+rows looks "$selftest --rows-laid | sed 's/^\\([0-9]*\\) 128 /\\1 127 /'"
+laid_so 1 looks dearest ' differences: Looked$'
+rows wide "$selftest --rows-laid | sed 's/^1 0 /1 1 /'"
+laid_so 1 wide dearest '^DIFFERS '
+rows sums "$selftest --rows-dearest | sed 's/ 8256\$/ 8255/'"
+laid_so 1 laid sums '^rows: the maker.* differences: \[Reach\]'
+rm "$work/laid"
+laid_so 101 laid dearest 'laid: No such file'
+"$laying" --no-such-word 1 2>/dev/null && exit 1
+"$laying" --seed 1 2>/dev/null && exit 1
 echo "stub: every wrong answer was seen"
