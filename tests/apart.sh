@@ -1,6 +1,6 @@
 #!/usr/bin/env bash
 # The tests that need no proved library: the tools, the stored cases on the model, and that the comparison from outside can fail, against the model with one fault at a
-# time and against a library of wrong answers.
+# time, against a library of wrong answers and against programs that lay spans wrongly.
 set -euo pipefail
 cd "$(dirname "${BASH_SOURCE[0]}")/.."
 

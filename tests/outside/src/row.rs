@@ -33,7 +33,7 @@ impl Span {
 pub type Pair = [u16; 2];
 
 /// The columns of a pair, whose length is not 0.
-pub fn stretch([offset, length]: Pair) -> Span {
+fn stretch([offset, length]: Pair) -> Span {
     span(offset, offset + (length - 1))
 }
 

@@ -3,7 +3,7 @@
 
 use crate::block::{Block, Reading};
 use crate::dearest::Dear;
-use crate::row::{span, stretch, Line, Pair, Row, Span};
+use crate::row::{span, Line, Pair, Row, Span};
 use crate::row_compare::{check_bounds, check_dearest, check_laid, Bounds, RowDifference};
 use crate::row_programs::Rows;
 
@@ -78,10 +78,13 @@ pub fn laid_as_told(name: String, width: u16, told: Vec<Told>) -> Laid {
     let mut due = Vec::new();
     let spans = told.iter().map(|one| one.0).collect();
     for (number, (_, looked, lit, pairs)) in (1..).zip(told) {
-        let unlit: Vec<Span> = pairs.iter().map(|&pair| stretch(pair)).collect();
-        for (column, cell) in (0..).zip(&mut row.cells) {
-            let is_unlit = unlit.iter().any(|stretch| stretch.has(column));
-            match (is_unlit, *cell) {
+        let mut unlit = vec![false; usize::from(width)];
+        for pair in &pairs {
+            let [offset, length] = pair.map(usize::from);
+            unlit[offset..offset + length].fill(true);
+        }
+        for (cell, unlit) in row.cells.iter_mut().zip(unlit) {
+            match (unlit, *cell) {
                 (true, _) => *cell = 0,
                 (false, 0) => *cell = number as u16,
                 (false, _) => (),

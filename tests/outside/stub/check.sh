@@ -1,6 +1,7 @@
 #!/bin/sh
-# The outside check against a library of wrong answers: each run must fail, and
-# name the differences it should. Leaves nothing behind but build products.
+# The outside check against a library of wrong answers, and against programs that
+# lay spans wrongly: each run must fail, and name the differences it should.
+# Leaves nothing behind but build products.
 set -eu
 here=$(cd "$(dirname "$0")" && pwd)
 work=$(mktemp -d)
@@ -64,7 +65,7 @@ fi
 "$differential" --no-such-word 2>/dev/null && exit 1
 
 # The programs of rows: the model in their place, and with it wrong in one way.
-laying="$built/release/laying" selftest=$PWD/$built/release/selftest
+laying="$built/release/laying" selftest=$(cd "$built/release" && pwd)/selftest
 # rows NAME COMMAND: a program in the folder of this run
 rows() {
     printf '#!/bin/sh\n%s\n' "$2" >"$work/$1"
