@@ -132,7 +132,7 @@ fn counted_up(block: &mut Block, key: &str) -> Reading<Vec<(u64, u64)>> {
     (0..=LAST).map(told).collect()
 }
 
-/// "`width`, then in order `span I J looked L lit N pairs o:l ...`"
+/// The row's width, then a line for each span in order.
 fn spans(block: &mut Block, name: String) -> Reading<Laid> {
     let width = block.number("width")?;
     let mut told = vec![span_line(block, width)?];
