@@ -30,7 +30,7 @@ cat "$log"
 
 tests/bills.sh "$ringbill"
 tests/failures.sh "$ringbill"
-(cd tests/outside && cargo run --quiet --release --offline --features library --bin laying -- --sequences $((cases / 5)) --seed "$seed" --rows-laid "$programs/rows_laid" --rows-dearest "$programs/rows_dearest")
+(cd tests/outside && cargo run --quiet --release --offline --features library --bin laying -- --sequences $((cases / 5)) --seed "$seed" --rows-laid "$programs/rows_laid" --rows-worst "$programs/rows_worst")
 tests/memory.sh 100 "$seed" >"$log" 2>&1 &
 (cd tests/outside && cargo run --quiet --release --offline --features library --bin differential -- --cases "$cases" --seed "$seed" --ringbill "$ringbill")
 wait $! && status=0 || status=$?

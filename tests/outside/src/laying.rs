@@ -2,7 +2,7 @@
 //! sequence by sequence.
 //!
 //!     laying [--sequences N] [--seed S] [--only K]
-//!            --rows-laid PROGRAM --rows-dearest PROGRAM
+//!            --rows-laid PROGRAM --rows-worst PROGRAM
 //!
 //! `--only` runs sequence K of the seed alone. Besides the N sequences of a seed
 //! there are those that no seed changes. A run in which a kind of span was never
@@ -27,7 +27,7 @@ struct Options {
 }
 
 fn options() -> Options {
-    let (mut laid, mut dearest) = (None, None);
+    let (mut laid, mut worst) = (None, None);
     let (mut sequences, mut seed, mut only) = (400, 1, None);
     let mut words = env::args().skip(1);
     while let Some(word) = words.next() {
@@ -37,7 +37,7 @@ fn options() -> Options {
             "--seed" => seed = number(&value),
             "--only" => only = Some(number(&value)),
             "--rows-laid" => laid = Some(value),
-            "--rows-dearest" => dearest = Some(value),
+            "--rows-worst" => worst = Some(value),
             _ => usage(&word),
         }
     }
@@ -47,7 +47,7 @@ fn options() -> Options {
         only,
         programs: Programs {
             laid: laid.unwrap_or_else(|| usage("no --rows-laid")),
-            dearest: dearest.unwrap_or_else(|| usage("no --rows-dearest")),
+            worst: worst.unwrap_or_else(|| usage("no --rows-worst")),
         },
     }
 }

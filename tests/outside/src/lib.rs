@@ -1,7 +1,7 @@
 //! An outside check of the lining survey, in exact whole numbers.
 //!
 //! The model: `vector`, `axes`, `scene`, `gate`, `ray`, `survey`, `bill`,
-//! `stations`; beside it `walk`; and of one row `row`, `dearest`.
+//! `stations`; beside it `walk`; and of one row `row`, `worst`.
 //! The cases: `random`, `polygon`, `soup`, `works`, `hinge`, `tree`, `loose`,
 //! `mount`, `view`, `generate`, `damage`, `stored`, `header`, `outer`, `pairs`;
 //! of two cuttings `cut`, `panels`, `planner`, `along`, `cuttings`, and `cover`.
@@ -33,7 +33,6 @@ pub mod cut;
 pub mod cuttings;
 pub mod cuttings_check;
 pub mod damage;
-pub mod dearest;
 pub mod differential;
 pub mod fault;
 pub mod gate;
@@ -78,6 +77,7 @@ pub mod vector;
 pub mod view;
 pub mod walk;
 pub mod works;
+pub mod worst;
 pub mod wrong_booking;
 pub mod wrong_buffers;
 pub mod wrong_camera;

@@ -2,10 +2,10 @@
 //! they look at, the maker's spans; and the blocks of stored cases that tell them.
 
 use crate::block::{Block, Reading};
-use crate::dearest::Dear;
 use crate::row::{span, Line, Pair, Row, Span};
-use crate::row_compare::{check_bounds, check_dearest, check_laid, Bounds, RowDifference};
+use crate::row_compare::{check_bounds, check_laid, check_worst, Bounds, RowDifference};
 use crate::row_programs::Rows;
+use crate::worst::WorstSpan;
 
 /// Spans, and the line due for each.
 #[derive(Clone)]
@@ -20,7 +20,7 @@ pub struct Laid {
 pub struct Made {
     pub name: String,
     pub numbers: Vec<u64>,
-    pub due: Vec<Dear>,
+    pub due: Vec<WorstSpan>,
 }
 
 pub enum RowCase {
@@ -50,7 +50,7 @@ impl RowCase {
         match self {
             RowCase::Spans(laid) => check_laid(rows, laid.width, &laid.spans, &laid.due),
             RowCase::Bounds(bounds) => check_bounds(rows, bounds),
-            RowCase::Made(made) => check_dearest(rows, &made.numbers, &made.due),
+            RowCase::Made(made) => check_worst(rows, &made.numbers, &made.due),
         }
     }
 }
@@ -61,7 +61,7 @@ impl Rows for Laid {
         self.due.iter().map(|line| format!("{line}\n")).collect()
     }
 
-    fn dearest(&self, _: &[u64]) -> String {
+    fn worst(&self, _: &[u64]) -> String {
         String::new()
     }
 }

@@ -1,7 +1,6 @@
 //! Rows without the programs: the stations, the stored cases and the sequences on
 //! the model, and the faults that each of them sees.
 
-use crate::dearest::{bound, counted, sum_of_bounds, Dear, LAID, WIDTH};
 use crate::random::Random;
 use crate::row::{laid, Span};
 use crate::row_cases::{Made, RowCase};
@@ -11,6 +10,7 @@ use crate::row_programs::Rows;
 use crate::row_spans::{constructed, sequence, Sequence};
 use crate::row_tally::RowTally;
 use crate::row_trials::{hold_rows, row_suites};
+use crate::worst::{bound, counted, sum_of_bounds, WorstSpan, LAID, WIDTH};
 use crate::wrong_makers::{columns_modulo_256, even_columns, from_the_right};
 
 /// Numbers whose spans are too many to be laid, at the ends of what machines
@@ -47,7 +47,7 @@ fn numbers(seed: u64) -> RowCase {
 fn asked(name: String, numbers: Vec<u64>) -> RowCase {
     RowCase::Made(Made {
         name,
-        due: numbers.iter().map(|&k| Dear::of(k)).collect(),
+        due: numbers.iter().map(|&k| WorstSpan::of(k)).collect(),
         numbers,
     })
 }

@@ -1,8 +1,8 @@
-//! What programs tell of spans and of the dearest ones, against what is due.
+//! What programs tell of spans and of the worst ones, against what is due.
 
-use crate::dearest::{bound, counted, Dear, WIDTH};
 use crate::row::{Line, Span};
 use crate::row_programs::Rows;
+use crate::worst::{bound, counted, WorstSpan, WIDTH};
 
 #[derive(Clone, Copy, Debug, PartialEq, Eq, PartialOrd, Ord)]
 pub enum RowDifference {
@@ -21,7 +21,7 @@ pub enum RowDifference {
     /// The sum told of the maker's spans is not that of the bounds.
     Reach,
     /// The maker's spans, laid, do not look at as many as their bounds.
-    Dearest,
+    Worst,
 }
 
 use RowDifference::*;
@@ -87,8 +87,8 @@ pub fn first_apart(said: &str, due: &[Line]) -> Option<(String, String)> {
 }
 
 /// The maker asked for some numbers, held to the spans and the sums due.
-pub fn check_dearest(rows: &dyn Rows, numbers: &[u64], due: &[Dear]) -> Vec<RowDifference> {
-    let Some(said) = dearest(rows, numbers) else {
+pub fn check_worst(rows: &dyn Rows, numbers: &[u64], due: &[WorstSpan]) -> Vec<RowDifference> {
+    let Some(said) = worst(rows, numbers) else {
         return vec![Form];
     };
     let mut found = Vec::new();
@@ -106,8 +106,8 @@ pub fn check_dearest(rows: &dyn Rows, numbers: &[u64], due: &[Dear]) -> Vec<RowD
 }
 
 /// What is told of each number; None where there is not a line for each.
-fn dearest(rows: &dyn Rows, numbers: &[u64]) -> Option<Vec<Dear>> {
-    let said = lines(&rows.dearest(numbers), Dear::read)?;
+fn worst(rows: &dyn Rows, numbers: &[u64]) -> Option<Vec<WorstSpan>> {
+    let said = lines(&rows.worst(numbers), WorstSpan::read)?;
     (said.len() == numbers.len()).then_some(said)
 }
 
@@ -138,7 +138,7 @@ struct Told {
 impl Told {
     fn up_to(rows: &dyn Rows, last: u64) -> Option<Told> {
         let numbers: Vec<u64> = (0..=last).collect();
-        let said = dearest(rows, &numbers)?;
+        let said = worst(rows, &numbers)?;
         let spans: Vec<Span> = said.iter().map(|dear| dear.span).collect();
         let reaches = said.iter().map(|dear| dear.reach);
         Some(Told {
@@ -171,7 +171,7 @@ pub fn check_bounds(rows: &dyn Rows, due: &Bounds) -> Vec<RowDifference> {
     };
     let mut found = Vec::new();
     let mut hold = |said: [u64; 2], due: u64| {
-        let which = said.into_iter().zip([Reach, Dearest]);
+        let which = said.into_iter().zip([Reach, Worst]);
         found.extend(which.filter(|(said, _)| *said != due).map(|(_, d)| d));
     };
     for &(k, bound) in &due.bounds {

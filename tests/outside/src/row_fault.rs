@@ -1,9 +1,9 @@
 //! The two row programs made of the model, right or with one fault each.
 
-use crate::dearest::{made, Dear, LAID, WIDTH};
 use crate::row::{Line, Row, Span};
 use crate::row_compare::RowDifference;
 use crate::row_programs::Rows;
+use crate::worst::{made, WorstSpan, LAID, WIDTH};
 use crate::wrong_looks::LOOKS;
 use crate::wrong_makers::{MAKERS, SUMS};
 use crate::wrong_rows::{LINES, WRITES};
@@ -119,11 +119,11 @@ impl Rows for Laying {
         }
     }
 
-    fn dearest(&self, numbers: &[u64]) -> String {
+    fn worst(&self, numbers: &[u64]) -> String {
         let laid = numbers.iter().filter(|&&k| k <= LAID);
         // One more, for a sum that goes too far.
         let looks = self.looks(laid.max().map_or(0, |most| most + 1));
-        let told = |&k: &u64| Dear {
+        let told = |&k: &u64| WorstSpan {
             span: (self.maker)(k),
             reach: (k <= LAID).then(|| (self.sum)(&looks, k as usize)),
         };

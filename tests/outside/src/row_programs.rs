@@ -4,19 +4,19 @@ use crate::program::printed;
 use crate::row::{span, Span};
 use crate::scene::u16_at;
 
-/// Who lays spans and makes the dearest ones; the answers are text as the
+/// Who lays spans and makes the worst ones; the answers are text as the
 /// programs write it.
 pub trait Rows {
     /// A line for each of the spans, laid in order on a fresh row.
     fn laid(&self, width: u16, spans: &[Span]) -> String;
     /// A line for each number k, of the maker's k-th span.
-    fn dearest(&self, numbers: &[u64]) -> String;
+    fn worst(&self, numbers: &[u64]) -> String;
 }
 
-/// `rows_laid` and `rows_dearest`, by their paths.
+/// `rows_laid` and `rows_worst`, by their paths.
 pub struct Programs {
     pub laid: String,
-    pub dearest: String,
+    pub worst: String,
 }
 
 impl Rows for Programs {
@@ -24,8 +24,8 @@ impl Rows for Programs {
         printed(&self.laid, &laid_input(width, spans))
     }
 
-    fn dearest(&self, numbers: &[u64]) -> String {
-        printed(&self.dearest, &dearest_input(numbers))
+    fn worst(&self, numbers: &[u64]) -> String {
+        printed(&self.worst, &worst_input(numbers))
     }
 }
 
@@ -36,7 +36,7 @@ fn laid_input(width: u16, spans: &[Span]) -> Vec<u8> {
     numbers.flat_map(u16::to_le_bytes).collect()
 }
 
-fn dearest_input(numbers: &[u64]) -> Vec<u8> {
+fn worst_input(numbers: &[u64]) -> Vec<u8> {
     numbers.iter().flat_map(|k| k.to_le_bytes()).collect()
 }
 
@@ -47,8 +47,8 @@ pub fn written_for_laid(rows: &dyn Rows, input: &[u8]) -> String {
     rows.laid(u16_at(input, 0), &spans)
 }
 
-pub fn written_for_dearest(rows: &dyn Rows, input: &[u8]) -> String {
+pub fn written_for_worst(rows: &dyn Rows, input: &[u8]) -> String {
     let number = |bytes: &[u8]| u64::from_le_bytes(bytes.try_into().expect("8 bytes"));
     let numbers: Vec<u64> = input.chunks_exact(8).map(number).collect();
-    rows.dearest(&numbers)
+    rows.worst(&numbers)
 }

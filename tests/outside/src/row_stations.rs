@@ -1,10 +1,10 @@
 //! Stations of one row, every number worked out by hand: spans over two
 //! stretches, on a full row and beyond the width, and the maker's numbers.
 
-use crate::dearest::Dear;
 use crate::row::{span, Pair, Span};
 use crate::row_cases::{laid_as_told, Made, RowCase, Told};
 use crate::row_compare::Bounds;
+use crate::worst::WorstSpan;
 
 /// A name, a span, what it looks at, what it lights and the pairs after it.
 type Station = (&'static str, Span, usize, usize, &'static [Pair]);
@@ -85,7 +85,7 @@ pub fn row_stations() -> Vec<RowCase> {
     all.extend(ON_A_FULL_ROW.iter().map(|one| after(full(), one)));
     all.extend([1, 255, 256].map(at_once));
     all.extend([0, 257, 65_535].map(no_row));
-    all.extend([dearest(), reaching()]);
+    all.extend([worst(), reaching()]);
     all
 }
 
@@ -113,7 +113,7 @@ fn no_row(width: u16) -> RowCase {
 }
 
 /// The maker's spans are single columns; what the first so many look at.
-fn dearest() -> RowCase {
+fn worst() -> RowCase {
     let told = [
         (0, 1, Some(0)),
         (1, 1, Some(1)),
@@ -126,7 +126,7 @@ fn dearest() -> RowCase {
         (1_000, 255, Some(119_872)),
         (u64::MAX, 255, None),
     ];
-    let due = told.map(|(_, column, reach)| Dear {
+    let due = told.map(|(_, column, reach)| WorstSpan {
         span: span(column, column),
         reach,
     });

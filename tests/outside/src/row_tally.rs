@@ -3,11 +3,11 @@
 
 use std::collections::BTreeMap;
 
-use crate::dearest::bound;
 use crate::row::{laid, Row, Span};
 use crate::row_compare::{check_laid, RowDifference};
 use crate::row_programs::Rows;
 use crate::row_spans::Sequence;
+use crate::worst::bound;
 
 /// A span about to be laid, the k-th, with the stretches as they are.
 pub struct Tried<'a> {

@@ -3,7 +3,7 @@
 //! `selftest` runs the paper's stations and the stored cases on the model, the
 //! model against itself and the comparison against faulty libraries.
 //! `selftest --bill` reads an input of `ringbill` and prints what the model
-//! makes of it, and so do `selftest --rows-laid` and `selftest --rows-dearest`
+//! makes of it, and so do `selftest --rows-laid` and `selftest --rows-worst`
 //! with an input of the programs of rows.
 
 use std::io::Read;
@@ -25,7 +25,7 @@ use outside::random::Random;
 use outside::rings::covered;
 use outside::row_check::rows_hold;
 use outside::row_fault::Laying;
-use outside::row_programs::{written_for_dearest, written_for_laid};
+use outside::row_programs::{written_for_laid, written_for_worst};
 use outside::stations::stations;
 use outside::steps::steps_agree;
 use outside::survey::is_read_otherwise;
@@ -38,9 +38,7 @@ fn main() {
         None => (),
         Some("--bill") => return print(bill),
         Some("--rows-laid") => return print(|input| written_for_laid(&Laying::right(), input)),
-        Some("--rows-dearest") => {
-            return print(|input| written_for_dearest(&Laying::right(), input))
-        }
+        Some("--rows-worst") => return print(|input| written_for_worst(&Laying::right(), input)),
         Some(word) => {
             eprintln!("selftest: not understood: {word}");
             exit(2)

@@ -1,13 +1,13 @@
 //! Makers whose spans do not reach the bounds, or are others than the product's,
 //! and wrong sums of what they look at.
 
-use crate::dearest::{made, sum_of_bounds, WIDTH};
 use crate::row::{span, Span};
 use crate::row_compare::RowDifference::{self, *};
 use crate::row_fault::{Maker as Make, Sum};
+use crate::worst::{made, sum_of_bounds, WIDTH};
 
 /// The bounds are not reached: by the sums told and by laying the spans.
-const SHORT: &[RowDifference] = &[Maker, Reach, Dearest];
+const SHORT: &[RowDifference] = &[Maker, Reach, Worst];
 /// Other spans that reach them as well, or of numbers too great to be laid.
 const OTHER: &[RowDifference] = &[Maker];
 
@@ -50,7 +50,7 @@ pub const MAKERS: &[(&str, &[RowDifference], Make)] = &[
         0 => span(0, 0),
         _ => made(k),
     }),
-    ("no column for k of 0", &[Maker, Dearest], |k| match k {
+    ("no column for k of 0", &[Maker, Worst], |k| match k {
         0 => span(1, 0),
         _ => made(k),
     }),

@@ -72,30 +72,30 @@ rows() {
     chmod +x "$work/$1"
 }
 rows laid "$selftest --rows-laid"
-rows dearest "$selftest --rows-dearest"
+rows worst "$selftest --rows-worst"
 # laid_so CODE LAID DEAREST WORDS: wants this exit code, and these words in the report
 laid_so() {
     got=0
-    "$laying" --sequences 100 --seed 3 --rows-laid "$work/$2" --rows-dearest "$work/$3" \
+    "$laying" --sequences 100 --seed 3 --rows-laid "$work/$2" --rows-worst "$work/$3" \
         >"$work/report" 2>&1 || got=$?
     [ "$got" = "$1" ] && grep -q "$4" "$work/report" ||
         { echo "rows, $2 $3: exit $got, not $1, or not said: $4"; tail -n 40 "$work/report"; exit 1; }
     echo "rows, $2 $3: exit $got"
 }
-laid_so 0 laid dearest ' 0 differences$'
+laid_so 0 laid worst ' 0 differences$'
 rows silent 'cat >/dev/null'
-laid_so 1 silent dearest ' differences: Form$'
+laid_so 1 silent worst ' differences: Form$'
 laid_so 1 laid silent '^rows: .* differences: \[Form\]'
 rows ended "$selftest --rows-laid; exit 3"
-laid_so 1 ended dearest ' differences: Form$'
+laid_so 1 ended worst ' differences: Form$'
 rows looks "$selftest --rows-laid | sed 's/^\\([0-9]*\\) 128 /\\1 127 /'"
-laid_so 1 looks dearest ' differences: Looked$'
+laid_so 1 looks worst ' differences: Looked$'
 rows wide "$selftest --rows-laid | sed 's/^1 0 /1 1 /'"
-laid_so 1 wide dearest '^DIFFERS '
-rows sums "$selftest --rows-dearest | sed 's/ 8256\$/ 8255/'"
+laid_so 1 wide worst '^DIFFERS '
+rows sums "$selftest --rows-worst | sed 's/ 8256\$/ 8255/'"
 laid_so 1 laid sums '^rows: the maker.* differences: \[Reach\]'
 rm "$work/laid"
-laid_so 101 laid dearest 'laid: No such file'
+laid_so 101 laid worst 'laid: No such file'
 "$laying" --no-such-word 1 2>/dev/null && exit 1
 "$laying" --seed 1 2>/dev/null && exit 1
 echo "stub: every wrong answer was seen"

@@ -1,4 +1,4 @@
-//! The dearest row: the bounds on what spans look at, and the maker's spans,
+//! The worst case: the bounds on what spans look at, and the maker's spans,
 //! which reach them.
 
 use std::fmt;
@@ -37,24 +37,24 @@ pub fn made(k: u64) -> Span {
 /// What is told of a number k: the maker's k-th span and, where k is not too
 /// great for it, what the first k spans look at together.
 #[derive(Clone, Copy, Debug, PartialEq, Eq)]
-pub struct Dear {
+pub struct WorstSpan {
     pub span: Span,
     pub reach: Option<u64>,
 }
 
-impl Dear {
-    pub fn of(k: u64) -> Dear {
-        Dear {
+impl WorstSpan {
+    pub fn of(k: u64) -> WorstSpan {
+        WorstSpan {
             span: made(k),
             reach: (k <= LAID).then(|| sum_of_bounds(k)),
         }
     }
 
     /// None where the text is not just in the form below.
-    pub fn read(text: &str) -> Option<Dear> {
+    pub fn read(text: &str) -> Option<WorstSpan> {
         let told: Vec<u64> = numbers(text)?;
         let column = |k: usize| u16::try_from(*told.get(k)?).ok();
-        let dear = Dear {
+        let dear = WorstSpan {
             span: span(column(0)?, column(1)?),
             reach: told.get(2).copied(),
         };
@@ -62,7 +62,7 @@ impl Dear {
     }
 }
 
-impl fmt::Display for Dear {
+impl fmt::Display for WorstSpan {
     fn fmt(&self, f: &mut fmt::Formatter) -> fmt::Result {
         write!(f, "{} {}", self.span.first, self.span.last)?;
         self.reach.map_or(Ok(()), |reach| write!(f, " {reach}"))
