@@ -113,7 +113,7 @@ impl Laying {
 
 impl Rows for Laying {
     fn laid(&self, width: u16, spans: &[Span]) -> String {
-        match (1..=WIDTH).contains(&width) {
+        match width <= WIDTH {
             true => self.lines(width, spans).map(|l| (self.write)(&l)).collect(),
             false => String::new(),
         }

@@ -84,7 +84,8 @@ pub fn row_stations() -> Vec<RowCase> {
     let mut all: Vec<RowCase> = OVER_TWO.iter().map(|one| after(two(), one)).collect();
     all.extend(ON_A_FULL_ROW.iter().map(|one| after(full(), one)));
     all.extend([1, 255, 256].map(at_once));
-    all.extend([0, 257, 65_535].map(no_row));
+    all.push(no_column());
+    all.extend([257, 65_535].map(no_row));
     all.extend([worst(), reaching()]);
     all
 }
@@ -105,7 +106,13 @@ fn at_once(width: u16) -> RowCase {
     ))
 }
 
-/// Nothing is told of a row that is 0 wide, or above 256.
+/// A row 0 wide has no stretch, and no column that is unlit.
+fn no_column() -> RowCase {
+    let told = [span(0, 0), span(0, 3), span(1, 0)].map(|over| (over, 0, 0, vec![]));
+    RowCase::Spans(laid_as_told("a row 0 wide".to_string(), 0, told.to_vec()))
+}
+
+/// Nothing is told of a row that is above 256 wide.
 fn no_row(width: u16) -> RowCase {
     let mut laid = laid_as_told(format!("a row {width} wide"), width, Vec::new());
     laid.spans = vec![span(0, 3), span(1, 0)];
