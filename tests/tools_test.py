@@ -1,14 +1,16 @@
 """Tests of tools/: worked scenes, turned cameras, joints, cells by patch, round trips, the gate,
-sample rings, two cuttings of one ring, pictures, the commands.
+sample rings, two cuttings of one ring, spans laid on rows, pictures, the commands.
 
 Run by tools.sh. Each case is counted; a case that fails is named.
 """
 
 import collections
+import copy
 import itertools
 import math
 import os
 import random
+import re
 import struct
 import subprocess
 import sys
@@ -24,6 +26,7 @@ import draw  # noqa: E402
 import gate  # noqa: E402
 import rays  # noqa: E402
 import ring  # noqa: E402
+import rows as laying  # noqa: E402
 import scene  # noqa: E402
 
 tally = collections.Counter()
@@ -1238,6 +1241,168 @@ def test_full_scenes():
     check("a ring with other numbers", len(other) > 200 and all(other.values()))
 
 
+# --- spans laid on rows --------------------------------------------------------------------------
+
+# On a row 16 wide whose segments are the columns 4 to 11 and 14 to 15: spans, and how many of the
+# two each looks at.
+LOOKS = ((1, "1-2 2-6 6-8 2-11"),
+         (1, "6-11"),
+         (2, "12-13"),
+         (2, "2-14 6-14 12-14 15-15"),
+         (2, "14-20 16-65535"),
+         (0, "9-8 15-0"))
+
+# A number k, the column of the maker's k-th span, and what the first k look at together.
+WORST = ((0, 1, 0), (1, 1, 1), (2, 3, 3), (3, 5, 6), (127, 253, 8128), (128, 255, 8256),
+         (129, 255, 8384), (300, 255, 30272), (1000, 255, 119872), (65535, 255, 8380352))
+
+# The spans that the program `rows_demo` lays, each on the row above; the last on what the one
+# before it left.
+DEMO = "1-2 2-6 6-8 2-11 6-11 2-14 6-14 12-14 2-12 12-13 15-15 14-20 16-65535 9-8 0-15 3-5"
+
+
+def two_segments():
+    """The row above, its other columns lit by panel 1."""
+    row = laying.Row(16)
+    laying.lay(row, 0, 3, 1)
+    laying.lay(row, 12, 13, 1)
+    return row
+
+
+def test_looks():
+    check("two segments", laying.segments(two_segments().unlit), [(4, 11), (14, 15)])
+    for looked, words in LOOKS:
+        for word in words.split():
+            check("%s looks at" % word, laying.lay(two_segments(), *laying.columns(word), 2)[0],
+                  looked)
+    full = two_segments()
+    check("all lit", laying.lay(full, 4, 15, 2), (2, 10, True))
+    for word in ("0-0", "3-5", "15-15", "0-65535", "9-8"):
+        check("%s on a full row" % word, laying.lay(full, *laying.columns(word), 3), (0, 0, True))
+    check("no column", laying.laid_lines(0, [(0, 0), (3, 9), (1, 0)]),
+          ["1 0 0 1: |", "2 0 0 1: |", "3 0 0 1: |"])
+    check("one column", laying.laid_lines(1, [(1, 0), (1, 7), (0, 0)]),
+          ["1 0 0 0: 0 1 | 0", "2 1 0 0: 0 1 | 0", "3 1 1 1: | 3"])
+
+
+def painted(cells, first, last, panel):
+    """The cells after a span: those of its columns that held none hold its panel."""
+    return [panel if first <= column <= last and cell == 0 else cell
+            for column, cell in enumerate(cells)]
+
+
+def drawn_row(cells, first, last):
+    """(looked, lit) of a span by a row drawn as text, a dot where unlit."""
+    if last < first:
+        return 0, 0
+    text = "".join("#" if cell else "." for cell in cells)
+    ends = [found.end() for found in re.finditer(r"\.+", text)]
+    before = [end for end in ends if end <= last]
+    return min(len(before) + 1, len(ends)), text[first:last + 1].count(".")
+
+
+def test_narrow_rows():
+    """Every span on every row 6 wide, whichever of its columns are lit."""
+    wrong = []
+    for lit in itertools.product((0, 7), repeat=6):
+        for first, last in itertools.product(range(9), repeat=2):
+            row = laying.Row(6)
+            for column in (column for column, cell in enumerate(lit) if cell):
+                laying.lay(row, column, column, 7)
+            told, cells = laying.lay(row, first, last, 2), painted(lit, first, last, 2)
+            if (told, row.cells) != ((*drawn_row(lit, first, last), 0 not in cells), cells):
+                wrong.append((lit, first, last))
+    check("rows 6 wide", wrong, [])
+
+
+def test_worst_case():
+    found = laying.worst_looks()
+    for k, column, looks in WORST:
+        check("the maker's span %d" % k, laying.worst_span(k), (column, column))
+        check("the first %d together" % k, laying.together(found, k), looks)
+        check("the line of %d" % k, laying.worst_lines([k]), ["%d %d %d" % (column, column, looks)])
+    for k in (65536, 2 ** 32, 2 ** 64 - 1):
+        check("the line of %d" % k, laying.worst_lines([k]), ["255 255"])
+    check("other numbers beside", laying.worst_lines([3, 70000, 0]), ["5 5 6", "255 255", "1 1 0"])
+    row = laying.Row(256)
+    looked = [laying.lay(row, *laying.worst_span(k), 1)[0] for k in range(1, 1001)]
+    check("each laid", [laying.together(found, k) for k in range(1001)],
+          [0, *itertools.accumulate(looked)])
+
+
+def due_lines(width, lines):
+    """(spans, the lines due for them) of a stored block of spans."""
+    spans, due, cells = [], [], [0] * width
+    for number, line in enumerate(lines, 1):
+        _, first, last, _, looked, _, lit, _, *pairs = line.split()
+        spans.append((int(first), int(last)))
+        cells = painted(cells, *spans[-1], number)
+        numbers = [part for pair in pairs for part in pair.split(":")]
+        due.append(" ".join([str(number), looked, lit, "0:" if pairs else "1:", *numbers, "|",
+                             *map(str, cells)]))
+    return spans, due
+
+
+def stored_blocks(kind):
+    """The blocks of a kind in the stored cases about rows: each its lines below the second."""
+    blocks = stored("tests/cases/F-6.txt").decode().strip().split("\n\n")[1:]
+    return [block.splitlines()[2:] for block in blocks if block.startswith(kind + " ")]
+
+
+def test_stored_spans():
+    blocks, laid = stored_blocks("spans"), 0
+    for place, (width, *lines) in enumerate(blocks, 1):
+        width = int(width.removeprefix("width "))
+        spans, due = due_lines(width, lines)
+        told = laying.laid_lines(width, spans)
+        check("stored row %d: spans" % place, len(told), len(due))
+        for number, (one, wanted) in enumerate(zip(told, due), 1):
+            check("stored row %d: span %d" % (place, number), one, wanted)
+        laid += len(spans)
+    check("stored spans", (len(blocks), laid), (60, 832))
+
+
+def test_stored_bounds():
+    lines, = stored_blocks("bounds")
+    found, row = laying.worst_looks(), laying.Row(256)
+    looked = [laying.lay(row, *laying.worst_span(k), 1)[0] for k in range(1, 301)]
+    kinds = collections.Counter()
+    for line in lines:
+        kind, *numbers = line.split()
+        k, number = map(int, numbers)
+        told = looked[max(k, 1) - 1] if kind == "bound" else laying.together(found, k)
+        check("stored: " + line, told, number)
+        kinds[kind] += 1
+    check("stored bounds", kinds, {"bound": 301, "reach": 301})
+
+
+def test_rows_demo():
+    told = []
+    for number, word in enumerate(DEMO.split(), 1):
+        row = two_segments() if number < 16 else row
+        told.append(laying.row_line(number, laying.lay(row, *laying.columns(word), 2), row))
+    check("rows_demo", text_of(*told), stored("crates/rows_demo/stdout").decode())
+
+
+def test_rows_narrow():
+    """Segments as narrow and as many as can be; the program's lines tell the row alone."""
+    row, rows = laying.Row(256), []
+
+    def shown(row):
+        return laying.row_line(0, (0, 0, 0), row).split(":")[1]
+    for panel, first in ((1, 3), (2, 1)):
+        for column in range(first, 256, 4):
+            laying.lay(row, column, column, panel)
+        rows.append(shown(row))
+    other = copy.deepcopy(row)
+    for one, word in ((row, "0-255"), (other, "20-20"), (other, "39-41"), (other, "59-60"),
+                      (other, "80-81"), (other, "0-255")):
+        laying.lay(one, *laying.columns(word), 3)
+        rows.append(shown(one))
+    lines = stored("crates/rows_narrow/stdout").decode().splitlines()
+    check("rows_narrow", rows, [line.split(":")[1] for line in lines])
+
+
 # --- pictures ------------------------------------------------------------------------------------
 
 def png_chunks(data):
@@ -1289,12 +1454,17 @@ def test_pictures():
 
 # --- the commands --------------------------------------------------------------------------------
 
-def command(name, *words, data=None):
-    """(exit status, standard output) of a tool."""
+def ended(name, *words, data=None):
+    """A run of a tool: exit status, standard output, standard error."""
     path = os.path.join(ROOT, "tools", name)
     done = subprocess.run([sys.executable, path, *words], input=data, capture_output=True,
                           check=False)
-    return done.returncode, done.stdout
+    return done.returncode, done.stdout, done.stderr
+
+
+def command(name, *words, data=None):
+    """(exit status, standard output) of a tool."""
+    return ended(name, *words, data=data)[:2]
 
 
 def test_scene_command():
@@ -1398,6 +1568,74 @@ def test_cover_commands():
     for words in ([], ["-"], ["-", "-"], ["--scene", "-", "-"], ["--scene", "-"],
                   ["-", "no such file"], ["-", "-", "-"], ["-", "-", "--scene"]):
         check("misused: cover.py " + " ".join(words), command("cover.py", *words, data=s), (2, b""))
+
+
+def stored_words():
+    """(program, the words that ask rows.py for its stored input) of the two programs."""
+    laid, worst = stored("crates/rows_laid/stdin"), stored("crates/rows_worst/stdin")
+    spans = ["%d-%d" % span for span in struct.iter_unpack("<HH", laid[2:])]
+    numbers = ["%d" % number for number in struct.iter_unpack("<Q", worst)]
+    return (("rows_laid", [str(laid[0] + 256 * laid[1]), *spans]),
+            ("rows_worst", ["--worst", *numbers]))
+
+
+def test_rows_command():
+    for program, words in stored_words():
+        given, due = (stored("crates/%s/%s" % (program, name)) for name in ("stdin", "stdout"))
+        check("rows.py as " + program, ended("rows.py", *words), (0, due, b""))
+        check("rows.py --bytes, " + program, ended("rows.py", "--bytes", "-", *words),
+              (0, given, b""))
+        check("rows.py, bytes last, " + program, command("rows.py", *words, "--bytes", "-"),
+              (0, given))
+        with tempfile.TemporaryDirectory() as folder:
+            name = os.path.join(folder, "bytes")
+            check("rows.py --bytes, a file, " + program,
+                  ended("rows.py", "--bytes", name, *words), (0, b"", b""))
+            check("the same bytes, " + program, stored(name), given)
+    check("rows.py, two-byte numbers", command("rows.py", "--bytes", "-", "256", "513-65535"),
+          (0, bytes.fromhex("0001 0102 ffff")))
+    check("rows.py, eight-byte numbers",
+          command("rows.py", "--worst", str(2 ** 64 - 2), "258", "--bytes", "-"),
+          (0, bytes.fromhex("feffffffffffffff 0201000000000000")))
+
+
+# Words that rows.py cannot take, and what it says.
+ROWS_MISUSED = (("", "usage: rows.py [--bytes OUT] WIDTH I-J [I-J ...]"),
+                ("16", "usage: "), ("--worst", "usage: "), ("--bytes -", "usage: "),
+                ("--bytes - --worst", "usage: "),
+                ("--bytes", "rows.py: files after --bytes: 1 more needed"),
+                ("16 0-3 --bytes", "rows.py: files after --bytes: 1 more needed"),
+                ("257 0-3", "rows.py: 257 is not from 0 to 256"),
+                ("-1 0-3", "rows.py: -1 is not from 0 to 256"),
+                ("0-3 16", "rows.py: '0-3' is not a whole number"),
+                ("16 3", "rows.py: '3' is not a span of two columns"),
+                ("16 0-3 1-2-3", "rows.py: '1-2-3' is not a span of two columns"),
+                ("16 0-3 --worst", "rows.py: '--worst' is not a span of two columns"),
+                ("16 3-", "rows.py: '' is not a whole number"),
+                ("16 a-3", "rows.py: 'a' is not a whole number"),
+                ("16 0-65536", "rows.py: 65536 is not from 0 to 65535"),
+                ("--bytes - 16 65536-0", "rows.py: 65536 is not from 0 to 65535"),
+                ("--worst 1 -1", "rows.py: -1 is not from 0 to 18446744073709551615"),
+                ("--worst 18446744073709551616", "rows.py: 18446744073709551616 is not from 0 "),
+                ("--worst 0-3", "rows.py: '0-3' is not a whole number"),
+                ("16" + 4097 * " 0-3", "rows.py: 4097 spans, more than 4096"),
+                ("--worst" + 1025 * " 1", "rows.py: 1025 numbers, more than 1024"),
+                ("--bytes /dev/null/none 16 0-3", "rows.py: [Errno "))
+
+
+def test_rows_misused():
+    for words, said in ROWS_MISUSED:
+        status, shown, told = ended("rows.py", *words.split())
+        check("misused: rows.py " + words[:40], (status, shown, told.decode()[:len(said)]),
+              (1, b"", said))
+    status, shown = command("rows.py", "0", *4096 * ["0-3"])
+    check("rows.py, 4,096 spans", (status, shown.splitlines()[-1]), (0, b"4096 0 0 1: |"))
+    check("rows.py, 1,024 numbers", command("rows.py", "--worst", *1024 * ["1"]),
+          (0, 1024 * b"1 1 1\n"))
+    with tempfile.TemporaryDirectory() as folder:
+        name = os.path.join(folder, "bytes")
+        check("misused: rows.py, a file", command("rows.py", "--bytes", name, "16", "3"), (1, b""))
+        check("no bytes then", os.path.exists(name), False)
 
 
 def test_draw_axes():

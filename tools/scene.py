@@ -444,14 +444,23 @@ def write_file(name, data):
         file.write(data)
 
 
+def take_option(words, option, count, what):
+    """Take an option and the words after it out of a command's words; None where not given."""
+    if option not in words:
+        return None
+    at = words.index(option)
+    rest = words[at + 1:]
+    taken = take(rest, count, "%s after %s" % (what, option))
+    words[at:] = rest
+    return taken
+
+
 def take_axes(words):
     """Take the option AXES out of a command's words: right, forward, up; level where not given."""
-    if "--axes" not in words:
+    taken = take_option(words, "--axes", 9, "numbers")
+    if taken is None:
         return LEVEL
-    at = words.index("--axes")
-    rest = words[at + 1:]
-    parts = [i16(word) for word in take(rest, 9, "numbers after --axes")]
-    words[at:] = rest
+    parts = [i16(word) for word in taken]
     return tuple(parts[0:3]), tuple(parts[3:6]), tuple(parts[6:9])
 
 
