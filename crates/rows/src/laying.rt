@@ -125,12 +125,15 @@ pub fn sweep(row: &mut [u16; 256], cells: &mut [u16], first: u16, last: u16, pan
         r .looked ≡ lookedAt last (segments (length (now (cells .entry))) unlit)) ⌝ }
 {
     let mut k: usize = 0;
-    let mut looked: u16 = 0;
+    let mut looked: usize = 0;
     let mut lit: u16 = 0;
     while looked < 128 {
         let p = pair_at(row, k);
         if p.count == 0 {
-            return Swept { lit, looked };
+            return Swept {
+                lit,
+                looked: looked as u16,
+            };
         }
         let s = lay_on(row, cells, k, first, last, panel);
         lit += s.lit;
@@ -140,9 +143,12 @@ pub fn sweep(row: &mut [u16; 256], cells: &mut [u16], first: u16, last: u16, pan
         } else {
             return Swept {
                 lit,
-                looked: looked + 1,
+                looked: looked as u16 + 1,
             };
         }
     }
-    Swept { lit, looked }
+    Swept {
+        lit,
+        looked: looked as u16,
+    }
 }

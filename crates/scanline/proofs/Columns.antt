@@ -13,6 +13,7 @@ use Rattle.model.specs.Row.{rowOf, afterSpan}
 use Rattle.segments.specs.Columns.{inSpan, allLit}
 use Rattle.rows.specs.Span.{Lays, Reports}
 use Rattle.rows.specs.declared.Laid.{Laid}
+use Rattle.scanline.specs.declared.Lighting.{Lighting}
 use Rattle.segments.proofs.Rows.{row-congr}
 use Rattle.segments.proofs.Tallies.{tally-congr, tally-clear}
 use Rattle.segments.proofs.Painting.{painted-congr, painted-none}
@@ -43,7 +44,7 @@ under false f h = refl
 
 -- Sets of columns leave the same where they agree on the unlit ones: the others are lit already.
 pub columns-congr :
-    {columns columns′ : ℕ → Bool} {panel : ℕ} {row cells row′ cells′ : List ℕ} {r : Laid} →
+    {columns columns′ : ℕ → Bool} {panel : ℕ} {row cells row′ cells′ : List ℕ} {r : Lighting} →
     ((unlit : ℕ → Bool) → row ≡ rowOf (length cells) unlit → (i : ℕ) → i < length cells → unlit i ≡ true → columns i ≡ columns′ i) →
     ColumnsLaid columns panel row cells row′ cells′ r →
     ColumnsLaid columns′ panel row cells row′ cells′ r
@@ -80,7 +81,7 @@ pub span-laid :
     s .first < s .end →
     ((unlit : ℕ → Bool) → row ≡ rowOf (length cells) unlit → Lays unlit (s .first) (s .end - 1) panel cells row′ cells′) →
     ((unlit : ℕ → Bool) → row ≡ rowOf (length cells) unlit → Reports unlit (s .first) (s .end - 1) (length cells) (r .full) (r .lit) (r .looked)) →
-    ColumnsLaid (covers s) panel row cells row′ cells′ r
+    ColumnsLaid (covers s) panel row cells row′ cells′ (record { full = r .full; lit = r .lit })
 span-laid {s} {panel} {row} {cells} {row′} {cells′} {r} h lays reports =
     columns-congr {columns = inSpan (s .first) (s .end - 1)} (λ unlit e i l u. up-to-end s i h)
     (record {
@@ -95,7 +96,7 @@ span-laid {s} {panel} {row} {cells} {row′} {cells′} {r} h lays reports =
 
 pub span-missed :
     {s : Span} {panel : ℕ} {row cells : List ℕ} → s .end ≤ s .first →
-    ColumnsLaid (covers s) panel row cells row cells (record { full = false; lit = 0; looked = 0 })
+    ColumnsLaid (covers s) panel row cells row cells (record { full = false; lit = 0 })
 span-missed {s} {panel} {row} {cells} h =
     columns-congr {columns = λ (i : ℕ). false} (λ unlit e i l u. sym (outside s i h))
     (record {

@@ -10,7 +10,7 @@ use lib.Seq.{getD-set-same, getD-set-other}
 use Rattle.model.specs.Vector.{Vec}
 use Rattle.model.specs.Patch.{Patch}
 use Rattle.model.proofs.Tests.{lt-or-ge}
-use Rattle.rows.specs.declared.Laid.{Laid}
+use Rattle.scanline.specs.declared.Lighting.{Lighting}
 use Rattle.scanline.specs.Shown.{newlyLit, RowLit}
 use Rattle.scanline.specs.Laying.{PatchLaid}
 use Rattle.scanline.proofs.WalkPainted.{PaintedUpTo, walk-goes, walk-lit, full-lit}
@@ -41,7 +41,7 @@ module _
     count-ends h = record { most = inv .painted .bound; each = inv .lit; full = λ l. absurd (omega arith) }
 
     module _
-        {cells′ row′ : List ℕ} {r : Laid} (room : length order ≤ length lits₀) (h : k < length order)
+        {cells′ row′ : List ℕ} {r : Lighting} (room : length order ≤ length lits₀) (h : k < length order)
         (laid : PatchLaid eye ray (patch (getD order k 0)) row cells row′ cells′ r)
       where
         pub count-goes : CountedUpTo eye ray patch order width cells′ row′ lits₀ (set lits k (r .lit)) (k + 1)

@@ -15,7 +15,7 @@ use Rattle.format.specs.declared.layout.Layout.{Layout}
 use Rattle.format.specs.declared.records.PatchRecord.{PatchRecord}
 use Rattle.format.specs.Machine.{runOf}
 use Rattle.checked.specs.Checked.{PatchRecordIs}
-use Rattle.rows.specs.declared.Laid.{Laid}
+use Rattle.scanline.specs.declared.Lighting.{Lighting}
 use Rattle.spans.specs.declared.Span.{Span}
 use Rattle.spans.specs.Span.{covers}
 use Rattle.tables.specs.Functions.{functionsIn, FunctionRun}
@@ -38,7 +38,7 @@ module _
 
     -- what laying its span leaves is what laying the patch leaves, if the span was sought among all unlit columns
     pub patch-laid :
-        (j : ℕ) {row cells row′ cells′ : List ℕ} {found : Laid} {hull r : Span} →
+        (j : ℕ) {row cells row′ cells′ : List ℕ} {found : Lighting} {hull r : Span} →
         UnlitHull (length cells) row hull →
         RowSpan (functionsIn table (p .corners .first) (p .corners .count)) j hull r →
         ColumnsLaid (covers r) (p .panel) row cells row′ cells′ found →

@@ -13,7 +13,7 @@ use Rattle.model.specs.Ray.{met}
 use Rattle.model.specs.Row.{rowOf}
 use Rattle.format.proofs.Tables.{length-table, table-at, same-table}
 use Rattle.rows.specs.Span.{Row}
-use Rattle.rows.specs.declared.Laid.{Laid}
+use Rattle.scanline.specs.declared.Lighting.{Lighting}
 use Rattle.segments.proofs.Rows.{row-congr}
 use Rattle.segments.proofs.Painting.{painted-length, painted-at}
 use Rattle.scanline.specs.Shown.{shownAfter, unlitAfter, RowPainted, newlyLit}
@@ -102,7 +102,7 @@ module _ {eye : Vec} {ray : ℕ → Vec} {patch : ℕ → Patch} {order : List �
     walk-ends h = rw (take-all k order h) at (inv .so-far)
 
     module _
-        {cells′ row′ : List ℕ} {r : Laid} (h : k < length order)
+        {cells′ row′ : List ℕ} {r : Lighting} (h : k < length order)
         (laid : PatchLaid eye ray (patch (getD order k 0)) row cells row′ cells′ r)
       where
         taken : map patch (take k order) ++ patch (getD order k 0) ∷ [] ≡ map patch (take (k + 1) order)

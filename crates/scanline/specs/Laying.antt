@@ -16,7 +16,7 @@ use Rattle.format.specs.Layout.{patchNumber}
 use Rattle.checked.specs.Checked.{Checked}
 use Rattle.segments.specs.Columns.{painted}
 use Rattle.rows.specs.Span.{Row}
-use Rattle.rows.specs.declared.Laid.{Laid}
+use Rattle.scanline.specs.declared.Lighting.{Lighting}
 use Rattle.spans.specs.declared.Span.{Span}
 use Rattle.spans.specs.Span.{covers}
 use Rattle.edges.specs.declared.Sight.{Sight}
@@ -66,10 +66,10 @@ pub record ColumnsPainted
   pub lit-is : lit ≡ tally (λ (i : ℕ). unlit i && columns i) (range 0 (length cells))
 
 -- the same, whichever columns the row at entry says were unlit
-pub record ColumnsLaid (columns : ℕ → Bool) (panel : ℕ) (row cells row′ cells′ : List ℕ) (r : Laid) : Type 0 where
+pub record ColumnsLaid (columns : ℕ → Bool) (panel : ℕ) (row cells row′ cells′ : List ℕ) (r : Lighting) : Type 0 where
   pub laid :
       (unlit : ℕ → Bool) → row ≡ rowOf (length cells) unlit → ColumnsPainted columns panel unlit cells row′ cells′ (r .full) (r .lit)
 
 -- the same for a patch: the columns are those whose lines meet it
-abbrev pub PatchLaid : Vec → (ℕ → Vec) → Patch → List ℕ → List ℕ → List ℕ → List ℕ → Laid → Type 0
+abbrev pub PatchLaid : Vec → (ℕ → Vec) → Patch → List ℕ → List ℕ → List ℕ → List ℕ → Lighting → Type 0
 PatchLaid eye ray p row cells row′ cells′ r = ColumnsLaid (λ (i : ℕ). met eye (ray i) p) (p .panel) row cells row′ cells′ r

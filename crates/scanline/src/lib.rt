@@ -2,7 +2,6 @@
 use checked::patch_record;
 use edges::Sight;
 use format::layout::Layout;
-use rows::Laid;
 use spans::Span;
 use spans::row_span;
 ghost use mathlib.Core.Path.{_≡_};
@@ -15,6 +14,14 @@ ghost use Rattle.spans.specs.Span.{covers};
 ghost use Rattle.rows.specs.Span.{Row};
 ghost use Rattle.scanline.specs.Shown.{RowPainted, RowLit};
 ghost use Rattle.scanline.specs.Laying.{PatchAsked, RowAsked, walkOf, UnlitHull, ColumnsLaid, PatchLaid};
+
+// What laying a patch says of the row.
+struct Lighting {
+    // No column of the row is unlit any more. Where it is false nothing is said.
+    full: bool,
+    // How many cells it newly lit.
+    lit: u16,
+}
 
 // The columns from the first unlit one on; up to the end of the first segment where the row has no other.
 fn unlit_hull(row: &[u16; 256], width: usize) -> Span
@@ -32,7 +39,7 @@ fn unlit_hull(row: &[u16; 256], width: usize) -> Span
 }
 
 // Lays a span on a row, unless it is empty, and says how many cells it newly lit, and that the row is full only where it is.
-fn lay_span(span: Span, panel: u16, row: &mut [u16; 256], cells: &mut [u16]) -> Laid
+fn lay_span(span: Span, panel: u16, row: &mut [u16; 256], cells: &mut [u16]) -> Lighting
     requires { ⌜ (span .end ≤ length (now cells)) × Row (length (now cells)) (now row) ⌝ }
     ensures { λ r. ⌜ ColumnsLaid (covers span) panel (now (row .entry)) (now (cells .entry))
         (now (row .exit)) (now (cells .exit)) r ⌝ }
@@ -40,13 +47,16 @@ fn lay_span(span: Span, panel: u16, row: &mut [u16; 256], cells: &mut [u16]) -> 
     let first = span.first;
     let end = span.end;
     if end <= first {
-        return Laid {
+        return Lighting {
             full: false,
             lit: 0,
-            looked: 0,
         };
     }
-    rows::lay(row, cells, first as u16, (end - 1) as u16, panel)
+    let laid = rows::lay(row, cells, first as u16, (end - 1) as u16, panel);
+    Lighting {
+        full: laid.full,
+        lit: laid.lit,
+    }
 }
 
 // Paints patch k in row j, over the columns that are unlit, and says how many it newly lit, and that the row is full only where it is. Its span is sought from the
@@ -61,7 +71,7 @@ fn lay_patch(
     j: usize,
     row: &mut [u16; 256],
     cells: &mut [u16],
-) -> Laid
+) -> Lighting
     requires { ⌜ PatchAsked (now bytes) l sight (now table) k j (now row) (now cells) ⌝ }
     ensures { λ r. ⌜ PatchLaid (vecOf (sight .eye)) (λ (i : ℕ). lineAt (sight .raster) i j) (patchNumbered (decode (now (bytes .entry))) k)
         (now (row .entry)) (now (cells .entry)) (now (row .exit)) (now (cells .exit)) r ⌝ }

@@ -1,5 +1,5 @@
 -- `put_looks` is safe: the first 65,535 spans look at no more than 128 segments each, and a number with its line's end has at most twelve bytes.
-use mathlib.Core.List.{[], _∷_}
+use mathlib.Core.List.{[]}
 use native.Mathlib.Omega.{arith}
 use borrow.Author.Needs.{needs}
 use Rattle.text.proofs.Lengths.{newline-length, numbers-length}

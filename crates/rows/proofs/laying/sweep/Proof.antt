@@ -77,8 +77,18 @@ add-lit c =
 add-looked : tie.Need-add-looked Inv-loop μ-loop
 add-looked c = omega arith
 
-add-one : tie.Need-add-t16 Inv-loop μ-loop
+-- no more than 128 are looked at
+cast-ended : tie.Need-cast-t13 Inv-loop μ-loop
+cast-ended c = record { fits = omega arith }
+
+cast-stopped : tie.Need-cast-t17 Inv-loop μ-loop
+cast-stopped c = record { fits = omega arith }
+
+add-one : tie.Need-add-t18 Inv-loop μ-loop
 add-one c = omega arith
+
+cast-out : tie.Need-cast-t19 Inv-loop μ-loop
+cast-out c = record { fits = omega (arith, c .before .loop .inv .on .left) }
 
 loop-less : tie.Need-loop-less Inv-loop μ-loop
 loop-less c = omega arith
@@ -91,6 +101,7 @@ sweep-spec =
     μ-loop
     loop-holds
     pair-at-requires
+    cast-ended
     same-length
     returns
     lay-on-requires
@@ -98,8 +109,10 @@ sweep-spec =
     add-looked
     loop-less
     loop-again
+    cast-stopped
     add-one
     same-length-2
     returns-2
+    cast-out
     same-length-3
     returns-3)
