@@ -29,7 +29,7 @@ cat "$log"
 [ "$status" -eq 0 ]
 
 tests/bills.sh "$ringbill"
-tests/failures.sh "$ringbill"
+tests/failures.sh "$programs"
 (cd tests/outside && cargo run --quiet --release --offline --features library --bin laying -- --sequences $((cases / 5)) --seed "$seed" --rows-laid "$programs/rows_laid" --rows-worst "$programs/rows_worst")
 tests/memory.sh 100 "$seed" >"$log" 2>&1 &
 (cd tests/outside && cargo run --quiet --release --offline --features library --bin differential -- --cases "$cases" --seed "$seed" --ringbill "$ringbill")

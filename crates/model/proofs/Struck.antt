@@ -2,10 +2,10 @@
 use mathlib.Core.Bool.{Bool, true, false, not}
 use mathlib.Core.List.{List, [], _∷_}
 use Prim.Native.Nat.{ℕ}
-use lib.Dec.{T, eqb}
-use Rattle.model.specs.Lists.{every, any}
+use lib.Dec.{T}
+use Rattle.model.specs.Lists.{every}
 use Rattle.model.specs.Call.{Call}
-use Rattle.model.specs.Questions.{Question, answer, sceneQuestions, callQuestions, questions, struck, surveyAnswer}
+use Rattle.model.specs.Questions.{Question, answer, sceneQuestions, callQuestions, questions, isStruck, surveyAnswer}
 use Rattle.model.proofs.Tests.{both}
 
 -- what holds of 0 and of each question's number holds of the answer
@@ -23,14 +23,11 @@ answer-holds {A} test zero-holds (q ∷ qs) a t =
     go true here later = later
     go false here later = here
 
-abbrev pub notStruck : ℕ → Bool
-notStruck n = not (any (eqb n) struck)
-
 -- by computing, question by question
-pub none-struck : T (every (λ (q : Question Call). notStruck (q .number)) questions)
+pub none-struck : T (every (λ (q : Question Call). not (isStruck (q .number))) questions)
 unfolding questions sceneQuestions callQuestions
 none-struck = tt
 
-pub never-struck : (c : Call) → T (notStruck (surveyAnswer c))
+pub never-struck : (c : Call) → T (not (isStruck (surveyAnswer c)))
 unfolding surveyAnswer
-never-struck c = answer-holds notStruck tt questions c none-struck
+never-struck c = answer-holds (λ (n : ℕ). not (isStruck n)) tt questions c none-struck

@@ -6,7 +6,7 @@ use lib.Dec.{eqb, leb, ltb}
 use lib.IntN.{ℤ, pos, natAbs}
 use lib.ListN.{length}
 use lib.Signed.{ltZ}
-use Rattle.model.specs.Lists.{every, range, occurrences}
+use Rattle.model.specs.Lists.{every, any, range, occurrences}
 use Rattle.model.specs.Vector.{Vec, Plane, dot, cross, planeNormal, isZero}
 use Rattle.model.specs.Patch.{Patch, cornersCounted, flat, strictlyConvex}
 use Rattle.model.specs.Tree.{divides}
@@ -229,6 +229,9 @@ questions = map onScene sceneQuestions ++ callQuestions
 -- to it, as `none-struck` holds this one.
 abbrev pub struck : List ℕ
 struck = 13 ∷ []
+
+abbrev pub isStruck : ℕ → Bool
+isStruck n = any (eqb n) struck
 
 -- "The result is "done" or this number": 0, or the number of the first no
 unfoldable pub surveyAnswer : Call → ℕ

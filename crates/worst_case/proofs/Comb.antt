@@ -1,4 +1,4 @@
--- Columns 1, 3, 5 and so on leave a comb of single columns and the rest of the row: each next one cuts off one more tooth, and looks at all of them.
+-- Columns 1, 3, 5 and so on leave a comb of single columns and the rest of the row: each next one cuts off one more single column, and looks at all of them.
 use mathlib.Core.Path.{_≡_, refl, ap, _∙_}
 use mathlib.Core.Logic.{_⊎_, inl, inr}
 use mathlib.Core.Bool.{Bool, true, false}
@@ -41,7 +41,7 @@ comb-end o h = rw (le-ltb o 256 h)
 
 -- ---- what a span leaves of the comb
 
--- the second column of the rest: the first becomes a tooth
+-- the second column of the rest: the first becomes a single one
 rest-cut : (o : ℕ) → o < 255 → remains (o + 1) (o + 1) (rest o) ≡ single o ∷ comb (o + 2) 0
 unfolding remains
 rest-cut o h = go (lt-or-ge (o + 2) 256)
@@ -65,7 +65,7 @@ comb-grows (suc t) o c e h =
     rw (apart c c (single o) (omega arith) (omega arith) (inl (omega arith)))
     (ap (λ (ss : List Segment). single o ∷ ss) (comb-grows t (o + 2) c (omega arith) h))
 
--- the whole comb has no rest, and a column after its last tooth changes nothing
+-- the whole comb has no rest, and the column after its last one changes nothing
 pub comb-stays : (t o : ℕ) → o + 2 * t ≡ 256 → cut 255 255 (comb o t) ≡ comb o t
 unfolding cut comb
 comb-stays zero o e = rw (comb-end o (omega arith))
@@ -75,13 +75,13 @@ comb-stays (suc t) o e =
 
 -- ---- what a span looks at in it
 
--- the teeth and the rest
+-- the single columns and the rest
 pub looked-growing : (t o c : ℕ) → c ≡ o + 2 * t + 1 → c ≤ 255 → lookedAt c (comb o t) ≡ suc t
 unfolding lookedAt comb
 looked-growing zero o c e h = rw (comb-rest o (omega arith), lt-ltb c (o + (256 - o)) (omega arith))
 looked-growing (suc t) o c e h = rw (le-ltb c (o + 1) (omega arith)) (ap suc (looked-growing t (o + 2) c (omega arith) h))
 
--- all teeth of the whole comb: none ends at or after the last column
+-- all of the whole comb: none ends at or after the last column
 pub looked-whole : (t o : ℕ) → o + 2 * t ≡ 256 → lookedAt 255 (comb o t) ≡ t
 unfolding lookedAt comb
 looked-whole zero o e = rw (comb-end o (omega arith))

@@ -5,8 +5,8 @@
 //!            --rows-laid PROGRAM --rows-worst PROGRAM
 //!
 //! `--only` runs sequence K of the seed alone. Besides the N sequences of a seed
-//! there are those that no seed changes. A run in which a kind of span was never
-//! tried fails, as does one with a difference.
+//! there are those that no seed changes. A run of 100 sequences or more in which a
+//! kind of span was never tried fails, as does one with a difference.
 
 use std::env;
 use std::process::exit;

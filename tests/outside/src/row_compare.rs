@@ -139,8 +139,8 @@ impl Told {
     fn up_to(rows: &dyn Rows, last: u64) -> Option<Told> {
         let numbers: Vec<u64> = (0..=last).collect();
         let said = worst(rows, &numbers)?;
-        let spans: Vec<Span> = said.iter().map(|dear| dear.span).collect();
-        let reaches = said.iter().map(|dear| dear.reach);
+        let spans: Vec<Span> = said.iter().map(|one| one.span).collect();
+        let reaches = said.iter().map(|one| one.reach);
         Some(Told {
             reaches: reaches.collect::<Option<_>>()?,
             looks: looks(rows, &spans[1..])?,
@@ -160,7 +160,7 @@ impl Told {
     }
 }
 
-/// The k-th span "does look at" its bound after those before it, and the first n
+/// The k-th span looks at just its bound after those before it, and the first n
 /// reach the sums: by the sums told, and by laying the spans told.
 pub fn check_bounds(rows: &dyn Rows, due: &Bounds) -> Vec<RowDifference> {
     let all = due.bounds.iter().chain(&due.reaches);

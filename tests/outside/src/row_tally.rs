@@ -81,7 +81,7 @@ impl Tried<'_> {
         self.is_begun() && self.span.last < self.row.width()
     }
 
-    /// Does a stretch end so many columns before the span?
+    /// Does a stretch end so many columns before the span's end?
     fn ends(&self, after: i32) -> bool {
         let last = i32::from(self.span.last) - after;
         let mut ends = self.stretches.iter().map(|s| i32::from(s.last));

@@ -54,11 +54,11 @@ impl WorstSpan {
     pub fn read(text: &str) -> Option<WorstSpan> {
         let told: Vec<u64> = numbers(text)?;
         let column = |k: usize| u16::try_from(*told.get(k)?).ok();
-        let dear = WorstSpan {
+        let one = WorstSpan {
             span: span(column(0)?, column(1)?),
             reach: told.get(2).copied(),
         };
-        (dear.to_string() == text).then_some(dear)
+        (one.to_string() == text).then_some(one)
     }
 }
 

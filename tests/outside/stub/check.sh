@@ -73,7 +73,7 @@ rows() {
 }
 rows laid "$selftest --rows-laid"
 rows worst "$selftest --rows-worst"
-# laid_so CODE LAID DEAREST WORDS: wants this exit code, and these words in the report
+# laid_so CODE LAID WORST WORDS: wants this exit code, and these words in the report
 laid_so() {
     got=0
     "$laying" --sequences 100 --seed 3 --rows-laid "$work/$2" --rows-worst "$work/$3" \
@@ -85,13 +85,16 @@ laid_so() {
 laid_so 0 laid worst ' 0 differences$'
 rows silent 'cat >/dev/null'
 laid_so 1 silent worst ' differences: Form$'
+for known in 'the row stations' F-6.txt; do
+    grep -q "^cases: [1-9][0-9]* of $known differ\$" "$work/report" || { echo "rows, silent: $known not seen"; exit 1; }
+done
 laid_so 1 laid silent '^rows: .* differences: \[Form\]'
 rows ended "$selftest --rows-laid; exit 3"
 laid_so 1 ended worst ' differences: Form$'
 rows looks "$selftest --rows-laid | sed 's/^\\([0-9]*\\) 128 /\\1 127 /'"
 laid_so 1 looks worst ' differences: Looked$'
-rows wide "$selftest --rows-laid | sed 's/^1 0 /1 1 /'"
-laid_so 1 wide worst '^DIFFERS '
+rows empty "$selftest --rows-laid | sed 's/^1 0 /1 1 /'"
+laid_so 1 empty worst '^DIFFERS the row stations, a row 0 wide: \[Looked'
 rows sums "$selftest --rows-worst | sed 's/ 8256\$/ 8255/'"
 laid_so 1 laid sums '^rows: the maker.* differences: \[Reach\]'
 rm "$work/laid"
