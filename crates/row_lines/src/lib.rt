@@ -6,11 +6,12 @@ use text::put_number;
 use text::put_spaced;
 use text::put_text;
 ghost use mathlib.Core.Path.{_≡_};
-ghost use mathlib.Core.Bool.{cond};
+ghost use mathlib.Core.Bool.{Bool, cond};
 ghost use mathlib.Core.List.{[], _∷_};
-ghost use Prim.Native.Nat.{_+_, _*_, _≤_};
+ghost use Prim.Native.Nat.{ℕ, _+_, _*_, _≤_};
 ghost use lib.ListN.{length};
-ghost use Rattle.rows.specs.Span.{Row};
+ghost use Rattle.model.specs.Row.{rowOf};
+ghost use Rattle.rows.specs.Span.{Row, Lays};
 
 // Each number after a space, which is at most eleven bytes.
 fn put_numbers(out: &mut [u8], at: usize, numbers: &[u16]) -> usize
@@ -68,7 +69,8 @@ pub fn lay_and_write(
     message: &[u8],
 )
     requires { ⌜ Row (length (now cells)) (now row) ⌝ }
-    ensures { λ r. ⌜ Row (length (now (cells .exit))) (now (row .exit)) ⌝ }
+    ensures { λ r. ⌜ ((unlit : ℕ → Bool) → now (row .entry) ≡ rowOf (length (now (cells .entry))) unlit →
+        Lays unlit first last panel (now (cells .entry)) (now (row .exit)) (now (cells .exit))) ⌝ }
 {
     let laid = rows::lay(row, cells, first, last, panel);
     write_row(number, &report(laid), row, cells, message);
