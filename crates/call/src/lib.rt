@@ -1,4 +1,4 @@
-// The questions on the call: 10, 14, 11 and 12.
+// The questions on the call after 15, which the station answers: 10, 14, 11 and 12.
 use camera::Axes;
 use camera::Camera;
 use coordinates::point_in_range;

@@ -1,3 +1,3 @@
--- What the contract says of a refusal, and of the same view.
+-- What the contract says of a refusal, of the same station and camera, and of the whole-number station.
 pub mod Refusal
-pub mod SameView
+pub mod SameStation

@@ -3,7 +3,8 @@ use mathlib.Core.Path.{_≡_}
 use mathlib.Core.List.{List}
 use Prim.Native.Nat.{ℕ, zero, suc}
 use Rattle.model.specs.Vector.{Vec}
-use Rattle.model.specs.View.{Axes, Camera, View}
+use Rattle.model.specs.View.{Axes, Camera}
+use Rattle.model.specs.Station.{Station}
 use Rattle.model.specs.Lent.{Lent, Lengths, lengthsOf}
 use Rattle.model.specs.Call.{Call}
 use Rattle.model.specs.Questions.{surveyAnswer}
@@ -17,10 +18,6 @@ axesBy r f u = record { right = r; forward = f; up = u }
 abbrev pub cameraBy : Axes → ℕ → ℕ → ℕ → Camera
 cameraBy a w h l = record { axes = a; window = record { width = w; height = h; lens = l } }
 
--- the view of a camera from an eye
-abbrev pub viewFrom : Vec → Camera → View
-viewFrom e c = record { eye = e; camera = c }
-
 -- the four buffers and the counter
 abbrev pub lentOf : List ℕ → List ℕ → List ℕ → List ℕ → ℕ → Lent
 lentOf p n b u k = record { picture = p; counts = n; patchCounts = b; unlit = u; counter = k }
@@ -29,13 +26,13 @@ lentOf p n b u k = record { picture = p; counts = n; patchCounts = b; unlit = u;
 abbrev pub lengthsBy : ℕ → ℕ → ℕ → ℕ → Lengths
 lengthsBy p n b u = record { picture = p; counts = n; patchCounts = b; unlit = u }
 
--- the call on a scene with a view, with buffers of these lengths and this counter
-abbrev pub gateCall : List ℕ → View → Lengths → ℕ → Call
-gateCall bytes v l k = record { scene = bytes; eye = v .eye; camera = v .camera; lengths = l; counter = k }
+-- the call on a scene from a station with a camera, with buffers of these lengths and this counter
+abbrev pub gateCall : List ℕ → Station → Camera → Lengths → ℕ → Call
+gateCall bytes s c l k = record { scene = bytes; station = s; camera = c; lengths = l; counter = k }
 
 -- the same with these buffers lent
-abbrev pub callOn : List ℕ → View → Lent → Call
-callOn bytes v lent = gateCall bytes v (lengthsOf lent) (lent .counter)
+abbrev pub callOn : List ℕ → Station → Camera → Lent → Call
+callOn bytes s c lent = gateCall bytes s c (lengthsOf lent) (lent .counter)
 
 -- what an accepted call leaves
 abbrev pub results : Call → Lent
@@ -54,6 +51,6 @@ leftBy zero new old = new
 leftBy (suc n) new old = old
 
 -- The survey call: its result is the answer, and it leaves the results or, refusing, what it was lent.
-pub record Surveyed (bytes : List ℕ) (v : View) (before after : Lent) (result : ℕ) : Type 0 where
-  pub answered : result ≡ surveyAnswer (callOn bytes v before)
-  pub left : after ≡ leftBy (surveyAnswer (callOn bytes v before)) (results (callOn bytes v before)) before
+pub record Surveyed (bytes : List ℕ) (s : Station) (c : Camera) (before after : Lent) (result : ℕ) : Type 0 where
+  pub answered : result ≡ surveyAnswer (callOn bytes s c before)
+  pub left : after ≡ leftBy (surveyAnswer (callOn bytes s c before)) (results (callOn bytes s c before)) before

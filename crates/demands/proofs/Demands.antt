@@ -10,12 +10,14 @@ use lib.ListN.{length, getD, take, drop, length-map}
 use Rattle.model.specs.Lists.{every, range, occurrences}
 use Rattle.model.specs.Patch.{numbered}
 use Rattle.model.specs.Ray.{closest}
-use Rattle.model.specs.View.{View, viewWidth, viewHeight}
+use Rattle.model.specs.View.{Camera, View, viewWidth, viewHeight}
+use Rattle.model.specs.Station.{Station, eyeOf, viewAt}
 use Rattle.model.specs.Beside.{ShownBeside, cellLine}
 use Rattle.model.specs.Lent.{Lent}
 use Rattle.model.specs.Format.{decode}
 use Rattle.model.specs.Row.{rowOf, rowLength}
 use Rattle.model.specs.Picture.{cells, picture, counts, countEntries, unlitLists}
+use Rattle.model.specs.Accepted.{AcceptedScene}
 use Rattle.model.specs.Questions.{Question, answer, sceneQuestions, callQuestions, questions, surveyAnswer}
 use Rattle.model.specs.Booking.{cellsWhere}
 use Rattle.model.specs.Survey.{callPicture, callCounts, callPatchCells, callUnlit}
@@ -34,6 +36,7 @@ use Rattle.model.proofs.PanelSums.{patch-entries, patch-entry, panel-sum}
 use Rattle.model.proofs.Removal.{pictures-counts, cell-differs, cell-shows}
 use Rattle.segments.proofs.Rows.{row-length, row-congr}
 use Rattle.contract.proofs.Refusal.{left-old}
+use Rattle.contract.proofs.SameStation.{results-by-eye}
 use Rattle.model.proofs.PanelNumbers.{panel-bounded}
 use Rattle.contract.specs.Contract.{callOn, results, leftBy, Surveyed}
 use Rattle.coverage.specs.Coverage.{SameCover}
@@ -42,13 +45,21 @@ use Rattle.demands.specs.Demands.{patchesIn, cell, patchHas, RefusesRigh
 
 -- an accepted call leaves the results
 pub accepted-leaves :
-    {bytes : List ℕ} {v : View} {before after : Lent} {result : ℕ} →
-    Surveyed bytes v before after result →
+    {bytes : List ℕ} {s : Station} {c : Camera} {before after : Lent} {result : ℕ} →
+    Surveyed bytes s c before after result →
     result ≡ 0 →
-    after ≡ results (callOn bytes v before)
-accepted-leaves {bytes} {v} {before} h e =
+    after ≡ results (callOn bytes s c before)
+accepted-leaves {bytes} {s} {c} {before} h e =
     h .left
-    ∙ ap (λ (n : ℕ). leftBy n (results (callOn bytes v before)) before) (sym (h .answered) ∙ e)
+    ∙ ap (λ (n : ℕ). leftBy n (results (callOn bytes s c before)) before) (sym (h .answered) ∙ e)
+
+-- and so it was accepted
+accepted :
+    {bytes : List ℕ} {s : Station} {c : Camera} {before after : Lent} {result : ℕ} →
+    Surveyed bytes s c before after result →
+    result ≡ 0 →
+    AcceptedCall (callOn bytes s c before)
+accepted {bytes} {s} {c} {before} h e = accepted-call (callOn bytes s c before) .0 (sym (h .answered) ∙ e)
 
 -- the answer is 0 exactly if every question says yes, where no question has the number 0
 all-yes-says : {A : Type 0} (qs : List (Question A)) (a : A) → T (every (λ (q : Question A). not (eqb (q .number) 0)) qs)
@@ -65,27 +76,30 @@ all-yes-says {A} (q ∷ qs) a h =
 
 -- Demand 1.
 pub refuses-rightly :
-    {bytes : List ℕ} {v : View} {before after : Lent} {result : ℕ} →
-    Surveyed bytes v before after result →
-    RefusesRightly bytes v before after result
+    {bytes : List ℕ} {s : Station} {c : Camera} {before after : Lent} {result : ℕ} →
+    Surveyed bytes s c before after result →
+    RefusesRightly bytes s c before after result
 unfolding surveyAnswer questions sceneQuestions callQuestions
-refuses-rightly {bytes} {v} {before} {after} {result} h =
-    let c = callOn bytes v before in
-    let says = all-yes-says questions c tt in
+refuses-rightly {bytes} {s} {c} {before} {after} {result} h =
+    let call = callOn bytes s c before in
+    let says = all-yes-says questions call tt in
     record {
       exactly = (λ e. says .0 (sym (h .answered) ∙ e), λ t. h .answered ∙ says .1 t);
       numbered = h .answered;
       painted = accepted-leaves h;
-      untouched = λ f. h .left ∙ sym (left-old (surveyAnswer c) (results c) before (λ z. f (h .answered ∙ z)));
+      untouched = λ f. h .left ∙ sym (left-old (surveyAnswer call) (results call) before (λ z. f (h .answered ∙ z)));
     }
 
-module _ (bytes : List ℕ) (v : View) (before : Lent) (accepted : AcceptedCall (callOn bytes v before)) where
+module _ (bytes : List ℕ) (s : Station) (c : Camera) (before : Lent) (accepted : AcceptedCall (callOn bytes s c before)) where
+  abbrev v : View
+  v = viewAt s c
+
   sound : Sound (patchesIn bytes)
   sound = table-sound (accepted .scene)
 
   at :
       (i j : ℕ) → i < viewWidth v → j < viewHeight v →
-      cell v (callPicture (callOn bytes v before)) i j ≡ closest (v .eye) (cellLine (v .camera) i j) (patchesIn bytes)
+      cell v (callPicture (callOn bytes s c before)) i j ≡ closest (v .eye) (cellLine (v .camera) i j) (patchesIn bytes)
   unfolding callPicture
   at = picture-at (v .eye) (viewWidth v) (viewHeight v) (cellLine (v .camera)) (patchesIn bytes)
 
@@ -94,8 +108,8 @@ module _ (bytes : List ℕ) (v : View) (before : Lent) (accepted : AcceptedCall 
 
   unlit-row :
       (j : ℕ) → j < viewHeight v →
-      take rowLength (drop (j * rowLength) (callUnlit (callOn bytes v before)))
-      ≡ rowOf (viewWidth v) (λ (i : ℕ). eqb (cell v (callPicture (callOn bytes v before)) i j) 0)
+      take rowLength (drop (j * rowLength) (callUnlit (callOn bytes s c before)))
+      ≡ rowOf (viewWidth v) (λ (i : ℕ). eqb (cell v (callPicture (callOn bytes s c before)) i j) 0)
   unfolding callUnlit unlitLists callPicture
   unlit-row j h =
       rows-part rowLength cellRow (λ k. row-length (viewWidth v) _) 0 (viewHeight v) j h
@@ -108,7 +122,7 @@ module _ (bytes : List ℕ) (v : View) (before : Lent) (accepted : AcceptedCall 
   cellsOf k = cellsWhere (viewWidth v) (viewHeight v) (λ (i j : ℕ). patchHas bytes v i j k)
 
   abbrev entryOf : ℕ → ℕ
-  entryOf k = getD (callPatchCells (callOn bytes v before)) k 0
+  entryOf k = getD (callPatchCells (callOn bytes s c before)) k 0
 
   abbrev ofPanel : ℕ → (ℕ → ℕ) → ℕ → ℕ
   ofPanel n f k = cond (eqb (numbered (patchesIn bytes) k .panel) n) (f k) 0
@@ -120,7 +134,7 @@ module _ (bytes : List ℕ) (v : View) (before : Lent) (accepted : AcceptedCall 
   -- a panel's occurrences are the sum over the table's entries of its patches
   entries-sum :
       (n : ℕ) → 1 ≤ n →
-      occurrences n (callPicture (callOn bytes v before)) ≡ sum _+_ 0 (map (ofPanel n entryOf) (range 0 (length (patchesIn bytes))))
+      occurrences n (callPicture (callOn bytes s c before)) ≡ sum _+_ 0 (map (ofPanel n entryOf) (range 0 (length (patchesIn bytes))))
   unfolding callPicture total
   entries-sum n h =
       panel-sum (v .eye) (viewWidth v) (viewHeight v) (cellLine (v .camera)) (patchesIn bytes) n h
@@ -129,7 +143,7 @@ module _ (bytes : List ℕ) (v : View) (before : Lent) (accepted : AcceptedCall 
       ap (λ (x : ℕ). cond (eqb (numbered (patchesIn bytes) k .panel) n) x 0)
       (sym (entry k (rw zero-add at (in-range 0 (length (patchesIn bytes)) k .0 m .1)))))
 
-  results-closest : ClosestPanels bytes v (results (callOn bytes v before))
+  results-closest : ClosestPanels bytes v (results (callOn bytes s c before))
   unfolding callPicture callCounts callPatchCells callUnlit unlitLists counts
   results-closest =
       record {
@@ -139,9 +153,9 @@ module _ (bytes : List ℕ) (v : View) (before : Lent) (accepted : AcceptedCall 
             (beside-right v (accepted .view) (accepted .axes) sound i j);
         cellsOnly = λ i j n h k s. beside-only v (accepted .view) (accepted .axes) sound i j s ∙ sym (at i j h k);
         whole = picture-length (v .eye) (viewWidth v) (viewHeight v) (cellLine (v .camera)) (patchesIn bytes);
-        counted = λ n h. counts-at (callPicture (callOn bytes v before)) n h;
+        counted = λ n h. counts-at (callPicture (callOn bytes s c before)) n h;
         entries =
-            length-map (range 0 countEntries) (λ (n : ℕ). occurrences n (callPicture (callOn bytes v before)))
+            length-map (range 0 countEntries) (λ (n : ℕ). occurrences n (callPicture (callOn bytes s c before)))
             ∙ range-length 0 countEntries;
         summed = picture-total (v .eye) (viewWidth v) (viewHeight v) (cellLine (v .camera)) (patchesIn bytes)
             (panel-bounded (decode bytes) (accepted .scene .panels));
@@ -156,24 +170,26 @@ module _ (bytes : List ℕ) (v : View) (before : Lent) (accepted : AcceptedCall 
         bookedPanel =
             λ i j k hi hj hk t.
             at i j hi hj ∙ booked-panel (v .eye) (cellLine (v .camera) i j) (patchesIn bytes) k hk t;
-        panelSum = λ n one h. counts-at (callPicture (callOn bytes v before)) n h ∙ entries-sum n one;
+        panelSum = λ n one h. counts-at (callPicture (callOn bytes s c before)) n h ∙ entries-sum n one;
         rows = unlit-row;
         rowCount = rows-length rowLength cellRow (λ k. row-length (viewWidth v) _) 0 (viewHeight v) ∙ mul-comm rowLength (viewHeight v);
       }
 
 module _
     (firstBytes secondBytes : List ℕ)
-    (v : View)
+    (s : Station)
+    (c : Camera)
     (before₁ before₂ : Lent)
     (chosen : ℕ → Bool)
     (taken : TakenAway chosen (patchesIn firstBytes) (patchesIn secondBytes))
-    (accepted : AcceptedCall (callOn firstBytes v before₁))
+    (accepted : AcceptedCall (callOn firstBytes s c before₁))
   where
     taken-away :
-        ChosenTakenAway firstBytes chosen v (results (callOn firstBytes v before₁))
-        (results (callOn secondBytes v before₂))
+        ChosenTakenAway firstBytes chosen (viewAt s c) (results (callOn firstBytes s c before₁))
+        (results (callOn secondBytes s c before₂))
     unfolding callPicture callCounts
     taken-away =
+        let v = viewAt s c in
         let first = patchesIn firstBytes in
         let second = patchesIn secondBytes in
         let same = pictures-counts chosen first second taken (v .eye) (viewWidth v) (viewHeight v) (cellLine (v .camera)) in
@@ -181,12 +197,12 @@ module _
           equal = (λ e. same .0 (sym e), λ f. sym (same .1 f));
           closest =
               λ i j h k.
-              subst (ShownBeside v first i j) (sym (at firstBytes v before₁ accepted i j h k))
+              subst (ShownBeside v first i j) (sym (at firstBytes s c before₁ accepted i j h k))
               (beside-right v (accepted .view) (accepted .axes) (table-sound (accepted .scene)) i j);
           differ =
               λ i j h k.
-              let c = cell-differs chosen first second taken (v .eye) (viewWidth v) (viewHeight v) (cellLine (v .camera)) i j h k in
-              (λ f. c .0 (λ e. f (sym e)), λ t e. c .1 t (sym e));
+              let d = cell-differs chosen first second taken (v .eye) (viewWidth v) (viewHeight v) (cellLine (v .camera)) i j h k in
+              (λ f. d .0 (λ e. f (sym e)), λ t e. d .1 t (sym e));
           shown =
               λ i j h k t.
               subst (ShownBeside v (kept chosen first) i j)
@@ -195,18 +211,18 @@ module _
         }
 
 module _
-    (firstBytes secondBytes : List ℕ) (v : View) (before₁ before₂ : Lent)
-    (first-accepted : AcceptedCall (callOn firstBytes v before₁))
-    (second-accepted : AcceptedCall (callOn secondBytes v before₂))
+    (firstBytes secondBytes : List ℕ) (s : Station) (c : Camera) (before₁ before₂ : Lent)
+    (first-accepted : AcceptedCall (callOn firstBytes s c before₁))
+    (second-accepted : AcceptedScene secondBytes)
     (same : SameCover (patchesIn firstBytes) (patchesIn secondBytes))
   where
     -- all three go by what the cells show
-    same-survey : SameSurvey (results (callOn firstBytes v before₁)) (results (callOn secondBytes v before₂))
+    same-survey : SameSurvey (results (callOn firstBytes s c before₁)) (results (callOn secondBytes s c before₂))
     unfolding callPicture callCounts callUnlit picture
     same-survey =
+        let v = viewAt s c in
         let shown =
-        same-cells v (first-accepted .view) (first-accepted .axes) (table-sound (first-accepted .scene))
-        (table-sound (second-accepted .scene)) same in
+        same-cells v (first-accepted .view) (first-accepted .axes) (table-sound (first-accepted .scene)) (table-sound second-accepted) same in
         record {
           pictures = ap (cells (viewWidth v) (viewHeight v)) shown;
           panelCounts = ap (λ (f : ℕ → ℕ → ℕ). counts (cells (viewWidth v) (viewHeight v) f)) shown;
@@ -215,56 +231,48 @@ module _
 
 -- Demand 2.
 pub closest-panels :
-    {bytes : List ℕ} {v : View} {before after : Lent} {result : ℕ} →
-    Surveyed bytes v before after result →
+    {bytes : List ℕ} {s : Station} {c : Camera} {before after : Lent} {result : ℕ} →
+    Surveyed bytes s c before after result →
     result ≡ 0 →
-    ClosestPanels bytes v after
-closest-panels {bytes} {v} {before} h e =
-    subst (ClosestPanels bytes v) (sym (accepted-leaves h e))
-    (results-closest bytes v before (accepted-call (callOn bytes v before) .0 (sym (h .answered) ∙ e)))
+    ClosestPanels bytes (viewAt s c) after
+closest-panels {bytes} {s} {c} {before} h e =
+    subst (ClosestPanels bytes (viewAt s c)) (sym (accepted-leaves h e)) (results-closest bytes s c before (accepted h e))
 
 -- the equations and demand 2
 pub closest-surveyed :
-    {bytes : List ℕ} {v : View} {before after : Lent} {result : ℕ} →
-    Surveyed bytes v before after result →
-    ClosestSurveyed bytes v before after result
+    {bytes : List ℕ} {s : Station} {c : Camera} {before after : Lent} {result : ℕ} →
+    Surveyed bytes s c before after result →
+    ClosestSurveyed bytes s c before after result
 closest-surveyed h = record { surveyed = h; closestPanels = closest-panels h }
 
--- Demand 3.
-pub chosen-panels-taken-away :
-    {firstBytes secondBytes : List ℕ} {v : View} {before₁ after₁ before₂ after₂ : Lent} {result₁ result₂ : ℕ} →
-    Surveyed firstBytes v before₁ after₁ result₁ →
-    Surveyed secondBytes v before₂ after₂ result₂ →
-    DemandThree firstBytes secondBytes v after₁ after₂ result₁ result₂
-chosen-panels-taken-away {firstBytes} {secondBytes} {v} {before₁} {after₁} {before₂} {after₂} h k chosen e f taken =
-    subst (λ (l : Lent). ChosenTakenAway firstBytes chosen v l after₂) (sym (accepted-leaves h e))
-    (subst (λ (l : Lent). ChosenTakenAway firstBytes chosen v (results (callOn firstBytes v before₁)) l) (sym (accepted-leaves k f))
-    (taken-away firstBytes secondBytes v before₁ before₂ chosen taken
-    (accepted-call (callOn firstBytes v before₁) .0 (sym (h .answered) ∙ e))))
+-- two calls with one camera
+module _
+    {firstBytes secondBytes : List ℕ} {s₁ s₂ : Station} {c : Camera} {before₁ after₁ before₂ after₂ : Lent} {result₁ result₂ : ℕ}
+    (h : Surveyed firstBytes s₁ c before₁ after₁ result₁)
+    (k : Surveyed secondBytes s₂ c before₂ after₂ result₂)
+  where
+    -- the second leaves what it would leave from the first's station, where the two have one eye
+    second-leaves : eyeOf s₁ ≡ eyeOf s₂ → result₂ ≡ 0 → results (callOn secondBytes s₁ c before₂) ≡ after₂
+    second-leaves eye f = results-by-eye secondBytes s₁ s₂ c before₂ eye ∙ sym (accepted-leaves k f)
 
--- Two cuttings of one ring.
-pub cuttings-surveyed :
-    {firstBytes secondBytes : List ℕ} {v : View} {before₁ after₁ before₂ after₂ : Lent} {result₁ result₂ : ℕ} →
-    Surveyed firstBytes v before₁ after₁ result₁ →
-    Surveyed secondBytes v before₂ after₂ result₂ →
-    TwoCuttings firstBytes secondBytes after₁ after₂ result₁ result₂
-cuttings-surveyed {firstBytes} {secondBytes} {v} {before₁} {after₁} {before₂} {after₂} h k e f same =
-    subst₂ SameSurvey (sym (accepted-leaves h e)) (sym (accepted-leaves k f))
-    (same-survey firstBytes secondBytes v before₁ before₂
-    (accepted-call (callOn firstBytes v before₁) .0 (sym (h .answered) ∙ e))
-    (accepted-call (callOn secondBytes v before₂) .0 (sym (k .answered) ∙ f))
-    same)
+    -- Demand 3.
+    pub chosen-panels-taken-away : DemandThree firstBytes secondBytes s₁ s₂ c after₁ after₂ result₁ result₂
+    chosen-panels-taken-away chosen eye e f taken =
+        subst₂ (ChosenTakenAway firstBytes chosen (viewAt s₁ c)) (sym (accepted-leaves h e)) (second-leaves eye f)
+        (taken-away firstBytes secondBytes s₁ c before₁ before₂ chosen taken (accepted h e))
 
--- both calls, demand 3 and two cuttings
-pub pair-surveyed :
-    {firstBytes secondBytes : List ℕ} {v : View} {before₁ after₁ before₂ after₂ : Lent} {result₁ result₂ : ℕ} →
-    Surveyed firstBytes v before₁ after₁ result₁ →
-    Surveyed secondBytes v before₂ after₂ result₂ →
-    PairSurveyed firstBytes secondBytes v before₁ after₁ before₂ after₂ result₁ result₂
-pair-surveyed h k =
-    record {
-      first-call = closest-surveyed h;
-      second-call = closest-surveyed k;
-      demand-three = chosen-panels-taken-away h k;
-      two-cuttings = cuttings-surveyed h k;
-    }
+    -- Two cuttings of one ring.
+    pub cuttings-surveyed : TwoCuttings firstBytes secondBytes s₁ s₂ after₁ after₂ result₁ result₂
+    cuttings-surveyed eye e f same =
+        subst₂ SameSurvey (sym (accepted-leaves h e)) (second-leaves eye f)
+        (same-survey firstBytes secondBytes s₁ c before₁ before₂ (accepted h e) (accepted k f .scene) same)
+
+    -- both calls, demand 3 and two cuttings
+    pub pair-surveyed : PairSurveyed firstBytes secondBytes s₁ s₂ c before₁ after₁ before₂ after₂ result₁ result₂
+    pair-surveyed =
+        record {
+          first-call = closest-surveyed h;
+          second-call = closest-surveyed k;
+          demand-three = chosen-panels-taken-away;
+          two-cuttings = cuttings-surveyed;
+        }

@@ -8,7 +8,8 @@ use lib.Dec.{T, eqb}
 use lib.ListN.{length, getD, take, drop}
 use Rattle.model.specs.Lists.{every, range, occurrences}
 use Rattle.model.specs.Patch.{Patch, numbered}
-use Rattle.model.specs.View.{View, viewWidth, viewHeight}
+use Rattle.model.specs.View.{Camera, View, viewWidth, viewHeight}
+use Rattle.model.specs.Station.{Station, eyeOf, viewAt}
 use Rattle.model.specs.Beside.{ShownBeside, HasBeside, cellLine}
 use Rattle.model.specs.Lent.{Lent}
 use Rattle.model.specs.Format.{decode, patchTable}
@@ -35,10 +36,10 @@ patchHas bytes v i j k = hasCell (v .eye) (cellLine (v .camera) i j) (patchesIn 
 
 -- Demand 1: "every call ends with a full picture or with the one numbered refusal that document 01 gives, a scene is accepted exactly if it keeps the rules there,
 -- and a refusal leaves picture, counts, unlit lists and station counter untouched." So it leaves everything lent, the table of the patches' cells too.
-pub record RefusesRightly (bytes : List ℕ) (v : View) (before after : Lent) (result : ℕ) : Type 0 where
-  pub exactly : (result ≡ 0) ↔ T (every (λ (q : Question Call). q .test (callOn bytes v before)) questions)
-  pub numbered : result ≡ surveyAnswer (callOn bytes v before)
-  pub painted : result ≡ 0 → after ≡ results (callOn bytes v before)
+pub record RefusesRightly (bytes : List ℕ) (s : Station) (c : Camera) (before after : Lent) (result : ℕ) : Type 0 where
+  pub exactly : (result ≡ 0) ↔ T (every (λ (q : Question Call). q .test (callOn bytes s c before)) questions)
+  pub numbered : result ≡ surveyAnswer (callOn bytes s c before)
+  pub painted : result ≡ 0 → after ≡ results (callOn bytes s c before)
   pub untouched : (result ≡ 0 → ⊥) → after ≡ before
 
 -- Demand 2, of an accepted call: "Each cell of an accepted scene's picture holds the panel that Fuchs, Kedem and Naylor define: the polygon closest to the eye along
@@ -86,12 +87,12 @@ pub record ClosestPanels (bytes : List ℕ) (v : View) (after : Lent) : Type 0 w
   pub rowCount : length (after .unlit) ≡ viewHeight v * rowLength
 
 -- All that the survey call promises: its equations, and demand 2 of every accepted call.
-pub record ClosestSurveyed (bytes : List ℕ) (v : View) (before after : Lent) (result : ℕ) : Type 0 where
-  pub surveyed : Surveyed bytes v before after result
-  pub closestPanels : result ≡ 0 → ClosestPanels bytes v after
+pub record ClosestSurveyed (bytes : List ℕ) (s : Station) (c : Camera) (before after : Lent) (result : ℕ) : Type 0 where
+  pub surveyed : Surveyed bytes s c before after result
+  pub closestPanels : result ≡ 0 → ClosestPanels bytes (viewAt s c) after
 
 -- Document 02, F-1: "Closest panel and chosen panels are meant along these directions, and the two pictures compared are of one view." F-3: each direction is read by the lines just beside it.
--- Demand 3, of two accepted calls with one view (station, axes and window), on a scene and on one that "has just the first's patches less all those of the chosen panels":
+-- Demand 3, of two accepted calls with one view (eye, axes and window), on a scene and on one that "has just the first's patches less all those of the chosen panels":
 -- "The two pictures are equal, cell by cell, exactly when every chosen panel's count, from the call on the first scene, is zero. Equal or not, each cell of the
 -- first holds its closest panel .., or 0; the pictures differ in exactly the cells where the first shows a chosen panel, and in each of these the second shows
 -- the closest of the panels kept, or 0." Of the cell's closest among the panels kept: "among the first scene's patches with those of chosen panels left out".
@@ -108,13 +109,14 @@ pub record ChosenTakenAway (bytes : List ℕ) (chosen : ℕ → Bool) (v : View)
       (i j : ℕ) → i < viewWidth v → j < viewHeight v → T (isChosen chosen (cell v (first .picture) i j)) →
       ShownBeside v (kept chosen (patchesIn bytes)) i j (cell v (second .picture) i j)
 
--- Demand 3, for any chosen panels: "All this holds whatever the two trees are and whatever the lent buffers held before." The calls' contracts stand beside it below.
+-- Demand 3, for any chosen panels: "All this holds whatever the two trees are and whatever the lent buffers held before." Of the two stations it asks that they have one eye, in
+-- whatever form they came (document 02, F-7: "The picture is that of the whole-number station"). The calls' contracts stand beside it below.
 abbrev pub DemandThree :
-    (firstBytes secondBytes : List ℕ) (v : View) (first second : Lent) (firstResult secondResult : ℕ) → Type 0
-DemandThree firstBytes secondBytes v first second firstResult secondResult =
-    (chosen : ℕ → Bool) → firstResult ≡ 0 → secondResult ≡ 0 →
+    (firstBytes secondBytes : List ℕ) (s₁ s₂ : Station) (c : Camera) (first second : Lent) (firstResult secondResult : ℕ) → Type 0
+DemandThree firstBytes secondBytes s₁ s₂ c first second firstResult secondResult =
+    (chosen : ℕ → Bool) → eyeOf s₁ ≡ eyeOf s₂ → firstResult ≡ 0 → secondResult ≡ 0 →
     TakenAway chosen (patchesIn firstBytes) (patchesIn secondBytes) →
-    ChosenTakenAway firstBytes chosen v first second
+    ChosenTakenAway firstBytes chosen (viewAt s₁ c) first second
 
 -- Document 02, F-5, of two accepted calls with one view: "their pictures and panel counts must agree". The unlit lists go by the picture, so they agree too. "Patch
 -- counts may differ": nothing is said of them, nor of the counters, which may have been different before.
@@ -124,16 +126,19 @@ pub record SameSurvey (first second : Lent) : Type 0 where
   pub unlitLists : first .unlit ≡ second .unlit
 
 -- F-5: "Take two accepted scenes where each panel covers the same points of space, its pieces' edges and corners counted in, whatever its pieces. .. From every
--- accepted view their pictures and panel counts must agree, by the joint rule of F-3." The two calls, with one view, stand beside it below; the trees and what the buffers
--- held have no part in it.
-abbrev pub TwoCuttings : (firstBytes secondBytes : List ℕ) (first second : Lent) (firstResult secondResult : ℕ) → Type 0
-TwoCuttings firstBytes secondBytes first second firstResult secondResult =
-    firstResult ≡ 0 → secondResult ≡ 0 → SameCover (patchesIn firstBytes) (patchesIn secondBytes) → SameSurvey first second
+-- accepted view their pictures and panel counts must agree, by the joint rule of F-3." The two calls, with one camera, stand beside it below, and their stations have one eye; the
+-- trees and what the buffers held have no part in it.
+abbrev pub TwoCuttings :
+    (firstBytes secondBytes : List ℕ) (s₁ s₂ : Station) (first second : Lent) (firstResult secondResult : ℕ) → Type 0
+TwoCuttings firstBytes secondBytes s₁ s₂ first second firstResult secondResult =
+    eyeOf s₁ ≡ eyeOf s₂ → firstResult ≡ 0 → secondResult ≡ 0 → SameCover (patchesIn firstBytes) (patchesIn secondBytes) →
+    SameSurvey first second
 
 -- Both calls, each as the survey call promises it, demand 3 of them, and what F-5 says of two cuttings.
 pub record PairSurveyed
-    (firstBytes secondBytes : List ℕ) (v : View) (before₁ after₁ before₂ after₂ : Lent) (result₁ result₂ : ℕ) : Type 0 where
-  pub first-call : ClosestSurveyed firstBytes v before₁ after₁ result₁
-  pub second-call : ClosestSurveyed secondBytes v before₂ after₂ result₂
-  pub demand-three : DemandThree firstBytes secondBytes v after₁ after₂ result₁ result₂
-  pub two-cuttings : TwoCuttings firstBytes secondBytes after₁ after₂ result₁ result₂
+    (firstBytes secondBytes : List ℕ) (s₁ s₂ : Station) (c : Camera) (before₁ after₁ before₂ after₂ : Lent) (result₁ result₂ : ℕ)
+    : Type 0 where
+  pub first-call : ClosestSurveyed firstBytes s₁ c before₁ after₁ result₁
+  pub second-call : ClosestSurveyed secondBytes s₂ c before₂ after₂ result₂
+  pub demand-three : DemandThree firstBytes secondBytes s₁ s₂ c after₁ after₂ result₁ result₂
+  pub two-cuttings : TwoCuttings firstBytes secondBytes s₁ s₂ after₁ after₂ result₁ result₂

@@ -8,22 +8,23 @@ use native.Mathlib.Omega.{arith}
 use lib.ListN.{length}
 use Rattle.model.specs.Vector.{Vec}
 use Rattle.model.specs.View.{View, levelAxes}
+use Rattle.model.specs.Station.{units, viewAt}
 use Rattle.model.specs.Format.{decode}
 use Rattle.model.specs.Call.{Call}
-use Rattle.model.specs.Questions.{sceneAnswer, viewInRange, callQuestions, surveyAnswer}
+use Rattle.model.specs.Questions.{sceneAnswer, stationInRange, viewInRange, callQuestions, surveyAnswer}
 use Rattle.model.proofs.Tests.{is-true}
 use Rattle.model.proofs.Answers.{scene-first, call-next}
 use Rattle.model.proofs.FirstNo.{refused-at}
 use Rattle.model.proofs.CallLimits.{view-bounded}
-use Rattle.contract.specs.Contract.{cameraBy, viewFrom, lengthsBy, gateCall}
+use Rattle.contract.specs.Contract.{cameraBy, lengthsBy, gateCall}
 
 module _ (bytes : List ℕ) (eye : Vec) (w h l entries : ℕ) where
   abbrev view : View
-  view = viewFrom eye (cameraBy levelAxes w h l)
+  view = viewAt (units eye) (cameraBy levelAxes w h l)
 
   -- the call with a picture, a table and unlit lists of these lengths
   abbrev pub lending : ℕ → ℕ → ℕ → Call
-  lending cells patches rows = gateCall bytes view (lengthsBy cells entries patches rows) 0
+  lending cells patches rows = gateCall bytes (units eye) (cameraBy levelAxes w h l) (lengthsBy cells entries patches rows) 0
 
   -- the answer where a question before 11 says no
   scene-refused : (cells patches rows : ℕ) {n : ℕ} → sceneAnswer bytes ≡ suc n → surveyAnswer (lending cells patches rows) ≡ suc n
@@ -34,9 +35,9 @@ module _ (bytes : List ℕ) (eye : Vec) (w h l entries : ℕ) where
       sceneAnswer bytes ≡ 0 →
       viewInRange view ≡ false →
       surveyAnswer (lending cells patches rows) ≡ 10
-  unfolding callQuestions
+  unfolding callQuestions stationInRange
   view-refused cells patches rows e said =
-      call-next (lending cells patches rows) e ∙ sym (refused-at (lending cells patches rows) 10 callQuestions said)
+      call-next (lending cells patches rows) e ∙ sym (refused-at (lending cells patches rows) 10 callQuestions (refl, said))
 
   -- the lengths as question 11 asks for them
   abbrev pub asked : Call

@@ -4,20 +4,21 @@ use Prim.Native.Nat.{ℕ, zero, suc, _*_}
 use lib.ListN.{length, drop}
 use Rattle.model.specs.Vector.{vec}
 use Rattle.model.specs.View.{levelAxes}
+use Rattle.model.specs.Station.{units}
 use Rattle.model.specs.Format.{u16At, i16At, decode}
 use Rattle.model.specs.Row.{rowLength}
 use Rattle.model.specs.Call.{Call}
 use Rattle.model.specs.Questions.{surveyAnswer}
 use Rattle.model.specs.Survey.{callCounts}
-use Rattle.contract.specs.Contract.{cameraBy, viewFrom, lengthsBy, gateCall}
+use Rattle.contract.specs.Contract.{cameraBy, lengthsBy, gateCall}
 
 -- Document 02, F-1, of the old view: "`ringbill` keeps it". The picture, the table of the patches' cells and the unlit lists are as long as question 11 asks. The
 -- station counter is 0.
 unfoldable pub inputCall : List ℕ → ℕ → Call
 inputCall input entries =
     gateCall (drop 12 input)
-    (viewFrom (vec (i16At input 0) (i16At input 2) (i16At input 4))
-    (cameraBy levelAxes (u16At input 6) (u16At input 8) (u16At input 10)))
+    (units (vec (i16At input 0) (i16At input 2) (i16At input 4)))
+    (cameraBy levelAxes (u16At input 6) (u16At input 8) (u16At input 10))
     (lengthsBy (u16At input 6 * u16At input 8) entries (length (decode (drop 12 input) .patches)) (u16At input 8 * rowLength))
     0
 

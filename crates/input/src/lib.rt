@@ -71,7 +71,7 @@ pub fn survey_input(input: &[u8], counts: &mut [u32]) -> u32
     let cells = capped(area(width, height), 32768);
     let patches = patches_told(&input[12..]);
     let rows = capped(area(height, 256), 32768);
-    survey::ring_survey(
+    survey::units::ring_survey(
         &input[12..],
         i16_at(input, 0),
         i16_at(input, 2),

@@ -14,7 +14,7 @@ use mir.ValLaws.{toZ-ofZ}
 use Rattle.integer.specs.Magnitude.{Within, signOf}
 
 -- ---- sizes
-size-negation : (z : ℤ) → natAbs (negℤ z) ≡ natAbs z
+pub size-negation : (z : ℤ) → natAbs (negℤ z) ≡ natAbs z
 size-negation (pos zero) = refl
 size-negation (pos (suc n)) = refl
 size-negation (negsuc n) = refl

@@ -10,7 +10,7 @@ use lib.ListN.{length}
 use Rattle.model.specs.Format.{decode}
 use Rattle.model.specs.Call.{Call, callView}
 use Rattle.model.specs.Accepted.{AcceptedScene}
-use Rattle.model.specs.Questions.{Question, answer, sceneQuestions, sceneAnswer, viewInRange, axesProper, lengthsFit, counterBelowEnd, callQuestions, onScene, questions, surveyAnswer}
+use Rattle.model.specs.Questions.{Question, answer, sceneQuestions, sceneAnswer, stationInRange, viewInRange, axesProper, lengthsFit, counterBelowEnd, callQuestions, onScene, questions, surveyAnswer}
 
 abbrev passOn : Bool → ℕ → ℕ → ℕ
 passOn b next number = elim b as (λ (x : Bool). ℕ) [ true ↦ next | false ↦ number ]
@@ -152,6 +152,7 @@ call-next c e = answer-on-scene sceneQuestions callQuestions c scene-numbers e
 -- what the questions on the call say of one that is accepted
 pub record AcceptedCall (c : Call) : Type 0 where
   pub scene : AcceptedScene (c .scene)
+  pub station : T (stationInRange (c .station))
   pub view : T (viewInRange (callView c))
   pub axes : T (axesProper (c .camera .axes))
   pub lengths : T (lengthsFit (c .camera) (length (decode (c .scene) .patches)) (c .lengths))
@@ -175,17 +176,20 @@ accepted-call c = (said, asked)
         let b = all-yes _ _ c numbered (a .1) in
         let d = all-yes _ _ c numbered (b .1) in
         let f = all-yes _ _ c numbered (d .1) in
+        let g = all-yes _ _ c numbered (f .1) in
         record {
           scene = accepted-scene (c .scene) .0 s;
-          view = a .0;
-          axes = b .0;
-          lengths = d .0;
-          counter = f .0;
+          station = a .0;
+          view = b .0;
+          axes = d .0;
+          lengths = f .0;
+          counter = g .0;
         }
 
     asked : AcceptedCall c → surveyAnswer c ≡ 0
     asked h =
         call-next c (accepted-scene (c .scene) .1 (h .scene))
+        ∙ answer-yes _ _ c (h .station)
         ∙ answer-yes _ _ c (h .view)
         ∙ answer-yes _ _ c (h .axes)
         ∙ answer-yes _ _ c (h .lengths)

@@ -6,12 +6,15 @@ pub mod Encode
 pub mod Scenes
 pub mod Stations
 pub mod Limits
+pub mod Doubles
 -- tests over lists
 pub mod Tests
 pub mod Loops
 pub mod Answers
 pub mod FirstNo
 pub mod Struck
+pub mod WholeStation
+pub mod Nearest
 pub mod CallLimits
 pub mod PanelNumbers
 -- the geometry of met patches

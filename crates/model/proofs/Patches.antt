@@ -72,7 +72,8 @@ module _ {p : Patch} (h : Proper p) where
       let t = first-three (p .corners) three-corners in
       subst₂ (λ (v w : Vec). pos 0 <ℤ det (normal p) (minus w v) (minus (corner p 2) v)) (t .0) (t .1) (turns (turned-edge some-corner start) (t .2))
 
--- "for every edge from v to w, direction · ((v − eye) × (w − eye)) is not zero and has the sign of the eye-to-corner product, also not zero"
+-- "for every edge from v to w, direction · ((v − eye) × (w − eye)) is not zero and has the sign of the eye-to-corner product (first corner − eye) · n,
+-- also not zero"
 pub record Meets (eye d : Vec) (p : Patch) : Type 0 where
   pub faced : eyeProduct eye p ≢ pos 0
   pub passed : {e : Edge} → List·Memᴰ e (edges (p .corners)) → SameSign (eyeProduct eye p) (edgeNumber d (edgeVector eye e))

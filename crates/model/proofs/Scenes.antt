@@ -6,6 +6,7 @@ use lib.IntN.{ℤ, pos, negℤ}
 use Rattle.model.specs.Vector.{Vec, Plane, vec, origin}
 use Rattle.model.specs.View.{Axes, levelAxes}
 use Rattle.model.specs.Format.{decode}
+use Rattle.model.specs.Station.{Station, units}
 use Rattle.model.specs.Call.{Call}
 use Rattle.model.proofs.Encode.{NodeLine, PatchLine, sceneBytes}
 
@@ -155,16 +156,20 @@ sceneWalls =
     (patchLine 1 0 4 ∷ patchLine 9 4 4 ∷ [])
     (openWall (pos 150) ++ openWall (pos 80))
 
--- a call with buffers of the right lengths and the counter at 0, seen by a camera with these axes
-abbrev pub turnedCall : Axes → List ℕ → Vec → ℕ → ℕ → ℕ → Call
-turnedCall a bytes e w h l =
+-- a call with buffers of the right lengths and the counter at 0, from a station, seen by a camera with these axes
+abbrev pub stationCall : Station → Axes → List ℕ → ℕ → ℕ → ℕ → Call
+stationCall s a bytes w h l =
     record {
       scene = bytes;
-      eye = e;
+      station = s;
       camera = record { axes = a; window = record { width = w; height = h; lens = l } };
       lengths = record { picture = w * h; counts = 1025; patchCounts = length (decode bytes .patches); unlit = h * 256 };
       counter = 0;
     }
+
+-- the same from a station in units
+abbrev pub turnedCall : Axes → List ℕ → Vec → ℕ → ℕ → ℕ → Call
+turnedCall a bytes e = stationCall (units e) a bytes
 
 -- the same seen by a level camera
 abbrev pub fittingCall : List ℕ → Vec → ℕ → ℕ → ℕ → Call

@@ -1,21 +1,23 @@
--- Document 01's starred stations, over scene bytes: one list under one statement; stations of turned cameras and of joints under two more; and three of booked cells.
+-- Document 01's starred stations, over scene bytes: one list under one statement; stations in metres, of turned cameras and of joints under three more; and three of booked cells.
 use mathlib.Core.Path.{_≡_, refl}
 use mathlib.Core.Bool.{cond}
 use mathlib.Core.List.{List, [], _∷_, map, sum}
 use Prim.Native.Nat.{ℕ, _+_}
 use lib.Dec.{eqb}
-use lib.IntN.{pos, negsuc}
+use lib.IntN.{ℤ, pos, negsuc}
+use lib.Ieee.{Float, binary64, ofBits}
 use lib.ListN.{length, getD, replicate}
 use Rattle.model.specs.Lists.{range}
 use Rattle.model.specs.Vector.{vec, origin}
 use Rattle.model.specs.Patch.{numbered}
 use Rattle.model.specs.View.{Axes, levelAxes}
+use Rattle.model.specs.Station.{metres}
 use Rattle.model.specs.Row.{usedPart}
 use Rattle.model.specs.Call.{Call}
 use Rattle.model.specs.Questions.{surveyAnswer}
 use Rattle.model.specs.Survey.{callPatches, callPicture, callCounts, callPatchCells, callUnlit}
 use Rattle.model.proofs.Computing.{everything}
-use Rattle.model.proofs.Scenes.{sceneS, sceneT, sceneTless5, sceneTless7, scene3and5, sceneQuarters, sceneWall, sceneTwice, scenePieces, sceneNear, sceneWedge, sceneStrip, sceneWalls, noNodes, sOfHalfWidth, turnedCall, fittingCall, usual}
+use Rattle.model.proofs.Scenes.{sceneS, sceneT, sceneTless5, sceneTless7, scene3and5, sceneQuarters, sceneWall, sceneTwice, scenePieces, sceneNear, sceneWedge, sceneStrip, sceneWalls, noNodes, sOfHalfWidth, stationCall, turnedCall, fittingCall, usual}
 
 -- what is seen of a call: its answer (0 is "done"), its picture, the used pairs of some rows, and the counts of some panels (of "nothing" at 0)
 pub record Outcome : Type 0 where
@@ -25,14 +27,14 @@ pub record Outcome : Type 0 where
   pub cells : List ℕ
 
 -- a call, the rows and panels that are looked at, and what is due
-pub record Station : Type 0 where
+pub record Tried : Type 0 where
   pub call : Call
   pub rowsAsked : List ℕ
   pub panelsAsked : List ℕ
   pub said : Outcome
 
 -- what the definitions say of it
-unfoldable pub seen : Station → Outcome
+unfoldable pub seen : Tried → Outcome
 seen s =
     record {
       result = surveyAnswer (s .call);
@@ -50,11 +52,11 @@ abbrev blank : List ℕ
 blank = replicate 16 0
 
 -- an accepted call
-abbrev pub shows : Call → List ℕ → List ℕ → List (List ℕ) → List ℕ → List ℕ → Station
+abbrev pub shows : Call → List ℕ → List ℕ → List (List ℕ) → List ℕ → List ℕ → Tried
 shows c p js rs ns ks =
     record { call = c; rowsAsked = js; panelsAsked = ns; said = record { result = 0; shown = p; rows = rs; cells = ks } }
 
-abbrev pub stations : List Station
+abbrev pub stations : List Tried
 stations =
     shows (usual sceneS) (middle 5) (1 ∷ 0 ∷ []) ((0 ∷ 1 ∷ 3 ∷ 1 ∷ []) ∷ (0 ∷ 4 ∷ []) ∷ []) (5 ∷ 0 ∷ [])
     (4 ∷ 12 ∷ [])
@@ -72,10 +74,30 @@ stations =
     ∷ []
 
 -- Beside them, since no starred station tells left from right or top from bottom: cells stand row after row from the top, each row from the left.
-abbrev pub quarters : Station
+abbrev pub quarters : Tried
 quarters =
     shows (fittingCall sceneQuarters origin 4 2 4) (1 ∷ 1 ∷ 2 ∷ 2 ∷ 3 ∷ 3 ∷ 4 ∷ 4 ∷ []) (0 ∷ []) ([] ∷ []) (1 ∷ 0 ∷ [])
     (2 ∷ 0 ∷ [])
+
+-- ---- stations in metres (document 02, F-7)
+
+-- S with a half-width, 4 by 4, lens 4, from a station in metres
+abbrev fromMetres : ℤ → Float → Float → Float → List ℕ → Tried
+fromMetres h x y z p = shows (stationCall (metres x y z) levelAxes (sOfHalfWidth h) 4 4 4) p [] [] [] []
+
+abbrev double : ℕ → Float
+double = ofBits binary64
+
+-- Both zeros are 0. 0.0625 to the right is the eye (12,0,0), which half-width 38 tells from (13,0,0); 0.1875 is (38,0,0), which half-width 37 tells from (37,0,0); half a
+-- metre forward is the eye (0,100,0), in the patch's plane.
+abbrev pub inMetres : List Tried
+inMetres =
+    fromMetres (pos 50) (double 0) (double 0x8000_0000_0000_0000) (double 0) (middle 5)
+    ∷ fromMetres (pos 38) (double 0x3fb0_0000_0000_0000) (double 0) (double 0) (middle 5)
+    ∷ fromMetres (pos 37) (double 0x3fc8_0000_0000_0000) (double 0) (double 0)
+    (0 ∷ 0 ∷ 0 ∷ 0 ∷ 5 ∷ 5 ∷ 0 ∷ 0 ∷ 5 ∷ 5 ∷ 0 ∷ 0 ∷ 0 ∷ 0 ∷ 0 ∷ 0 ∷ [])
+    ∷ fromMetres (pos 50) (double 0) (double 0x3fe0_0000_0000_0000) (double 0) blank
+    ∷ []
 
 -- ---- cameras that look any way
 
@@ -115,10 +137,10 @@ sideways =
       up = vec (pos 0) (pos 0) (pos 1);
     }
 
-abbrev turnedQuarters : Axes → List ℕ → Station
+abbrev turnedQuarters : Axes → List ℕ → Tried
 turnedQuarters a p = shows (turnedCall a sceneQuarters origin 4 2 4) p [] [] [] []
 
-abbrev pub turned : List Station
+abbrev pub turned : List Tried
 turned =
     turnedQuarters rolled (2 ∷ 2 ∷ 4 ∷ 4 ∷ 1 ∷ 1 ∷ 3 ∷ 3 ∷ [])
     ∷ turnedQuarters halfTurn (4 ∷ 4 ∷ 3 ∷ 3 ∷ 2 ∷ 2 ∷ 1 ∷ 1 ∷ [])
@@ -130,10 +152,10 @@ turned =
 -- ---- sight lines along joints
 
 -- 3 by 3, lens 4, eye (0,0,0): the lines of the middle column and of the middle row run through x = 0 and z = 0
-abbrev middleLines : Axes → List ℕ → List ℕ → Station
+abbrev middleLines : Axes → List ℕ → List ℕ → Tried
 middleLines a bytes p = shows (turnedCall a bytes origin 3 3 4) p [] [] [] []
 
-abbrev pub jointed : List Station
+abbrev pub jointed : List Tried
 jointed =
     middleLines levelAxes sceneQuarters (1 ∷ 2 ∷ 2 ∷ 3 ∷ 4 ∷ 4 ∷ 3 ∷ 4 ∷ 4 ∷ [])
     ∷ middleLines rolled sceneQuarters (2 ∷ 4 ∷ 4 ∷ 1 ∷ 3 ∷ 3 ∷ 1 ∷ 3 ∷ 3 ∷ [])
@@ -166,7 +188,7 @@ booked c panels =
     ofPanel n k = cond (eqb (numbered (callPatches c) k .panel) n) (getD (callPatchCells c) k 0) 0
 
 -- What the definitions say of each starred station is what document 01 says of it; of half-width 25 what document 02's F-3 makes of it.
-pub starred-stations : map seen stations ≡ map (λ (s : Station). s .said) stations
+pub starred-stations : map seen stations ≡ map (λ (s : Tried). s .said) stations
 unfolding everything seen
 starred-stations = refl
 
@@ -174,14 +196,18 @@ pub rows-from-the-top : seen quarters ≡ quarters .said
 unfolding everything seen
 rows-from-the-top = refl
 
+pub metre-stations : map seen inMetres ≡ map (λ (s : Tried). s .said) inMetres
+unfolding everything seen ofBits
+metre-stations = refl
+
 -- The same quarters as turned cameras see them, and a wall that only a turned camera sees.
-pub turned-stations : map seen turned ≡ map (λ (s : Station). s .said) turned
+pub turned-stations : map seen turned ≡ map (λ (s : Tried). s .said) turned
 unfolding everything seen
 turned-stations = refl
 
 -- Four panels that meet in a corner, seen level and rolled; of two walls that meet in an edge on the sight lines, the nearer one; a wedge that the lines just
 -- beside pass above, as the step down is small beside the step to the right; and a strip that the lines of one row only touch.
-pub joint-stations : map seen jointed ≡ map (λ (s : Station). s .said) jointed
+pub joint-stations : map seen jointed ≡ map (λ (s : Tried). s .said) jointed
 unfolding everything seen
 joint-stations = refl
 

@@ -10,6 +10,7 @@ use Rattle.integer.proofs.Identity.{ring, reify}
 use Rattle.integer.proofs.Products.{*-pos}
 use Rattle.model.specs.Vector.{Vec, vec, plus, times}
 use Rattle.model.specs.View.{Window, Axes, View, levelAxes, direction}
+use Rattle.model.specs.Station.{eyeOf}
 use Rattle.model.specs.Beside.{stepped, fine, cellLine}
 use Rattle.model.specs.Picture.{picture, cellPanel, unlitLists}
 use Rattle.model.specs.Call.{Call, callLine}
@@ -72,20 +73,20 @@ module _ (c : Call) (level : c .camera .axes ≡ levelAxes) where
 
   pub level-picture :
       callPicture c
-      ≡ picture (c .eye) (c .camera .window .width) (c .camera .window .height) (levelLine (c .camera .window)) (callPatches c)
+      ≡ picture (eyeOf (c .station)) (c .camera .window .width) (c .camera .window .height) (levelLine (c .camera .window)) (callPatches c)
   unfolding callPicture
   level-picture =
-      ap (λ (d : ℕ → ℕ → Vec). picture (c .eye) (c .camera .window .width) (c .camera .window .height) d (callPatches c)) level-lines
+      ap (λ (d : ℕ → ℕ → Vec). picture (eyeOf (c .station)) (c .camera .window .width) (c .camera .window .height) d (callPatches c)) level-lines
 
   pub level-unlit :
       callUnlit c
       ≡ unlitLists (c .camera .window .width) (c .camera .window .height)
-      (cellPanel (c .eye) (levelLine (c .camera .window)) (callPatches c))
+      (cellPanel (eyeOf (c .station)) (levelLine (c .camera .window)) (callPatches c))
   unfolding callUnlit
   level-unlit =
       ap
       (λ (d : ℕ → ℕ → Vec).
-      unlitLists (c .camera .window .width) (c .camera .window .height) (cellPanel (c .eye) d (callPatches c))) level-lines
+      unlitLists (c .camera .window .width) (c .camera .window .height) (cellPanel (eyeOf (c .station)) d (callPatches c))) level-lines
 
 -- ---- any view
 

@@ -7,6 +7,7 @@ pub mod Ray
 pub mod Tree
 pub mod Format
 pub mod View
+pub mod Station
 pub mod Booking
 pub mod Beside
 pub mod Lent

@@ -1,6 +1,7 @@
 -- The gate, question by question, on any byte string and any call.
 use mathlib.Core.Bool.{Bool, true, false, not, _&&_, _||_}
 use mathlib.Core.List.{List, [], _∷_, _++_, map}
+use mathlib.Core.Option.{Option, none, some}
 use Prim.Native.Nat.{ℕ, suc, _+_, _*_, _-_, _/_, _%_}
 use lib.Dec.{eqb, leb, ltb}
 use lib.IntN.{ℤ, pos, natAbs}
@@ -12,6 +13,7 @@ use Rattle.model.specs.Patch.{Patch, cornersCounted, flat, strictlyConve
 use Rattle.model.specs.Tree.{divides}
 use Rattle.model.specs.Format.{Header, Section, Run, NodeRecord, PatchRecord, Scene, headerOf, decode, sceneVersion, headerSize, nodeSize, patchSize, cornerSize, mostNodes, mostPatches, mostCorners, highestPanel, noChild, inRun, patchTable, patchTree}
 use Rattle.model.specs.View.{Axes, Camera, View}
+use Rattle.model.specs.Station.{Station, units, metres, wholeUnits}
 use Rattle.model.specs.Lent.{Lengths}
 use Rattle.model.specs.Call.{Call, callView}
 use Rattle.model.specs.Row.{rowLength}
@@ -179,6 +181,18 @@ sceneQuestions =
 unfoldable pub sceneAnswer : List ℕ → ℕ
 sceneAnswer bytes = answer sceneQuestions bytes
 
+-- a whole number that is there, and from −10,000 to 10,000
+abbrev pub wholeInRange : Option ℤ → Bool
+wholeInRange none = false
+wholeInRange (some n) = upTo 10000 n
+
+-- 15. Has each double of the station a whole number of units, from −10,000 to 10,000? Document 02, F-7: "15 when a double is not finite or its whole number leaves ±10,000". A
+-- station in units has no double; its range is a part of 10.
+unfoldable pub stationInRange : Station → Bool
+stationInRange (units eye) = true
+stationInRange (metres x y z) =
+    wholeInRange (wholeUnits x) && wholeInRange (wholeUnits y) && wholeInRange (wholeUnits z)
+
 -- 10. "Is the eye within ±10,000, width 1 to 256, height 1 to 128, lens 1 to 4,096?"
 unfoldable pub viewInRange : View → Bool
 viewInRange v =
@@ -209,10 +223,11 @@ lengthsFit c patches l =
 unfoldable pub counterBelowEnd : ℕ → Bool
 counterBelowEnd n = ltb n 4294967295
 
--- The questions on the call, in the order of asking. Document 02, F-1: 14 is "put right after question 10".
+-- The questions on the call, in the order of asking. Document 02, F-7: 15 is "put just before question 10"; F-1: 14 is "put right after question 10".
 unfoldable pub callQuestions : List (Question Call)
 callQuestions =
-    record { number = 10; test = λ c. viewInRange (callView c) }
+    record { number = 15; test = λ c. stationInRange (c .station) }
+    ∷ record { number = 10; test = λ c. viewInRange (callView c) }
     ∷ record { number = 14; test = λ c. axesProper (c .camera .axes) }
     ∷ record { number = 11; test = λ c. lengthsFit (c .camera) (length (decode (c .scene) .patches)) (c .lengths) }
     ∷ record { number = 12; test = λ c. counterBelowEnd (c .counter) }

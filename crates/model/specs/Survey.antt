@@ -5,6 +5,7 @@ use Rattle.model.specs.Patch.{Patch}
 use Rattle.model.specs.Format.{decode, patchTable}
 use Rattle.model.specs.Picture.{picture, cellPanel, counts, unlitLists, nextCounter}
 use Rattle.model.specs.Booking.{patchCells}
+use Rattle.model.specs.Station.{eyeOf}
 use Rattle.model.specs.Call.{Call, callLine}
 
 -- the scene's patches, in the order of its patch records
@@ -12,18 +13,18 @@ abbrev pub callPatches : Call → List Patch
 callPatches c = patchTable (decode (c .scene))
 
 unfoldable pub callPicture : Call → List ℕ
-callPicture c = picture (c .eye) (c .camera .window .width) (c .camera .window .height) (callLine c) (callPatches c)
+callPicture c = picture (eyeOf (c .station)) (c .camera .window .width) (c .camera .window .height) (callLine c) (callPatches c)
 
 unfoldable pub callCounts : Call → List ℕ
 callCounts c = counts (callPicture c)
 
 unfoldable pub callPatchCells : Call → List ℕ
 callPatchCells c =
-    patchCells (c .eye) (c .camera .window .width) (c .camera .window .height) (callLine c) (callPatches c)
+    patchCells (eyeOf (c .station)) (c .camera .window .width) (c .camera .window .height) (callLine c) (callPatches c)
 
 unfoldable pub callUnlit : Call → List ℕ
 callUnlit c =
-    unlitLists (c .camera .window .width) (c .camera .window .height) (cellPanel (c .eye) (callLine c) (callPatches c))
+    unlitLists (c .camera .window .width) (c .camera .window .height) (cellPanel (eyeOf (c .station)) (callLine c) (callPatches c))
 
 unfoldable pub callCounter : Call → ℕ
 callCounter c = nextCounter (c .counter)

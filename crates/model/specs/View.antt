@@ -38,7 +38,7 @@ direction c i j =
     (times (pos (c .window .lens)) (c .axes .forward)))
     (times (pos (c .window .height) -ℤ pos (1 + 2 * j)) (c .axes .up))
 
--- a camera at a station (document 01: "The station is the eye"): what every statement about a picture speaks of
+-- a camera at an eye: what every statement about a picture speaks of
 pub record View : Type 0 where
   pub eye : Vec
   pub camera : Camera

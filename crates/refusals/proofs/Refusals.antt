@@ -6,8 +6,10 @@ use mathlib.Core.List.{List, [], _∷_, _++_, map}
 use Prim.Native.Nat.{ℕ, _+_}
 use lib.IntN.{ℤ, pos, negsuc, negℤ}
 use lib.ListN.{getD, take}
+use lib.Ieee.{Float, nan, inf, binary64, ofBits}
 use Rattle.model.specs.Vector.{Vec, Plane, vec, origin}
 use Rattle.model.specs.View.{Axes, levelAxes}
+use Rattle.model.specs.Station.{units, metres}
 use Rattle.model.specs.Call.{Call}
 use Rattle.model.specs.Questions.{Question, answer, questions}
 use Rattle.model.proofs.Encode.{headerBytes, bodyBytes, sceneBytes}
@@ -118,7 +120,7 @@ abbrev lentTurned : Axes → ℕ → ℕ → ℕ → ℕ → ℕ → ℕ → Cal
 lentTurned a w p n b u k =
     record {
       scene = sceneS;
-      eye = origin;
+      station = units origin;
       camera = record { axes = a; window = record { width = w; height = 4; lens = 4 } };
       lengths = record { picture = p; counts = n; patchCounts = b; unlit = u };
       counter = k;
@@ -136,6 +138,27 @@ withUp v = record { right = levelAxes .right; forward = levelAxes .forward; up =
 
 abbrev at : ℤ → Vec
 at x = vec x (pos 0) (pos 0)
+
+-- a call from a station in metres
+abbrev from : Float → Float → Float → Call → Call
+from x y z c =
+    record { scene = c .scene; station = metres x y z; camera = c .camera; lengths = c .lengths; counter = c .counter }
+
+-- the double of 0, that of 50.0025, which gives 10,000 units, and the next one, which gives 10,001; and both below 0
+abbrev zeroMetres : Float
+zeroMetres = ofBits binary64 0
+
+abbrev lastMetres : Float
+lastMetres = ofBits binary64 0x4049_0051_eb85_1eb8
+
+abbrev beyondMetres : Float
+beyondMetres = ofBits binary64 0x4049_0051_eb85_1eb9
+
+abbrev firstMetres : Float
+firstMetres = ofBits binary64 0xc049_0051_eb85_1eb8
+
+abbrev belowMetres : Float
+belowMetres = ofBits binary64 0xc049_0051_eb85_1eb9
 
 -- S, or S with other corners, under a spoilt header
 abbrev headed : List Vec → ℕ → ℕ → ℕ → ℕ → ℕ → ℕ → ℕ → List ℕ
@@ -218,6 +241,17 @@ cases =
     ∷ case (below level none 1 leaning) (9 ∷ [])
     ∷ case (below planeS 1 none cornersS) (9 ∷ [])
     ∷ onCall (fittingCall (likeS planeS none 1 5 4 offPlane) origin 0 4 4) (9 ∷ 10 ∷ [])
+    -- a station in metres: its doubles at the limits and beyond, each part on its own; 9 before 15, 15 before 10, 14, 11 and 12
+    ∷ onCall (from zeroMetres lastMetres firstMetres (usual sceneS)) []
+    ∷ onCall (from beyondMetres zeroMetres zeroMetres (usual sceneS)) (15 ∷ 10 ∷ [])
+    ∷ onCall (from zeroMetres beyondMetres zeroMetres (usual sceneS)) (15 ∷ 10 ∷ [])
+    ∷ onCall (from zeroMetres zeroMetres belowMetres (usual sceneS)) (15 ∷ 10 ∷ [])
+    ∷ onCall (from zeroMetres zeroMetres nan (usual sceneS)) (15 ∷ [])
+    ∷ onCall (from zeroMetres (inf true) zeroMetres (usual sceneS)) (15 ∷ [])
+    ∷ onCall (from (inf false) zeroMetres zeroMetres (usual sceneS)) (15 ∷ [])
+    ∷ onCall (from nan nan nan (usual (likeS planeS none 1 5 4 offPlane))) (9 ∷ 15 ∷ [])
+    ∷ onCall (from zeroMetres zeroMetres nan (fittingCall sceneS origin 0 4 4)) (15 ∷ 10 ∷ [])
+    ∷ onCall (from nan zeroMetres zeroMetres (lentTurned (withRight (at (pos 101))) 4 15 1025 1 1024 4294967295)) (15 ∷ 14 ∷ 11 ∷ 12 ∷ [])
     -- the view; 10 before 11
     ∷ onCall (fittingCall sceneS origin 256 1 4) []
     ∷ onCall (fittingCall sceneS origin 257 1 4) (10 ∷ [])
@@ -256,7 +290,7 @@ cases =
 -- The questions that say no to each case are the ones named, and the answer is the first of them, or 0.
 pub limits-of-the-questions :
     map (λ (c : Case). noes questions (c .call)) cases ≡ map (λ (c : Case). c .expected) cases
-unfolding everything noes
+unfolding everything noes ofBits
 limits-of-the-questions = refl
 
 -- The answer is the first no, for every call.

@@ -1,23 +1,17 @@
--- A view that was handed over in words of 16 bits is the same view.
-use mathlib.Core.Path.{_≡_, _∙_}
+-- A station in units and a camera that were handed over in words of 16 bits are the same.
+use mathlib.Core.Path.{_≡_, _∙_, ap}
 use Prim.Native.Nat.{ℕ}
 use lib.IntN.{ℤ}
 use mir.Syntax.{w16}
-use mir.Val.{SFits, toZ, ofZ}
-use mir.ValLaws.{toZ-ofZ}
+use mir.Val.{SFits}
 use Rattle.model.specs.Vector.{Vec, vec}
 use Rattle.model.specs.View.{Axes}
-use Rattle.contract.specs.Contract.{axesBy, cameraBy, viewFrom}
+use Rattle.model.specs.Station.{units}
+use Rattle.format.proofs.Words.{words, same-vector}
+use Rattle.contract.specs.Contract.{axesBy, cameraBy}
 
--- a vector of words
-abbrev pub words : ℤ → ℤ → ℤ → Vec
-words x y z = vec (toZ w16 (ofZ w16 x)) (toZ w16 (ofZ w16 y)) (toZ w16 (ofZ w16 z))
-
-pub same-vector : {x y z : ℤ} → SFits w16 x → SFits w16 y → SFits w16 z → words x y z ≡ vec x y z
-same-vector {x} {y} {z} f g h = λ i. vec (toZ-ofZ w16 x f i) (toZ-ofZ w16 y g i) (toZ-ofZ w16 z h i)
-
-pub handed : {x y z : ℤ} {v : Vec} → SFits w16 x → SFits w16 y → SFits w16 z → v ≡ words x y z → v ≡ vec x y z
-handed f g h e = e ∙ same-vector f g h
+pub same-units : {x y z : ℤ} → SFits w16 x → SFits w16 y → SFits w16 z → units (words x y z) ≡ units (vec x y z)
+same-units f g h = ap units (same-vector f g h)
 
 -- the same three vectors are the same axes
 pub same-axes :
@@ -25,8 +19,13 @@ pub same-axes :
     right ≡ right′ → forward ≡ forward′ → up ≡ up′ → axesBy right forward up ≡ axesBy right′ forward′ up′
 same-axes r f u = λ i. axesBy (r i) (f i) (u i)
 
--- the same eye, axes and window are the same view
-pub same-view :
-    {eye eye′ : Vec} {axes axes′ : Axes} {w h l : ℕ} →
-    eye ≡ eye′ → axes ≡ axes′ → viewFrom eye (cameraBy axes w h l) ≡ viewFrom eye′ (cameraBy axes′ w h l)
-same-view {w = w} {h} {l} e a = λ i. viewFrom (e i) (cameraBy (a i) w h l)
+-- a camera by its axes' nine numbers
+pub same-camera :
+    {axes : Axes} {rx ry rz fx fy fz ux uy uz : ℤ} {w h l : ℕ} →
+    axes ≡ axesBy (words rx ry rz) (words fx fy fz) (words ux uy uz) →
+    SFits w16 rx → SFits w16 ry → SFits w16 rz →
+    SFits w16 fx → SFits w16 fy → SFits w16 fz →
+    SFits w16 ux → SFits w16 uy → SFits w16 uz →
+    cameraBy axes w h l ≡ cameraBy (axesBy (vec rx ry rz) (vec fx fy fz) (vec ux uy uz)) w h l
+same-camera {w = w} {h} {l} e r r′ r″ f f′ f″ u u′ u″ =
+    ap (λ (a : Axes). cameraBy a w h l) (e ∙ same-axes (same-vector r r′ r″) (same-vector f f′ f″) (same-vector u u′ u″))

@@ -1,2 +1,2 @@
--- A view that was handed over in words.
+-- A station and a camera that were handed over in words.
 pub mod Handed

@@ -4,47 +4,55 @@ use mathlib.Core.List.{List}
 use Prim.Native.Nat.{ℕ, _+_, _≤_, _<_}
 use native.Mathlib.Nat.{mul-le-mul}
 use native.Mathlib.Omega.{arith}
-use lib.Dec.{ltb→lt}
+use lib.Dec.{T, ltb→lt}
 use lib.ListN.{length, getD}
+use Rattle.model.specs.Vector.{Vec}
 use Rattle.model.specs.View.{View, viewWidth, viewHeight}
+use Rattle.model.specs.Station.{Station, eyeOf, viewAt}
 use Rattle.model.specs.Beside.{cellLine}
 use Rattle.model.specs.Lent.{Lent, lengthsOf}
+use Rattle.model.specs.Call.{Call}
 use Rattle.model.specs.Format.{decode, patchTable}
 use Rattle.model.specs.Picture.{counts, countEntries}
-use Rattle.model.specs.Questions.{counterBelowEnd, surveyAnswer}
+use Rattle.model.specs.Questions.{pointInRange, counterBelowEnd, surveyAnswer}
 use Rattle.model.specs.Survey.{callPicture, callCounts, callPatchCells, callUnlit, callCounter}
 use Rattle.model.proofs.Answers.{AcceptedCall, accepted-call}
 use Rattle.model.proofs.CallLimits.{ViewBounded, view-bounded, AxesBounded, axes-bounded, LengthsRight, lengths-right}
 use Rattle.model.proofs.Pictures.{picture-length, picture-counted}
 use Rattle.model.proofs.PanelNumbers.{panel-bounded}
-use Rattle.geometry.specs.declared.Vector.{Vector}
+use Rattle.geometry.specs.Machine.{vecOf}
 use Rattle.geometry.proofs.Sizes.{parts-bounded}
 use Rattle.camera.specs.declared.Camera.{Camera}
-use Rattle.camera.specs.Machine.{viewOf}
+use Rattle.camera.specs.Machine.{cameraOf, viewOf}
+use Rattle.station.specs.declared.Located.{Located}
+use Rattle.station.specs.Machine.{LocatedAt}
 use Rattle.counting.specs.Counting.{Countable}
 use Rattle.contract.specs.Contract.{lentOf, callOn, results, leftBy, Surveyed}
 use Rattle.contract.proofs.Refusal.{left-old}
 use Rattle.rendering.specs.Painted.{PaintingAsked, Painted}
 
 module _
-    (bytes : List ℕ) (eye : Vector) (camera : Camera) (before : Lent) {n : ℕ}
-    (answer : n ≡ surveyAnswer (callOn bytes (viewOf eye camera) before))
+    (bytes : List ℕ) (s : Station) (camera : Camera) (before : Lent) {n : ℕ}
+    (answer : n ≡ surveyAnswer (callOn bytes s (cameraOf camera) before))
   where
     abbrev v : View
-    v = viewOf eye camera
+    v = viewAt s (cameraOf camera)
+
+    abbrev call : Call
+    call = callOn bytes s (cameraOf camera) before
 
     -- "The first no gives its number, and nothing lent is altered."
-    pub refused : (n ≡ 0 → ⊥) → Surveyed bytes v before before n
+    pub refused : (n ≡ 0 → ⊥) → Surveyed bytes s (cameraOf camera) before before n
     refused f =
         record {
           answered = answer;
           left =
-              left-old (surveyAnswer (callOn bytes v before)) (results (callOn bytes v before)) before (λ z. f (answer ∙ z));
+              left-old (surveyAnswer call) (results call) before (λ z. f (answer ∙ z));
         }
 
     module _ (done : n ≡ 0) where
-      yes : AcceptedCall (callOn bytes v before)
-      yes = accepted-call (callOn bytes v before) .0 (sym answer ∙ done)
+      yes : AcceptedCall call
+      yes = accepted-call call .0 (sym answer ∙ done)
 
       view : ViewBounded v
       view = view-bounded v (yes .view)
@@ -55,25 +63,34 @@ module _
       fitting : LengthsRight (v .camera) (length (decode bytes .patches)) (lengthsOf before)
       fitting = lengths-right (v .camera) (length (decode bytes .patches)) (lengthsOf before) (yes .lengths)
 
-      -- what painting asks
-      pub paintable : PaintingAsked bytes eye camera (before .picture) (before .unlit) (before .patchCounts)
-      paintable =
-          record {
-            accepted = yes .scene;
-            near = parts-bounded 10000 eye (omega arith) (view .point);
-            aimed =
-                record {
-                  right-bounded = parts-bounded 100 (camera .axes .right) (omega arith) (axes .right-short);
-                  forward-bounded = parts-bounded 100 (camera .axes .forward) (omega arith) (axes .forward-short);
-                  up-bounded = parts-bounded 100 (camera .axes .up) (omega arith) (axes .up-short);
-                  width-within = record { within = view .narrow };
-                  height-within = record { within = view .low };
-                  lens-within = record { within = view .lens-most };
-                };
-            framed =
-                record { narrow = view .narrow; low = omega (arith, view .low); cells = fitting .cells; rows = fitting .rows };
-            entries = fitting .booked;
-          }
+      module _ {l : Located} (located : LocatedAt s l) where
+        -- the eye that painting sees from is the station's
+        same-eye : vecOf (l .eye) ≡ eyeOf s
+        same-eye = located .eye-is (yes .station)
+
+        -- what painting asks
+        pub paintable : PaintingAsked bytes (l .eye) camera (before .picture) (before .unlit) (before .patchCounts)
+        paintable =
+            record {
+              accepted = yes .scene;
+              near = parts-bounded 10000 (l .eye) (omega arith) (subst (λ (e : Vec). T (pointInRange e)) (sym same-eye) (view .point));
+              aimed =
+                  record {
+                    right-bounded = parts-bounded 100 (camera .axes .right) (omega arith) (axes .right-short);
+                    forward-bounded = parts-bounded 100 (camera .axes .forward) (omega arith) (axes .forward-short);
+                    up-bounded = parts-bounded 100 (camera .axes .up) (omega arith) (axes .up-short);
+                    width-within = record { within = view .narrow };
+                    height-within = record { within = view .low };
+                    lens-within = record { within = view .lens-most };
+                  };
+              framed =
+                  record { narrow = view .narrow; low = omega (arith, view .low); cells = fitting .cells; rows = fitting .rows };
+              entries = fitting .booked;
+            }
+
+        pub painted-from : {cells unlit booked : List ℕ} → Painted bytes (viewOf (l .eye) camera) cells unlit booked → Painted bytes v cells unlit booked
+        painted-from {cells} {unlit} {booked} h =
+            subst (λ (e : Vec). Painted bytes (record { eye = e; camera = cameraOf camera }) cells unlit booked) same-eye h
 
       pub counter-rises : before .counter + 1 < 4294967296
       unfolding counterBelowEnd
@@ -96,12 +113,12 @@ module _
             }
 
         -- an accepted call leaves its results
-        pub accepted : {totals : List ℕ} {k : ℕ} → totals ≡ counts cells → k ≡ before .counter + 1 → Surveyed bytes v before (lentOf cells totals booked unlit k) 0
+        pub accepted : {totals : List ℕ} {k : ℕ} → totals ≡ counts cells → k ≡ before .counter + 1 → Surveyed bytes s (cameraOf camera) before (lentOf cells totals booked unlit k) 0
         unfolding callPicture callCounts callPatchCells callUnlit callCounter
         accepted {totals} {k} t e =
             record {
               answered = sym done ∙ answer;
               left =
                   (λ i. lentOf (painted .cells-are i) ((t ∙ ap counts (painted .cells-are)) i) (painted .booked-are i) (painted .unlit-are i) (e i))
-                  ∙ ap (λ (m : ℕ). leftBy m (results (callOn bytes v before)) before) (sym done ∙ answer);
+                  ∙ ap (λ (m : ℕ). leftBy m (results call) before) (sym done ∙ answer);
             }

@@ -1,4 +1,4 @@
-// The survey of one view, and its answer: what the calls for a console share.
+// The survey from a station, and its answer: what the calls for a console share.
 use call::axes_proper;
 use call::counter_below_end;
 use call::lengths_fit;
@@ -7,17 +7,19 @@ use camera::Camera;
 use counting::count_cells;
 use format::layout::read_layout;
 use gate::scene_answer;
-use geometry::Vector;
 use rendering::paint;
+use station::Station;
+use station::locate;
 ghost use mathlib.Core.Path.{_≡_};
 ghost use Rattle.model.specs.Questions.{surveyAnswer};
-ghost use Rattle.camera.specs.Machine.{viewOf};
+ghost use Rattle.camera.specs.Machine.{cameraOf};
+ghost use Rattle.station.specs.Machine.{stationOf};
 ghost use Rattle.contract.specs.Contract.{lentOf, lengthsBy, gateCall, Surveyed};
 
 // The answer of the survey on these numbers: 0, or the number of the first question that says no.
 pub fn survey_answer(
     scene: &[u8],
-    eye: Vector,
+    station: Station,
     camera: Camera,
     picture_len: usize,
     counts_len: usize,
@@ -25,13 +27,17 @@ pub fn survey_answer(
     unlit_len: usize,
     counter: u32,
 ) -> u32
-    ensures { λ r. ⌜ r ≡ surveyAnswer (gateCall (now (scene .entry)) (viewOf eye camera) (lengthsBy «picture_len» «counts_len» «patch_counts_len» «unlit_len») counter) ⌝ }
+    ensures { λ r. ⌜ r ≡ surveyAnswer (gateCall (now (scene .entry)) (stationOf station) (cameraOf camera) (lengthsBy «picture_len» «counts_len» «patch_counts_len» «unlit_len») counter) ⌝ }
 {
     let answer = scene_answer(scene);
     if answer != 0 {
         return answer;
     }
-    if !view_in_range(eye, camera) {
+    let located = locate(station);
+    if !located.in_range {
+        return 15;
+    }
+    if !view_in_range(located.eye, camera) {
         return 10;
     }
     if !axes_proper(camera.axes) {
@@ -55,9 +61,9 @@ pub fn survey_answer(
 }
 
 // Checks the scene and paints its picture. Nothing lent is written before the last question is answered.
-pub fn survey_view(
+pub fn survey_from(
     scene: &[u8],
-    eye: Vector,
+    station: Station,
     camera: Camera,
     picture: &mut [u16],
     counts: &mut [u32],
@@ -65,14 +71,14 @@ pub fn survey_view(
     unlit: &mut [u16],
     counter: &mut u32,
 ) -> u32
-    ensures { λ r. ⌜ Surveyed (now (scene .entry)) (viewOf eye camera)
+    ensures { λ r. ⌜ Surveyed (now (scene .entry)) (stationOf station) (cameraOf camera)
         (lentOf (now (picture .entry)) (now (counts .entry)) (now («patch_counts» .entry)) (now (unlit .entry)) (now (counter .entry)))
         (lentOf (now (picture .exit)) (now (counts .exit)) (now («patch_counts» .exit)) (now (unlit .exit)) (now (counter .exit))) r ⌝ }
 {
     let before = *counter;
     let verdict = survey_answer(
         scene,
-        eye,
+        station,
         camera,
         picture.len(),
         counts.len(),
@@ -83,7 +89,8 @@ pub fn survey_view(
     if verdict != 0 {
         return verdict;
     }
-    paint(scene, eye, camera, picture, unlit, patch_counts);
+    let located = locate(station);
+    paint(scene, located.eye, camera, picture, unlit, patch_counts);
     count_cells(picture, counts);
     *counter = before + 1;
     0

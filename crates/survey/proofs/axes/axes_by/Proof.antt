@@ -1,8 +1,9 @@
--- `survey::axes_by` meets its contract: the parts pass through words unchanged.
+-- `survey::axes::axes_by` meets its contract: the parts pass through words unchanged.
 use borrow.Author.Needs.{needs}
-use Rattle.survey.proofs.Handed.{handed, same-axes}
-use Rattle.survey.proofs.axes_by.Statement.{statement}
-use Rattle.survey.proofs.axes_by.Tie as tie
+use Rattle.format.proofs.Words.{handed}
+use Rattle.survey.proofs.Handed.{same-axes}
+use Rattle.survey.proofs.axes.axes_by.Statement.{statement}
+use Rattle.survey.proofs.axes.axes_by.Tie as tie
 
 returns : tie.Need-returns
 returns c =

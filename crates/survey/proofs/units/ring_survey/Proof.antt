@@ -1,0 +1,29 @@
+-- `survey::units::ring_survey` meets its contract: the numbers of the station and of the camera pass through words unchanged, and demand 2 follows from the equations.
+use borrow.Author.Needs.{needs}
+use Rattle.contract.proofs.SameStation.{surveyed-from}
+use Rattle.demands.proofs.Demands.{closest-surveyed}
+use Rattle.survey.proofs.Handed.{same-units, same-camera}
+use Rattle.survey.proofs.units.ring_survey.Statement.{statement}
+use Rattle.survey.proofs.units.ring_survey.Tie as tie
+
+returns : tie.Need-returns
+returns c =
+    let p = c .before .before .before .before .before .before .before .before in
+    let a = p .before .before .before .before .before .before in
+    let e = a .before .before .before .before .before .before .fits in
+    closest-surveyed
+    (surveyed-from (same-units (e .eye-x) (e .eye-y) (e .eye-z))
+    (same-camera (a .axes-by .ensures) (e .right-x) (e .right-y) (e .right-z) (e .forward-x) (e .forward-y) (e .forward-z) (e .up-x) (e .up-y) (e .up-z))
+    (p .survey-from .ensures))
+
+pub ring-survey-spec : {M : Type 1} → statement M
+ring-survey-spec =
+    tie.close
+    (tie.spec
+    (λ c κs. search needs)
+    (λ c κs. search needs)
+    (λ c. search needs)
+    (λ c. search needs)
+    (λ c. search needs)
+    (λ c. search needs)
+    returns)
