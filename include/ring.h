@@ -7,6 +7,11 @@
  * were seen. Everything is exact in whole numbers. One length unit is 5 mm; x is to the right, y
  * forward along the bore, z up. The camera may look any way: three vectors say how it is turned.
  *
+ * Stations. A station is the eye. It is told in units, as three whole numbers, or in metres, as
+ * three doubles, each way by calls of its own. What is told in metres is turned into whole units
+ * first, each double into the nearest, and from there on it is the station in these units: two
+ * stations that are one in whole units are the same station for all that is said here.
+ *
  * Joints. Where a cell's sight line runs along an edge or through a corner, the cell is read as the
  * lines just beside it: to the right of it, toward the next column, and where these still run along
  * the edge, below it, toward the next row. What is closest is told along the same lines, so that a
@@ -37,6 +42,9 @@ extern "C" {
 #define RING_WIDTH_MAX   256
 #define RING_HEIGHT_MAX  128
 #define RING_LENS_MAX    4096
+
+/* How many length units a metre has. */
+#define RING_UNITS_PER_METRE 200
 
 /* Each part of right, forward and up is from -RING_AXIS_MAX to RING_AXIS_MAX. */
 #define RING_AXIS_MAX    100
@@ -70,11 +78,11 @@ extern "C" {
 #define RING_UNLIT_LEN(height)           ((size_t)(height) * RING_UNLIT_ROW)
 
 /*
- * What both calls return: 0, or the number of the first question answered with no. The questions
+ * What the calls return: 0, or the number of the first question answered with no. The questions
  * are put in the order in which they stand here, each to the whole scene before the next, so a
  * scene with several faults is refused for the first of them. The numbers are names and do not say
- * the order: 14 comes right after 10. No call returns 13: it was the number of a question that was
- * struck, and no other question will have it.
+ * the order: 15 comes just before 10, and 14 right after 10. No call returns 13: it was the number
+ * of a question that was struck, and no other question will have it.
  */
 enum ring_result {
     RING_DONE = 0,
@@ -99,6 +107,9 @@ enum ring_result {
                               crossing it is not) */
 
     /* The call. */
+    RING_BAD_METRES = 15,  /* of a station in metres, a double is not finite, or its whole number
+                              of units is outside -10,000 to 10,000; no station in units is
+                              refused so, for a far one is left to the next question */
     RING_BAD_VIEW = 10,    /* the eye is outside -10,000 to 10,000, or width, height or lens is
                               not 1 to 256, 1 to 128, 1 to 4,096 */
     RING_BAD_AXES = 14,    /* a part of right, forward or up is outside -100 to 100, or
@@ -114,7 +125,7 @@ enum ring_result {
  * Surveys a scene from one station.
  *
  *   scene, scene_len          the scene's bytes; they are only read
- *   eye_x, eye_y, eye_z       the station, in units
+ *   eye_x, eye_y, eye_z       the station, in units; ring_survey_metres takes it in metres
  *   right_x .. up_z           how the camera is turned: the parts along x, y and z of its vectors
  *                             right, forward and up; RING_LEVEL_VIEW where it is level. Nothing
  *                             asks that they be square to each other or of one length
@@ -173,6 +184,45 @@ uint32_t ring_gate(const uint8_t *scene, size_t scene_len,
                    size_t picture_len, size_t counts_len, size_t patch_counts_len,
                    size_t unlit_len,
                    uint32_t counter);
+
+/*
+ * Surveys a scene from one station in metres.
+ *
+ *   eye_x, eye_y, eye_z       the station, in metres. Each double becomes the whole number of units
+ *                             that is nearest to its exact value times RING_UNITS_PER_METRE, and
+ *                             halfway between two the even one: 0.0625 becomes 12, 0.1875 becomes
+ *                             38, -0.0625 becomes -12. Both zeros become 0. No step of this is
+ *                             rounded: it is the double itself that counts, also next to a half.
+ *                             RING_BAD_METRES where one of the three is a NaN of any kind or an
+ *                             infinity, or where its whole number is outside -10,000 to 10,000. The
+ *                             whole number decides: the double that 50.0025 is read as becomes
+ *                             10,000 and passes, and the next one above becomes 10,001 and does not
+ *
+ * The rest as in ring_survey. Where the three whole numbers pass, the result and what is left in
+ * picture, counts, patch_counts, unlit and counter are those of ring_survey with these numbers.
+ */
+uint32_t ring_survey_metres(const uint8_t *scene, size_t scene_len,
+                            double eye_x, double eye_y, double eye_z,
+                            int16_t right_x, int16_t right_y, int16_t right_z,
+                            int16_t forward_x, int16_t forward_y, int16_t forward_z,
+                            int16_t up_x, int16_t up_y, int16_t up_z,
+                            uint16_t width, uint16_t height, uint16_t lens,
+                            uint16_t *picture, size_t picture_len,
+                            uint32_t *counts, size_t counts_len,
+                            uint32_t *patch_counts, size_t patch_counts_len,
+                            uint16_t *unlit, size_t unlit_len,
+                            uint32_t *counter);
+
+/* Says what ring_survey_metres would return, as ring_gate does of ring_survey. */
+uint32_t ring_gate_metres(const uint8_t *scene, size_t scene_len,
+                          double eye_x, double eye_y, double eye_z,
+                          int16_t right_x, int16_t right_y, int16_t right_z,
+                          int16_t forward_x, int16_t forward_y, int16_t forward_z,
+                          int16_t up_x, int16_t up_y, int16_t up_z,
+                          uint16_t width, uint16_t height, uint16_t lens,
+                          size_t picture_len, size_t counts_len, size_t patch_counts_len,
+                          size_t unlit_len,
+                          uint32_t counter);
 
 #ifdef __cplusplus
 }

@@ -18,8 +18,8 @@
                    (f) == (f_) && (g) == (g_) && (h) == (h_) && (i) == (i_), "nine numbers")
 
 /* "The result is "done" or this number": the number of the first question answered no, in the
- * order of asking, where 14 is "put right after question 10"; "done" is 0, which is no question's
- * number. */
+ * order of asking, where 15 is "put just before question 10" and 14 "put right after question 10";
+ * "done" is 0, which is no question's number. */
 IS(RING_DONE, 0);
 IS(RING_BAD_HEADER, 1);     /* 1: length, version, zero field, whole length */
 IS(RING_BAD_SECTIONS, 2);   /* 2: the three pairs of offset and length */
@@ -30,6 +30,7 @@ IS(RING_BAD_RUNS, 6);       /* 6: patch runs and corner runs */
 IS(RING_BAD_PANEL, 7);      /* 7: panels */
 IS(RING_BAD_PATCH, 8);      /* 8: flat and strictly convex */
 IS(RING_BAD_SIDE, 9);       /* 9: each patch on its side */
+IS(RING_BAD_METRES, 15);    /* 15: doubles that become no whole number in range */
 IS(RING_BAD_VIEW, 10);      /* 10: eye and window */
 IS(RING_BAD_AXES, 14);      /* 14: right, forward and up */
 IS(RING_BAD_BUFFERS, 11);   /* 11: the lengths of what is lent */
@@ -39,6 +40,9 @@ IS(RING_BAD_COUNTER, 12);   /* 12: the station counter */
 IS(RING_WIDTH_MAX, 256);
 IS(RING_HEIGHT_MAX, 128);
 IS(RING_LENS_MAX, 4096);
+
+/* "One length unit is 5 mm": a double's "exact value times 200". */
+IS(RING_UNITS_PER_METRE, 200);
 
 /* Question 14: "each part from -100 to 100". "The old view is (1,0,0), (0,1,0), (0,0,1)". */
 IS(RING_AXIS_MAX, 100);
@@ -94,6 +98,29 @@ uint32_t ring_gate(const uint8_t *scene, size_t scene_len,
                    size_t picture_len, size_t counts_len, size_t patch_counts_len,
                    size_t unlit_len,
                    uint32_t counter);
+
+/* "A station arrives either as units or as three doubles in metres": the same calls, with three
+ * doubles for the eye. */
+uint32_t ring_survey_metres(const uint8_t *scene, size_t scene_len,
+                            double eye_x, double eye_y, double eye_z,
+                            int16_t right_x, int16_t right_y, int16_t right_z,
+                            int16_t forward_x, int16_t forward_y, int16_t forward_z,
+                            int16_t up_x, int16_t up_y, int16_t up_z,
+                            uint16_t width, uint16_t height, uint16_t lens,
+                            uint16_t *picture, size_t picture_len,
+                            uint32_t *counts, size_t counts_len,
+                            uint32_t *patch_counts, size_t patch_counts_len,
+                            uint16_t *unlit, size_t unlit_len,
+                            uint32_t *counter);
+uint32_t ring_gate_metres(const uint8_t *scene, size_t scene_len,
+                          double eye_x, double eye_y, double eye_z,
+                          int16_t right_x, int16_t right_y, int16_t right_z,
+                          int16_t forward_x, int16_t forward_y, int16_t forward_z,
+                          int16_t up_x, int16_t up_y, int16_t up_z,
+                          uint16_t width, uint16_t height, uint16_t lens,
+                          size_t picture_len, size_t counts_len, size_t patch_counts_len,
+                          size_t unlit_len,
+                          uint32_t counter);
 
 /* "A scene of 32 bytes with no node is legal and shows nothing." */
 static const uint8_t nothing[32] = {1, 0, 0, 0, 32, 0, 0, 0, 32, [16] = 32, [24] = 32};
@@ -189,31 +216,55 @@ static struct call call_of(const int *view, int one, int other)
 }
 
 #define THREE(n) (int16_t)(n)[0], (int16_t)(n)[1], (int16_t)(n)[2]
-#define VIEW(n) THREE(n), THREE((n) + 3), THREE((n) + 6), THREE((n) + 9), \
-                (uint16_t)(n)[12], (uint16_t)(n)[13], (uint16_t)(n)[14]
+#define CAMERA(n) THREE((n) + 3), THREE((n) + 6), THREE((n) + 9), \
+                  (uint16_t)(n)[12], (uint16_t)(n)[13], (uint16_t)(n)[14]
+
+/* The eye in metres. A quotient is rounded, but by far too little to come near to a half. */
+#define METRES(n) (n)[0] / 200.0, (n)[1] / 200.0, (n)[2] / 200.0
 
 static uint32_t gate(const int *n, uint32_t count)
 {
-    return ring_gate(quarters, sizeof quarters, VIEW(n), (size_t)n[LENGTHS],
+    return ring_gate(quarters, sizeof quarters, THREE(n), CAMERA(n), (size_t)n[LENGTHS],
                      (size_t)n[LENGTHS + 1], (size_t)n[TABLE], (size_t)n[TABLE + 1], count);
+}
+
+static uint32_t gate_metres(const int *n, uint32_t count)
+{
+    return ring_gate_metres(quarters, sizeof quarters, METRES(n), CAMERA(n), (size_t)n[LENGTHS],
+                            (size_t)n[LENGTHS + 1], (size_t)n[TABLE], (size_t)n[TABLE + 1], count);
 }
 
 static uint32_t survey(const int *n, uint32_t *count)
 {
-    return ring_survey(quarters, sizeof quarters, VIEW(n), picture, (size_t)n[LENGTHS], counts,
-                       (size_t)n[LENGTHS + 1], patch_counts, (size_t)n[TABLE], unlit,
+    return ring_survey(quarters, sizeof quarters, THREE(n), CAMERA(n), picture, (size_t)n[LENGTHS],
+                       counts, (size_t)n[LENGTHS + 1], patch_counts, (size_t)n[TABLE], unlit,
                        (size_t)n[TABLE + 1], count);
 }
 
-static int passes(const int *view, int one, int other)
+static uint32_t survey_metres(const int *n, uint32_t *count)
 {
-    return gate(call_of(view, one, other).number, 6) == RING_DONE;
+    return ring_survey_metres(quarters, sizeof quarters, METRES(n), CAMERA(n), picture,
+                              (size_t)n[LENGTHS], counts, (size_t)n[LENGTHS + 1], patch_counts,
+                              (size_t)n[TABLE], unlit, (size_t)n[TABLE + 1], count);
 }
 
-static int all_pass(int one, int other)
+/* The calls by their names, each kind in both forms of a station. */
+typedef uint32_t gate_call(const int *n, uint32_t count);
+typedef uint32_t survey_call(const int *n, uint32_t *count);
+static const struct { const char *name; gate_call *call; } gates[2] = {
+    {"ring_gate", gate}, {"ring_gate_metres", gate_metres}};
+static const struct { const char *name; survey_call *call; } surveys[2] = {
+    {"ring_survey", survey}, {"ring_survey_metres", survey_metres}};
+
+static int passes(gate_call *call, const int *view, int one, int other)
 {
-    return passes(narrow[0], one, other) && passes(narrow[1], one, other) &&
-           passes(narrow[2], one, other);
+    return call(call_of(view, one, other).number, 6) == RING_DONE;
+}
+
+static int all_pass(gate_call *call, int one, int other)
+{
+    return passes(call, narrow[0], one, other) && passes(call, narrow[1], one, other) &&
+           passes(call, narrow[2], one, other);
 }
 
 /* The table as no survey leaves it, also beyond what is lent of it. */
@@ -242,12 +293,12 @@ static int counts_cells(const uint16_t *shown)
            !memcmp(patch_counts, cells + 1, 5 * sizeof *cells);
 }
 
-static int shows(struct view v, int one, int other)
+static int shows(survey_call *call, struct view v, int one, int other)
 {
     struct call c = call_of(v.number, one, other);
     uint32_t counter = 6;
     spoil_table();
-    return survey(c.number, &counter) == RING_DONE && counter == 7 && counts_cells(v.picture) &&
+    return call(c.number, &counter) == RING_DONE && counter == 7 && counts_cells(v.picture) &&
            !memcmp(picture, v.picture, (size_t)c.number[LENGTHS] * sizeof *picture);
 }
 
@@ -313,21 +364,35 @@ static int shows_nothing(void)
            row[1] == 1 && row[2] == 0;
 }
 
+/* A view, with its station in units and in metres. */
 static int holds(struct view v)
 {
-    return shows(v, 0, 0) && passes(v.number, 0, 0);
+    int held = 1;
+    for (int form = 0; form < 2; form++)
+        held &= shows(surveys[form].call, v, 0, 0) && passes(gates[form].call, v.number, 0, 0);
+    return held;
+}
+
+/* Does a call, by its name, still do what is due with two of its numbers exchanged? */
+static int does_exchanged(const char *name, int one, int other)
+{
+    for (int form = 0; form < 2; form++) {
+        if (!strcmp(name, surveys[form].name))
+            return shows(surveys[form].call, oblique, one, other);
+        if (!strcmp(name, gates[form].name))
+            return all_pass(gates[form].call, one, other);
+    }
+    return 1;
 }
 
 /* header                  holds the library to all of this
- * header survey ONE OTHER is the oblique view still shown with two numbers exchanged?
- * header gate ONE OTHER   do the narrow views all pass with two numbers exchanged? */
+ * header CALL ONE OTHER   with two numbers of this call exchanged, is the oblique view still shown,
+ *                         or do the narrow views all pass? */
 int main(int argc, char **argv)
 {
-    if (argc == 4) {
-        int one = atoi(argv[2]), other = atoi(argv[3]);
-        return !(strcmp(argv[1], "gate") ? shows(oblique, one, other) : all_pass(one, other));
-    }
-    return !(shows_nothing() && asks_axes() && asks_table() && all_pass(0, 0) && holds(level) &&
-             holds(rolled) && holds(upside_down) && holds(aside) && holds(oblique) &&
-             holds(joints) && holds(joints_rolled));
+    if (argc == 4)
+        return !does_exchanged(argv[1], atoi(argv[2]), atoi(argv[3]));
+    return !(shows_nothing() && asks_axes() && asks_table() && all_pass(gate, 0, 0) &&
+             all_pass(gate_metres, 0, 0) && holds(level) && holds(rolled) && holds(upside_down) &&
+             holds(aside) && holds(oblique) && holds(joints) && holds(joints_rolled));
 }

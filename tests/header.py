@@ -24,7 +24,7 @@ COMMENT = re.compile(r"/\*.*?\*/", flags=re.DOTALL)
 
 # What is changed in turn, and what is put in its place.
 CHANGES = (("number", r"\b\d+\b", lambda found: str(int(found) + 1)),
-           ("type", r"\b(?:u?int\d+_t|size_t)\b", lambda found: "char"),
+           ("type", r"\b(?:u?int\d+_t|size_t|double)\b", lambda found: "char"),
            ("const", r"\bconst\b", lambda found: ""),
            ("pointer", r"\*(?=\w)", lambda found: ""))
 
@@ -38,18 +38,20 @@ SAID = {
     "RING_H": "5 0 1024",                           # "One length unit is 5 mm"; a length of 0; "at most 1,024 nodes"
     "RING_LEVEL_VIEW": "1 0 0 0 1 0 0 0 1 0 20 0 256 128 160",  # "(1,0,0), (0,1,0), (0,0,1)", and the numbers of a call
     "RING_PICTURE_LEN": "20 1 9",                   # after 8 bytes three pairs of "u32 offset and length": the second's length
-    "ring_result": "0 14 10 13",                    # "put right after question 10"; "question 13 is struck"
+    "ring_result": "0 15 10 14 10 13",              # "just before question 10"; "right after question 10"; "question 13 is struck"
     "RING_BAD_HEADER": "32 57376 1 0",
     "RING_BAD_SECTIONS": "26 6 6 1024 1024 4096",
     "RING_BAD_RANGE": "10000 10000",
     "RING_BAD_TREE": "65535",
     "RING_BAD_RUNS": "3 8",
     "RING_BAD_PANEL": "1 1024",
+    "RING_BAD_METRES": "10000 10000",
     "RING_BAD_VIEW": "10000 10000 1 256 1 128 1 4096",
     "RING_BAD_AXES": "100 100 0 0 0",
     "RING_BAD_BUFFERS": "1025 256",
     "RING_BAD_COUNTER": "4294967295",
     "ring_survey": "0 0 1 1 1 1 0 1025 0 0 0 256 256 256 128 0 0 0 128",  # columns, rows, directions; what is lent, in order
+    "ring_survey_metres": "0.0625 12 0.1875 38 0.0625 12 0 10000 10000 50.0025 10000 10001",  # the request's own; the limit
 }
 
 tally = collections.Counter()
@@ -77,7 +79,7 @@ def said(text):
     for comment in COMMENT.finditer(text):
         behind = re.search(r"(RING_\w+) = \d+,? *$", text[:comment.start()])
         name = behind or re.search(r"(?i)\b(ring_\w+)", plain(text[comment.end():]))
-        found[name.group(1)] += re.findall(r"(?<![\w.])\d+(?:,\d{3})*(?!\w)", comment.group())
+        found[name.group(1)] += re.findall(r"(?<![\w.])\d+(?:,\d{3})*(?:\.\d+)?(?!\w)", comment.group())
     return {name: " ".join(numbers).replace(",", "") for name, numbers in found.items() if numbers}
 
 
@@ -105,16 +107,16 @@ def calls(text):
     return {name: [" ".join(one.split()) for one in parameters.split(",")] for name, parameters in found}
 
 
-def agrees(library, folder):
+def agrees(library, folder, declared):
     program = os.path.join(folder, "header")
     build = CC + ["-I", os.path.join(ROOT, "include"), CHECK, "-L", library, "-lsurvey", "-o", program]
     built = succeeds(build)
     check("header.c builds and runs", built and succeeds([program]))
     pairs = [*itertools.combinations(NUMBERS, 2), *itertools.combinations(LENGTHS, 2)]
-    for call, (one, other) in itertools.product(("survey", "gate"), pairs):
-        if call == "survey" or other >= EYE:
+    for call, (one, other) in itertools.product(declared, pairs):
+        if "survey" in call or other >= EYE:
             shows = built and not succeeds([program, call, str(one), str(other)])
-            check("it shows when numbers %d and %d of ring_%s are exchanged" % (one, other, call), shows)
+            check("it shows when numbers %d and %d of %s are exchanged" % (one, other, call), shows)
 
 
 def names(header, body, archive):
@@ -153,7 +155,7 @@ def main():
     header, body = plain(text), plain(content(CHECK))
     words(text)
     with tempfile.TemporaryDirectory() as folder:
-        agrees(sys.argv[1], folder)
+        agrees(sys.argv[1], folder, sorted(calls(header)))
         names(header, body, os.path.join(sys.argv[1], "libsurvey.a"))
         can_fail(header, folder)
     print("header: %d passed, %d failed" % (tally[True], tally[False]))
