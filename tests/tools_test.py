@@ -1,5 +1,6 @@
 """Tests of tools/: worked scenes, turned cameras, joints, cells by patch, round trips, the gate,
-sample rings, two cuttings of one ring, spans laid on rows, pictures, the commands.
+stations in metres, sample rings, two cuttings of one ring, spans laid on rows, pictures, the
+commands.
 
 Run by tools.sh. Each case is counted; a case that fails is named.
 """
@@ -24,6 +25,7 @@ sys.path.insert(0, os.path.join(ROOT, "tools"))
 import cover  # noqa: E402
 import draw  # noqa: E402
 import gate  # noqa: E402
+import metres  # noqa: E402
 import rays  # noqa: E402
 import ring  # noqa: E402
 import rows as laying  # noqa: E402
@@ -148,10 +150,10 @@ OBLIQUE = (-19, -49, 26, *map(int, SKEWED.split()), 6, 4, 5)
 OBLIQUE_ROWS = "022000 112400 013440 003300"
 
 
-def seen_along(data, axes):
+def seen_along(data, axes, station=None):
     """The picture of an input along these axes, or the number that it is refused with."""
     try:
-        return rays.survey_input(data, axes)[1]
+        return rays.survey_input(data, axes, station)[1]
     except gate.No as no:
         return no.question
 
@@ -691,6 +693,109 @@ def test_gate_axes_order():
     check("gate: a short scene and a part 101", axes_answer(bad, built("s")[:-1]), 1)
     wrong = scene.build(text_of(VIEW, NODE, "patch 5 " + square(50, 101)))
     check("gate: a patch off its plane and a part 101", axes_answer(bad, wrong), 9)
+
+
+# --- stations in metres --------------------------------------------------------------------------
+
+# Doubles by their bits, and the whole numbers of units that they become, None for those that are
+# not finite. Zeros and numbers next to them; halves, the request's own first, and doubles next to
+# halves, where a product of doubles would be the half; the limit's neighbours and what is beyond;
+# infinities and NaNs, quiet and signalling ones with payloads.
+LENGTHS = ((0, 0), (1 << 63, 0), (1, 0), (0x800fffffffffffff, 0), (0x0010000000000000, 0),
+           (0x3fb0000000000000, 12), (0x3fc8000000000000, 38),
+           (0xbfb0000000000000, -12), (0xbfc8000000000000, -38),
+           (0x3fd4000000000000, 62), (0x3fdc000000000000, 88), (0x4048f80000000000, 9988),
+           (0x3fafffffffffffff, 12), (0x3fb0000000000001, 13), (0xbfb0000000000001, -13),
+           (0x3f647ae147ae147a, 0), (0x3f647ae147ae147b, 1), (0x3f7eb851eb851eb8, 1),
+           (0x3f7eb851eb851eb9, 2), (0x3f89999999999999, 2), (0x3f8999999999999a, 3),
+           (0x3fe0000000000000, 100), (0x4049000000000000, 10000),
+           (0x40490051eb851eb8, 10000), (0x40490051eb851eb9, 10001),
+           (0xc0490051eb851eb8, -10000), (0xc0490051eb851eb9, -10001),
+           (0x4050000000000000, 12800), (0x4340000000000001, 200 * (2 ** 53 + 2)),
+           (0x7ff0000000000000, None), (0xfff0000000000000, None),
+           (0x7ff8000000000000, None), (0xfffc0000deadbeef, None),
+           (0x7ff0000000000001, None), (0xfff7ffffffffffff, None))
+
+
+def of_bits(bits):
+    return struct.unpack("<d", struct.pack("<Q", bits))[0]
+
+
+def is_nearest(number, exact):
+    """No whole number is nearer to a fraction, and one as near is odd."""
+    away = abs(exact - number)
+    return away < Fraction(1, 2) or away == Fraction(1, 2) and number % 2 == 0
+
+
+def test_whole_numbers():
+    for bits, number in LENGTHS:
+        check("units of the double %016x" % bits, metres.whole_number(of_bits(bits)), number)
+    check("units of 0.0625 and 0.1875", [metres.whole_number(part) for part in (0.0625, 0.1875)],
+          [12, 38])
+
+
+def test_nearest_whole_numbers():
+    """Doubles of all sizes, halves and their neighbours, by what "nearest" means."""
+    draws = random.Random(7)
+    exponents = [draws.randrange(1005, 1040) for _ in range(300)] + list(range(0, 2047, 13))
+    doubles = [of_bits(draws.getrandbits(1) << 63 | exponent << 52 | draws.getrandbits(52))
+               for exponent in exponents]
+    for odd in range(-801, 801, 2):
+        half = struct.unpack("<Q", struct.pack("<d", odd / 16))[0]
+        doubles += [of_bits(half - 1), of_bits(half), of_bits(half + 1)]
+    check("doubles that become no nearest number",
+          [double for double in doubles
+           if not is_nearest(metres.whole_number(double), 200 * Fraction(double))], [])
+
+
+def in_metres(*station, data=None, axes=scene.LEVEL):
+    """What S, or another input, shows from a station in metres, or what it is refused with."""
+    return seen_along(data or built("s"), axes, station)
+
+
+def test_gate_metres():
+    """Question 15 of each part of a station: the whole number decides."""
+    empty = scene.pack_view((0, 0, 0, 1, 1, 1)) + scene.pack(scene.Scene())
+    for (bits, number), part in itertools.product(LENGTHS, range(3)):
+        station = [0.0, -0.0, 0.0]
+        station[part] = of_bits(bits)
+        passes = number is not None and abs(number) <= 10000
+        check("gate: %016x in part %d" % (bits, part), in_metres(*station, data=empty),
+              [[0]] if passes else 15)
+    check("gate: three NaNs", in_metres(*[math.nan] * 3), 15)
+
+
+def test_gate_metres_order():
+    """15 is asked just before 10, after the questions on scenes; units are never asked it."""
+    far, bad = (64.0, 0.0, 0.0), (0.0, 0.0, math.nan)
+    none, here = axes_of("0 0 0 0 0 0 0 0 0"), (0.0, 0.0, 0.0)
+    no_width = built("s", (0, 0, 0, 0, 4, 4))
+    for name, lines, number in (("version 0", ("version 0", NODE, FIVE), 1),
+                                ("a patch off its plane", (NODE, "patch 5 " + square(50, 101)), 9)):
+        data = scene.build(text_of(VIEW, *lines))
+        check("gate: a NaN and " + name, in_metres(*bad, data=data), number)
+        check("gate: 64 metres and " + name, in_metres(*far, data=data), number)
+    check("gate: a NaN and width 0", in_metres(*bad, data=no_width), 15)
+    check("gate: 64 metres and width 0", in_metres(*far, data=no_width), 15)
+    check("gate: a NaN and no axes", in_metres(*bad, axes=none), 15)
+    check("gate: in metres, width 0 and no axes", in_metres(*here, data=no_width, axes=none), 10)
+    check("gate: in metres, no axes", in_metres(*here, axes=none), 14)
+    check("gate: 10,001 units", answer(built("s", (10001, 0, 0, 4, 4, 4))), 10)
+    check("gate: 10,001 units and width 0", answer(built("s", (0, -10001, 0, 0, 4, 4))), 10)
+    check("gate: metres in the place of 10,001 units",
+          in_metres(*here, data=built("s", (10001, 0, 0, 4, 4, 4))), middle(5))
+
+
+def test_seen_in_metres():
+    """"The picture is that of the whole-number station", whatever the view's own eye is."""
+    check("s from 0 metres", in_metres(0.0, -0.0, 0.0), middle(5))
+    check("s from half a metre forward", in_metres(0.0, 0.5, 0.0), middle(0))
+    data, axes = built("quarters", (7, 7, 7) + OBLIQUE[12:]), axes_of(SKEWED)
+    eye = tuple(part / 200 for part in OBLIQUE[:3])
+    check("oblique view in metres", seen_along(data, axes, eye), rows_of(OBLIQUE_ROWS))
+    for one, other in itertools.combinations(range(3), 2):
+        check("parts %d and %d of a station exchanged" % (one, other),
+              seen_along(data, axes, exchanged(eye, one, other)) != rows_of(OBLIQUE_ROWS))
 
 
 # --- sample rings --------------------------------------------------------------------------------
@@ -1511,6 +1616,73 @@ def test_axes_commands():
         check("misused: " + " ".join(words), command(*words, data=wall), (1, b""))
     check("misused: axes of a raw picture",
           command("draw.py", "--raw", "4", "4", "-", "-", *bad, data=bytes(32)), (1, b""))
+
+
+def test_metres_commands():
+    s, t = built("s"), built("t", (9, 9, 9, 4, 4, 4))
+    near = "--metres 0 0.375 0".split()
+    bill = b"view 4 4 4\n5 16\nnothing 0\ntotal 16\n"
+    check("rays.py --metres", command("rays.py", *near, "-", data=t), (0, bill))
+    check("rays.py, metres last", command("rays.py", "-", *near, data=t), (0, bill))
+    status, drawn = command("draw.py", *near, "-", "-", "1", data=t)
+    check("draw.py --metres", (status, png_lines(drawn)), (0, wanted_lines([[5] * 4] * 4, 1)))
+    for word, said in (("nan", "nan metres, which is not finite"),
+                       ("-inf", "-inf metres, which is not finite"),
+                       ("1e999", "inf metres, which is not finite"),
+                       ("-64", "-64.0 metres, beyond 10000 units")):
+        station = ("--metres", "0", word, "0")
+        check("gate.py, " + word, command("gate.py", *station, "-", data=s),
+              (1, b"refused 15: y of the eye is %s\n" % said.encode()))
+        check("rays.py, " + word, command("rays.py", *station, "-", data=s), (0, b"refused 15\n"))
+    check("gate.py --metres", command("gate.py", "--metres", "50.0025", "-1e-3", "-0", "-", data=s),
+          (0, b"accepted\n"))
+    for words in (["rays.py", "--metres", "0", "0", "-"], ["rays.py", *near, *near, "-"],
+                  ["rays.py", "--metres", "0", "x", "0", "-"], ["gate.py", *near, "--scene", "-"],
+                  ["gate.py", "--metres", "0", "", "0", "-"], ["gate.py", "--scene", *near, "-"]):
+        check("misused: " + " ".join(words), command(*words, data=s), (1, b""))
+
+
+OUT, NO_VIEW = "no view for what is refused with 15: ", "a view is an eye of three numbers, "
+
+# Words after `--metres` that make no view, and how what is said of them begins.
+NO_METRES = (("nan 0 0 4 4 4", OUT + "x of the eye is nan metres, which is not finite"),
+             ("0 0 -inf 4 4 4", OUT + "z of the eye is -inf metres, which is not finite"),
+             ("0 50.01 0 4 4 4", OUT + "y of the eye is 50.01 metres, beyond 10000 units"),
+             ("0 0 0 0 0 0 4 4 4", NO_VIEW), ("0 0 0 4 4", NO_VIEW),
+             ("0 0 x 4 4 4", "'x' is not a number"), ("0 0", "numbers after --metres: 1 more needed"))
+
+
+def check_faulty(said, name, *words, data=None):
+    """A tool that ends with 1 and says so, and writes nothing."""
+    status, written, told = ended(name, *words, data=data)
+    check("%s %s" % (name, " ".join(words)), (status, written), (1, b""))
+    check("%s %s, said" % (name, " ".join(words)), told.decode()[:len(name) + 2 + len(said)],
+          "%s: %s" % (name, said))
+
+
+def test_views_in_metres():
+    """A view holds the whole-number station; what becomes none has no view."""
+    s = built("s")[12:]
+    for station, window, eye in (("0.0625 -0.1875 -1e-3", "4 4 4", "0c00 daff 0000"),
+                                 ("-50.0025 50 0.5", "40 50 60", "f0d8 1027 6400")):
+        words = ("view", "-", "-", "--metres", *station.split(), *window.split())
+        numbers = struct.pack("<3H", *map(int, window.split()))
+        check("scene.py view, metres " + station, command("scene.py", *words, data=s),
+              (0, bytes.fromhex(eye) + numbers + s))
+    for numbers, said in NO_METRES:
+        check_faulty(said, "scene.py", "view", "-", "-", "--metres", *numbers.split(), data=s)
+    check_faulty(NO_VIEW, "scene.py", "view", "-", "-", *"0 0 4 4 4".split(), data=s)
+
+
+def test_rings_in_metres():
+    with tempfile.TemporaryDirectory() as folder:
+        target = os.path.join(folder, "ring.view")
+        given = "--view --metres 0 0.1 0 256 128 160".split()
+        check("ring.py, metres", command("ring.py", target, *given)[0], 0)
+        check("the stored ring in metres", stored(target) == stored("samples/ring.view"))
+        for words, said in (("--view 0 20 0 256 128", NO_VIEW), ("--metres 0 0.1 0", NO_VIEW),
+                            ("--view --metres nan 0 0 4 4 4", OUT)):
+            check_faulty(said, "ring.py", target, *words.split())
 
 
 def test_patch_commands():

@@ -1,17 +1,19 @@
 #!/usr/bin/env python3
 """Draws a survey's picture as PNG: a colour for each panel, cells with no panel plain dark.
 
-    draw.py [--axes RX RY RZ FX FY FZ UX UY UZ] IN.view OUT.png [SCALE]
+    draw.py [--metres X Y Z] [--axes RX RY RZ FX FY FZ UX UY UZ] IN.view OUT.png [SCALE]
                                                              computed here, ray by ray
     draw.py --raw WIDTH HEIGHT PICTURE.u16 OUT.png [SCALE]   a picture made elsewhere
 
---axes turns the camera: its vectors right, forward and up; without it the view is level, (1,0,0),
-(0,1,0), (0,0,1). A raw picture is little-endian u16, row after row from the top, as
+--metres puts a station of three doubles in metres in the place of the view's eye. --axes turns the
+camera: its vectors right, forward and up; without it the view is level, (1,0,0), (0,1,0), (0,0,1).
+A raw picture is little-endian u16, row after row from the top, as
 `examples/console.c -o` and `rays.py` write it. SCALE is the side of a cell in pixels, 4 unless
 said. Examples:
 
     $ draw.py samples/ring.view docs/sample-ring.png
     $ draw.py --axes 4 -3 0 3 4 0 0 0 5 samples/ring.view aside.png
+    $ draw.py --metres 1.5 5 -1 samples/ring.view ahead.png
 """
 
 import colorsys
@@ -75,17 +77,19 @@ def read_raw(words):
     return unpack_picture(scenes.read_file(name), width, height), words[3:]
 
 
-def read_view(words, axes):
-    return rays.survey_input(scenes.read_file(words[0]), axes)[1], words[1:]
+def read_view(words, axes, station):
+    return rays.survey_input(scenes.read_file(words[0]), axes, station)[1], words[1:]
 
 
 def run(words):
     raw = words[:1] == ["--raw"]
     axes = None if raw else scenes.take_axes(words)
+    station = None if raw else scenes.take_metres(words)
     if len(words) not in ((5, 6) if raw else (2, 3)):
-        sys.exit("usage: draw.py %s IN.view OUT.png [SCALE]\n"
-                 "       draw.py --raw WIDTH HEIGHT PICTURE.u16 OUT.png [SCALE]" % scenes.AXES)
-    rows, rest = read_raw(words[1:]) if raw else read_view(words, axes)
+        sys.exit("usage: draw.py %s %s IN.view OUT.png [SCALE]\n"
+                 "       draw.py --raw WIDTH HEIGHT PICTURE.u16 OUT.png [SCALE]"
+                 % (scenes.STATION, scenes.AXES))
+    rows, rest = read_raw(words[1:]) if raw else read_view(words, axes, station)
     scale = int(rest[1]) if len(rest) == 2 else 4
     scenes.write_file(rest[0], draw(rows, max(scale, 1)))
 

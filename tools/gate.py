@@ -1,12 +1,13 @@
 #!/usr/bin/env python3
-"""The gate's questions on a scene (1 to 9) and on a view (10, 14), asked slowly and one by one.
+"""The gate's questions on a scene (1 to 9) and on a view (15, 10, 14), asked slowly and one by one.
 
-    gate.py [--axes RX RY RZ FX FY FZ UX UY UZ] IN.view
+    gate.py [--metres X Y Z] [--axes RX RY RZ FX FY FZ UX UY UZ] IN.view
                               a view and a scene, as `ringbill` reads them
     gate.py --scene IN.scene  a scene alone: questions 1 to 9
 
 --axes turns the camera: its vectors right, forward and up, which question 14 is about. Without
-it the view is level, (1,0,0), (0,1,0), (0,0,1), as it is for `ringbill`.
+it the view is level, (1,0,0), (0,1,0), (0,0,1), as it is for `ringbill`. --metres puts a station
+of three doubles in metres in the place of the view's eye, which question 15 is about.
 
 Prints `accepted`, or `refused N` and in words what was found. Questions 11 and 12 are about the
 caller's buffers and counter and are not asked here. Examples:
@@ -15,11 +16,14 @@ caller's buffers and counter and are not asked here. Examples:
     accepted
     $ gate.py --axes 1 0 0 0 1 0 0 2 0 samples/ring.view
     refused 14: right · (forward × up) is 0, not above 0
+    $ gate.py --metres 0 nan 0 samples/ring.view
+    refused 15: y of the eye is nan metres, which is not finite
 """
 
 import sys
 
 sys.dont_write_bytecode = True
+import metres  # noqa: E402
 import scene as scenes  # noqa: E402
 
 SHORTEST, LONGEST = 32, 57376
@@ -217,7 +221,17 @@ def check_scene(data):
     return scene
 
 
-# --- questions 10 and 14 -------------------------------------------------------------------------
+# --- questions 15, 10 and 14 ---------------------------------------------------------------------
+
+def check_station(eye, station):
+    """The eye: in units as it stands, or a station in metres as the whole numbers it becomes."""
+    if station is None:
+        return eye
+    try:
+        return metres.whole_station(station)
+    except metres.Out as out:
+        raise No(15, str(out)) from None
+
 
 def check_view(view):
     if max(map(abs, view[:3])) > REACH:
@@ -237,12 +251,15 @@ def check_axes(axes):
         raise No(14, "right · (forward × up) is %d, not above 0" % turn)
 
 
-def check_input(data, axes=scenes.LEVEL):
-    """(view, scene) of an input of `ringbill`, if questions 1 to 10 and 14 all say yes; else No."""
+def check_input(data, axes=scenes.LEVEL, station=None):
+    """(view, scene) of an input of `ringbill`, perhaps with a station in metres for its eye, if
+    questions 1 to 9, 15, 10 and 14 all say yes; else No.
+    """
     if not scenes.VIEW.size <= len(data) <= scenes.VIEW.size + LONGEST:
         raise No(1, "%d bytes of view and scene" % len(data))
     view, data = scenes.split_view(data)
     scene = check_scene(data)
+    view = tuple(check_station(view[:3], station)) + view[3:]
     check_view(view)
     check_axes(axes)
     return view, scene
@@ -251,13 +268,15 @@ def check_input(data, axes=scenes.LEVEL):
 def run(words):
     alone = words[:1] == ["--scene"]
     axes = None if alone else scenes.take_axes(words)
+    station = None if alone else scenes.take_metres(words)
     if len(words) != (2 if alone else 1):
-        sys.exit("usage: gate.py %s IN.view\n       gate.py --scene IN.scene" % scenes.AXES)
+        sys.exit("usage: gate.py %s %s IN.view\n       gate.py --scene IN.scene"
+                 % (scenes.STATION, scenes.AXES))
     data = scenes.read_file(words[-1])
     if alone:
         check_scene(data)
     else:
-        check_input(data, axes)
+        check_input(data, axes, station)
 
 
 def main():

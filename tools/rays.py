@@ -1,13 +1,13 @@
 #!/usr/bin/env python3
 """A survey computed ray by ray in exact whole numbers: slow, without a tree, without the library.
 
-    rays.py [--patches] [--axes RX RY RZ FX FY FZ UX UY UZ] IN.view [PICTURE.u16]
+    rays.py [--patches] [--metres X Y Z] [--axes RX RY RZ FX FY FZ UX UY UZ] IN.view [PICTURE.u16]
 
 Reads a view and a scene as `ringbill` does, prints the bill as `ringbill` does (or `refused N`),
 and writes the picture, if asked, as raw little-endian u16, row after row from the top. --patches
-prints after the bill each patch of the scene: its number, its panel and its cells. --axes turns
-the camera: its vectors right, forward and up; without it the view is level, (1,0,0), (0,1,0),
-(0,0,1). Examples:
+prints after the bill each patch of the scene: its number, its panel and its cells. --metres puts a
+station of three doubles in metres in the place of the view's eye. --axes turns the camera: its
+vectors right, forward and up; without it the view is level, (1,0,0), (0,1,0), (0,0,1). Examples:
 
     $ scene.py build samples/s.txt - | rays.py -
     view 4 4 4
@@ -26,6 +26,11 @@ the camera: its vectors right, forward and up; without it the view is level, (1,
     total 16
     patch 0: 7 4
     patch 1: 5 0
+    $ scene.py build samples/t.txt - | rays.py --metres 0 0.375 0 -
+    view 4 4 4
+    5 16
+    nothing 0
+    total 16
 
 A sight line along a joint is read as the lines just beside it: right of it, and below it where
 that still runs along the joint. Of four panels that meet on the middle line of three by three:
@@ -160,9 +165,9 @@ def survey(view, scene, axes=scenes.LEVEL):
     return panels_of(scene, closest_patches(view, scene, axes))
 
 
-def survey_input(data, axes):
+def survey_input(data, axes, station=None):
     """(view, rows) of an input of `ringbill`, if all questions asked here say yes; else No."""
-    view, scene = gate.check_input(data, axes)
+    view, scene = gate.check_input(data, axes, station)
     return view, survey(view, scene, axes)
 
 
@@ -202,9 +207,11 @@ def take_word(words, word):
 
 def run(words):
     axes, with_patches = scenes.take_axes(words), take_word(words, "--patches")
+    station = scenes.take_metres(words)
     if len(words) not in (1, 2):
-        sys.exit("usage: rays.py [--patches] %s IN.view [PICTURE.u16]" % scenes.AXES)
-    view, scene = gate.check_input(scenes.read_file(words[0]), axes)
+        sys.exit("usage: rays.py [--patches] %s %s IN.view [PICTURE.u16]"
+                 % (scenes.STATION, scenes.AXES))
+    view, scene = gate.check_input(scenes.read_file(words[0]), axes, station)
     numbers = closest_patches(view, scene, axes)
     rows = panels_of(scene, numbers)
     if len(words) == 2:

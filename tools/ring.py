@@ -24,7 +24,9 @@ that the bore curves. Lengths are in units of 5 mm.
 --without takes the named panels away, --drop a number of them drawn by the seed.
 
 OUT is written as text where its name ends in .txt, and as bytes otherwise; with --view the view
-stands before the scene. Nothing is written that the questions of gate.py refuse. Example:
+stands before the scene, its eye in units; `--view --metres X Y Z WIDTH HEIGHT LENS` tells the eye
+in metres, and the view holds the whole-number station that it becomes. Nothing is written that the
+questions of gate.py refuse. Example:
 
     $ ring.py samples/ring.view --view 0 20 0 256 128 160
     112 panels, 304 patches, 319 nodes
@@ -213,7 +215,7 @@ def arguments(words):
     parser.add_argument("--tree", choices=("chain", "halves", "walls"), default="chain")
     parser.add_argument("--cut", choices=("none", "across", "diagonal"), default="none")
     parser.add_argument("--without", type=numbers, default=[])
-    parser.add_argument("--view", type=int, nargs=6)
+    parser.add_argument("--view", type=int, nargs="+")
     return parser.parse_args(words)
 
 
@@ -227,8 +229,12 @@ def written(shape, scene):
 
 
 def main():
-    shape = arguments(sys.argv[1:])
+    words = sys.argv[1:]
     try:
+        station = scenes.take_metres(words)
+        shape = arguments(words)
+        if shape.view or station:
+            shape.view = scenes.view_numbers(station, shape.view or ())
         scene = make(shape)
         scenes.write_file(shape.out, written(shape, scene))
     except (scenes.Fault, OSError) as fault:

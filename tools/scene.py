@@ -6,7 +6,8 @@
     scene.py view IN.scene OUT.view X Y Z WIDTH HEIGHT LENS
                                          put the view before a scene: the input of `ringbill`
 
-A file named - is standard input or output.
+A file named - is standard input or output. The eye X Y Z is in units; `--metres X Y Z` in its place
+tells it in metres, and the view holds the whole-number station that these doubles become.
 
 The text form
 -------------
@@ -51,6 +52,9 @@ import argparse
 import struct
 import sys
 
+sys.dont_write_bytecode = True
+import metres  # noqa: E402
+
 HEADER = struct.Struct("<HHIIIIIII")
 NODE = struct.Struct("<13H")
 NODE_POINTS = struct.Struct("<9h")
@@ -60,6 +64,7 @@ VIEW = struct.Struct("<3h3H")
 NONE = 65535
 LEVEL = ((1, 0, 0), (0, 1, 0), (0, 0, 1))
 AXES = "[--axes RX RY RZ FX FY FZ UX UY UZ]"
+STATION = "[--metres X Y Z]"
 SECTIONS = ("nodes", "patches", "corners")
 RECORDS = (NODE.size, PATCH.size, CORNER.size)
 
@@ -464,6 +469,29 @@ def take_axes(words):
     return tuple(parts[0:3]), tuple(parts[3:6]), tuple(parts[6:9])
 
 
+def double(word):
+    try:
+        return float(word)
+    except ValueError:
+        raise Fault("%r is not a number" % word) from None
+
+
+def take_metres(words):
+    """Take the option STATION out of a command's words: three doubles; None where not given."""
+    taken = take_option(words, "--metres", 3, "numbers")
+    return None if taken is None else tuple(double(word) for word in taken)
+
+
+def view_numbers(station, numbers):
+    """The six numbers of a view: as they stand, or those of a station in metres and a window."""
+    if len(numbers) != (6 if station is None else 3):
+        raise Fault("a view is an eye of three numbers, width, height and lens")
+    try:
+        return list(metres.whole_station(station) if station else ()) + list(numbers)
+    except metres.Out as out:
+        raise Fault("no view for what is refused with 15: %s" % out) from None
+
+
 def arguments(words):
     parser = argparse.ArgumentParser(description="Lining scenes as text and as bytes.")
     commands = parser.add_subparsers(dest="command", required=True)
@@ -476,25 +504,26 @@ def arguments(words):
     build_it.add_argument("target")
     show_it.add_argument("target", nargs="?", default="-")
     view_it.add_argument("target")
-    for name in ("x", "y", "z", "width", "height", "lens"):
-        view_it.add_argument(name, type=int)
+    view_it.add_argument("numbers", type=int, nargs="+", metavar="NUMBER",
+                         help="X Y Z, or --metres X Y Z, then WIDTH HEIGHT LENS")
     return parser.parse_args(words)
 
 
-def run(options):
+def run(options, station):
     data = read_file(options.source)
     if options.command == "build":
         return build(data.decode("utf-8"))
     if options.command == "show":
         return show(data, options.view).encode("utf-8")
-    return pack_view((options.x, options.y, options.z,
-                      options.width, options.height, options.lens)) + data
+    return pack_view(view_numbers(station, options.numbers)) + data
 
 
 def main():
-    options = arguments(sys.argv[1:])
+    words = sys.argv[1:]
     try:
-        write_file(options.target, run(options))
+        station = take_metres(words) if words[:1] == ["view"] else None
+        options = arguments(words)
+        write_file(options.target, run(options, station))
     except (Fault, OSError, UnicodeDecodeError) as fault:
         sys.exit("scene.py: %s" % fault)
 
