@@ -1,5 +1,5 @@
 #!/usr/bin/env bash
-# The tests from outside, over the library as it was just proved: its read-only memory, the C header, the console example, the stored bills, the inputs and outputs that fail, spans laid on rows by the programs for that, and
+# The tests from outside, over the library as it was just proved: its read-only memory, the C header, stations in metres from C, the console example, the stored bills, the inputs and outputs that fail, spans laid on rows by the programs for that, and
 # through the C interface the stored cases and the ray-by-ray program in Rust.
 #   outside.sh [CASES [SEED]]      more cases, or others; for each case there are two pairs of cuttings besides, and for five of them a sequence of spans
 set -euo pipefail
@@ -20,6 +20,7 @@ ringbill=$programs/ringbill
 from_c() {
     python3 tests/readonly.py "$SURVEY_LIB_DIR"
     python3 tests/header.py "$SURVEY_LIB_DIR"
+    python3 tests/metres.py "$SURVEY_LIB_DIR"
     tests/console.sh "$SURVEY_LIB_DIR"
 }
 from_c >"$log" 2>&1 &

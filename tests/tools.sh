@@ -17,4 +17,5 @@ compiles cc c c11 include/ring.h
 compiles c++ c++ c++11 include/ring.h
 compiles cc c c11 examples/console.c
 compiles cc c c11 tests/header.c
+compiles cc c c11 tests/metres.c
 exit $status
