@@ -1,11 +1,13 @@
 /*
  * console: surveys a scene from several stations and prints a bill for each.
  *
- *   console [-p] [-u] [-o PICTURE] [-a RX RY RZ FX FY FZ UX UY UZ]
+ *   console [-m] [-p] [-u] [-o PICTURE] [-a RX RY RZ FX FY FZ UX UY UZ]
  *           SCENE WIDTH HEIGHT LENS X Y Z [X Y Z ...]
  *
  * A bill is the view line, each panel that shows with its number of cells, the cells that show
  * none, and all cells; a refusal is one line, `refused N`. Bills follow in the stations' order.
+ *   -m          the stations are in metres: fractions as C writes them, inf and nan among them,
+ *               which the library refuses with 15; without it they are whole units of 5 mm
  *   -p          after each bill, a line for each patch of the scene: the patch's number, then its
  *               panel and its cells
  *   -u          after that, a line for each row with unlit cells: the row's number, then first
@@ -37,6 +39,13 @@ static uint32_t patch_counts[RING_PATCH_MAX];
 static uint16_t unlit[RING_HEIGHT_MAX * RING_UNLIT_ROW];
 static uint32_t counter;
 
+/* A station: three whole numbers of units, or three doubles in metres. */
+struct station {
+    int in_metres;
+    int16_t units[3];
+    double metres[3];
+};
+
 /* How all stations are surveyed: the window, and the axes right, forward and up. */
 struct camera {
     uint16_t width, height, lens;
@@ -45,7 +54,7 @@ struct camera {
 
 struct options {
     const char *picture_name;
-    int with_patches, with_unlit;
+    int in_metres, with_patches, with_unlit;
 };
 
 /* Vectors as a call takes them, part after part. */
@@ -60,8 +69,9 @@ static int fail(const char *what, const char *name)
 
 static int usage(void)
 {
-    fputs("usage: console [-p] [-u] [-o PICTURE] [-a RX RY RZ FX FY FZ UX UY UZ]\n"
+    fputs("usage: console [-m] [-p] [-u] [-o PICTURE] [-a RX RY RZ FX FY FZ UX UY UZ]\n"
           "               SCENE WIDTH HEIGHT LENS X Y Z [X Y Z ...]\n"
+          "  -m  the stations are in metres: 0.5 for half a metre; else in whole units of 5 mm\n"
           "  -p  print each patch with its panel and its cells after each bill\n"
           "  -u  print the unlit stretches after each bill\n"
           "  -o  write the last picture as raw little-endian u16\n"
@@ -101,11 +111,37 @@ static uint16_t window_number(const char *word, int *ok)
     return (uint16_t)number(word, 0, UINT16_MAX, ok);
 }
 
+/* A double, as the language reads it: the library judges what is too far or not finite, so a word
+ * that reads as an infinity is one, whether it says so or is too large. *ok becomes 0 for what is
+ * no number. */
+static double fraction(const char *word, int *ok)
+{
+    char *end;
+    double value = strtod(word, &end);
+    if (end == word || *end) {
+        fail("not a number", word);
+        *ok = 0;
+    }
+    return value;
+}
+
 /* The parts of a station or of axes: any that a call can take, so that the library judges them. */
 static void read_parts(char **words, int16_t *parts, int count, int *ok)
 {
     for (int k = 0; k < count; k++)
         parts[k] = (int16_t)number(words[k], INT16_MIN, INT16_MAX, ok);
+}
+
+static struct station read_station(char **words, const struct options *options, int *ok)
+{
+    struct station s = {options->in_metres, {0, 0, 0}, {0, 0, 0}};
+    if (!s.in_metres) {
+        read_parts(words, s.units, 3, ok);
+        return s;
+    }
+    for (int k = 0; k < 3; k++)
+        s.metres[k] = fraction(words[k], ok);
+    return s;
 }
 
 /* A byte of the scene, 0 past its end: a scene that is too short for its header is refused. */
@@ -144,19 +180,45 @@ static uint32_t patch_panel(size_t patch)
     return scene_u16(scene_u32(PATCHES_AT) + RING_PATCH_BYTES * patch);
 }
 
-/* Asks the gate first, which needs no buffer; then surveys. */
-static uint32_t survey(const struct camera *c, const int16_t *eye)
+/* How much of each buffer is lent; the counts are lent whole. */
+struct lengths {
+    size_t cells, patches, pairs;
+};
+
+static struct lengths lengths_for(const struct camera *c)
 {
-    size_t cells = at_most(RING_PICTURE_LEN(c->width, c->height), sizeof picture / sizeof *picture);
-    size_t pairs = at_most(RING_UNLIT_LEN(c->height), sizeof unlit / sizeof *unlit);
-    size_t patches = patch_count();
-    uint32_t gate = ring_gate(scene, scene_len, THREE(eye), NINE(c->axes),
-                              c->width, c->height, c->lens,
-                              cells, RING_COUNTS_LEN, patches, pairs, counter);
-    uint32_t result = ring_survey(scene, scene_len, THREE(eye), NINE(c->axes),
-                                  c->width, c->height, c->lens,
-                                  picture, cells, counts, RING_COUNTS_LEN,
-                                  patch_counts, patches, unlit, pairs, &counter);
+    struct lengths n = {
+        at_most(RING_PICTURE_LEN(c->width, c->height), sizeof picture / sizeof *picture),
+        patch_count(),
+        at_most(RING_UNLIT_LEN(c->height), sizeof unlit / sizeof *unlit)};
+    return n;
+}
+
+/* The rest of a call, behind the scene and the station. */
+#define CAMERA(c) NINE((c)->axes), (c)->width, (c)->height, (c)->lens
+#define LENGTHS(n) (n).cells, RING_COUNTS_LEN, (n).patches, (n).pairs, counter
+#define LENT(n) picture, (n).cells, counts, RING_COUNTS_LEN, patch_counts, (n).patches, \
+                unlit, (n).pairs, &counter
+
+static uint32_t ask_gate(const struct camera *c, const struct station *s, struct lengths n)
+{
+    if (s->in_metres)
+        return ring_gate_metres(scene, scene_len, THREE(s->metres), CAMERA(c), LENGTHS(n));
+    return ring_gate(scene, scene_len, THREE(s->units), CAMERA(c), LENGTHS(n));
+}
+
+static uint32_t ask_survey(const struct camera *c, const struct station *s, struct lengths n)
+{
+    if (s->in_metres)
+        return ring_survey_metres(scene, scene_len, THREE(s->metres), CAMERA(c), LENT(n));
+    return ring_survey(scene, scene_len, THREE(s->units), CAMERA(c), LENT(n));
+}
+
+/* Asks the gate first, which needs no buffer; then surveys. */
+static uint32_t survey(const struct camera *c, const struct station *s)
+{
+    struct lengths n = lengths_for(c);
+    uint32_t gate = ask_gate(c, s, n), result = ask_survey(c, s, n);
     if (gate != result) {
         fprintf(stderr, "console: the gate said %u, the survey %u\n",
                 (unsigned)gate, (unsigned)result);
@@ -227,7 +289,9 @@ static int read_options(int argc, char **argv, struct options *options, int16_t 
 {
     int at = 1;
     for (; at < argc && argv[at][0] == '-'; at++) {
-        if (!strcmp(argv[at], "-p")) {
+        if (!strcmp(argv[at], "-m")) {
+            options->in_metres = 1;
+        } else if (!strcmp(argv[at], "-p")) {
             options->with_patches = 1;
         } else if (!strcmp(argv[at], "-u")) {
             options->with_unlit = 1;
@@ -250,9 +314,10 @@ static void read_window(char **words, struct camera *c, int *ok)
     c->lens = window_number(words[2], ok);
 }
 
-static void print_survey(const struct camera *c, const int16_t *eye, const struct options *options)
+static void print_survey(const struct camera *c, const struct station *s,
+                         const struct options *options)
 {
-    uint32_t result = survey(c, eye);
+    uint32_t result = survey(c, s);
     if (result != RING_DONE) {
         printf("refused %u\n", (unsigned)result);
         return;
@@ -266,23 +331,22 @@ static void print_survey(const struct camera *c, const int16_t *eye, const struc
 
 int main(int argc, char **argv)
 {
-    struct options options = {NULL, 0, 0};
+    struct options options = {NULL, 0, 0, 0};
     struct camera c = {0, 0, 0, {RING_LEVEL_VIEW}};
-    int16_t eye[3];
     int ok = 1;
     int at = read_options(argc, argv, &options, c.axes, &ok);
     if (!at || argc - at < 7 || (argc - at - 4) % 3)
         return usage();
     read_window(argv + at + 1, &c, &ok);
     for (int k = at + 4; k < argc; k += 3)
-        read_parts(argv + k, eye, 3, &ok);
+        read_station(argv + k, &options, &ok);
     if (!ok)
         return usage();
     if (read_scene(argv[at]))
         return 1;
     for (int k = at + 4; k < argc; k += 3) {
-        read_parts(argv + k, eye, 3, &ok);
-        print_survey(&c, eye, &options);
+        struct station s = read_station(argv + k, &options, &ok);
+        print_survey(&c, &s, &options);
     }
     if (fflush(stdout) || ferror(stdout))
         return fail("cannot write", "standard output");

@@ -26,7 +26,15 @@ gives() {
     done
 }
 
+# told STATION: the view of a station, and what rays.py is told of it besides: one in metres takes the place of another eye.
+told() {
+    eye=$1 beside=
+    [ -z "$metres" ] || { eye='9 9 9' beside="--metres $1"; }
+    tool scene.py view "$scene" "$work/in.view" $eye $window
+}
+
 # turned AXES SCENE WINDOW STATION...: the bills of all stations in one run, and the last picture.
+metres=
 turned() {
     axes=$1 scene=$work/$2.scene window=$3
     shift 3
@@ -34,12 +42,19 @@ turned() {
     : >"$work/wanted-p"
     words=
     for station in "$@"; do
-        tool scene.py view "$scene" "$work/in.view" $station $window
-        tool rays.py --patches ${axes:+--axes $axes} "$work/in.view" "$work/wanted.u16" >>"$work/wanted-p"
+        told "$station"
+        tool rays.py --patches $beside ${axes:+--axes $axes} "$work/in.view" "$work/wanted.u16" >>"$work/wanted-p"
         words="$words $station"
     done
     grep -v '^patch ' "$work/wanted-p" >"$work/wanted"
-    gives ${axes:+-a $axes}
+    gives $metres ${axes:+-a $axes}
+}
+
+# in_metres AXES SCENE WINDOW STATION...: the same of stations in metres.
+in_metres() {
+    metres=-m
+    turned "$@"
+    metres=
 }
 
 # level SCENE WINDOW STATION...: without axes; and with those of the level view no other bills.
@@ -78,6 +93,17 @@ misused() {
     "$work/console" "$@" >/dev/null 2>&1
     [ $? -eq 2 ]
     count $? "console $*: misused"
+}
+
+# becomes UNITS DOUBLE...: each of these doubles is this number of units to the right. Only from there the line straight forward
+# meets a slot one unit wide: it runs along the left edge, and shows what is right of it.
+becomes() {
+    units=$1
+    shift
+    made slot 'node 0,1,0 1,1,0 0,1,1' "$(piece 5 1 "$units" $((units + 1)) -1 1)"
+    for double in "$@"; do
+        prints "$(printf '%s\n' 'view 1 1 1' '5 1' 'nothing 0' 'total 1')" -m "$work/slot.scene" 1 1 1 "$double" 0 0
+    done
 }
 
 # limits AXES PART...: each of these parts of the axes passes with 100 and -100, and no further.
@@ -220,6 +246,53 @@ prints "$(printf '%s\n' 'view 4 4 4' '5 4' 'nothing 12' 'total 16' 'unlit 0: (0,
     'unlit 1: (0,1) (3,1)' 'unlit 2: (0,1) (3,1)' 'unlit 3: (0,4)')" -u "$work/s.scene" 4 4 4 0 0 0
 prints "$(printf '%s\n' 'view 4 4 4' '9 4' 'nothing 12' 'total 16' 'unlit 0: (0,3)' 'unlit 1: (0,3)' \
     'unlit 2: (0,3)' 'unlit 3: (0,3)')" -u -a 100 -100 0 100 100 0 0 0 100 "$work/wall.scene" 4 4 4 0 0 0
+
+# Stations in metres. What a double becomes: zeros, halves with the request's own first, doubles next to halves, the limit.
+in_metres "" s "4 4 4" "0 0 0" "0 0.375 0" "0.015 -0.1 0.025" "0 nan 0" "-0 0.5 0"
+in_metres "" ring "64 32 40" "0 0.1 0" "1.5 5 -1" "0.0025 -4.5 0.1875" "0 0 -64" "1.501 4.999 -1"
+in_metres "9 2 -7 3 12 -4 11 -1 8" quarters "6 4 5" "-0.095 -0.245 0.13" "-0.0974 -0.2426 0.1324"
+in_metres "100 -100 0 100 100 0 0 0 100" wall "4 4 4" "-0.35 0.055 0.035" "0 0 0"
+becomes 0 0 -0 0.0 1e-400 -1e-400 4.9e-324 0.002499999999999999
+becomes 12 0.0625 6.25e-2 0x1p-4 0.0624999 0.058
+becomes 38 0.1875 0.1900
+becomes 13 0.06250000000000001
+becomes -12 -0.0625
+becomes -38 -0.1875
+becomes 1 0.0025 0.005 0.0075
+becomes 3 0.0125
+becomes -1 -0.0025
+becomes 9988 49.9375
+becomes -10000 -50 -50.0025
+in_metres "" s "4 4 4" "50.0025 -50.0025 50.0025"
+prints 'refused 15' -m "$work/s.scene" 4 4 4 50.00250000000001 0 0
+prints 'refused 15' -m "$work/s.scene" 4 4 4 0 -50.00250000000001 0
+prints 'refused 10' "$work/s.scene" 4 4 4 10001 0 0
+for double in nan -nan 'nan(50)' inf -inf infinity 1e400 -1e400 64 327.68 21474836.48; do
+    prints 'refused 15' -m "$work/s.scene" 4 4 4 "$double" 0 0
+    prints 'refused 15' -m "$work/s.scene" 4 4 4 0 "$double" 0
+    prints 'refused 15' -m "$work/s.scene" 4 4 4 0 0 "$double"
+done
+
+# The question's place: after those on scenes, before 10.
+prints 'refused 1' -m "$work/short.scene" 4 4 4 nan 0 0
+prints 'refused 2' -m "$work/endless.scene" 4 4 4 0 64 0
+prints 'refused 15' -m "$work/s.scene" 0 4 4 nan 0 0
+prints 'refused 15' -m "$work/s.scene" 0 4 4 64 0 0
+prints 'refused 15' -m -a 0 0 0 0 0 0 0 0 0 "$work/s.scene" 4 4 4 0 0 inf
+prints 'refused 10' -m -a 0 0 0 0 0 0 0 0 0 "$work/s.scene" 4 4 0 0 0 0
+prints 'refused 14' -m -a 0 0 0 0 0 0 0 0 0 "$work/s.scene" 4 4 4 0 0 0
+prints "$(printf '%s\n' 'view 1 1 4' '5 1' 'nothing 0' 'total 1' 'patch 0: 5 1' 'refused 15' 'view 1 1 4' 'nothing 1' 'total 1' \
+    'patch 0: 5 0' 'unlit 0: (0,1)')" -u -p -m "$work/s.scene" 1 1 4 0 0 0 0 nan 0 0 0.5 0
+
+# What is no number, and no whole number of units.
+for double in x '' 0.5m 1,5 0x nanx '1 2'; do
+    misused -m "$work/s.scene" 4 4 4 0 "$double" 0
+done
+for word in 0.5 nan inf 1e2; do
+    misused "$work/s.scene" 4 4 4 0 "$word" 0
+done
+misused -m "$work/s.scene" 4 4 4 0 0
+misused "$work/s.scene" 4 4 4 -m 0 0 0 0 0
 
 echo "console: $passed passed, $failed failed"
 [ "$failed" -eq 0 ]
