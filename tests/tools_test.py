@@ -1649,7 +1649,8 @@ NO_METRES = (("nan 0 0 4 4 4", OUT + "x of the eye is nan metres, which is not f
              ("0 0 -inf 4 4 4", OUT + "z of the eye is -inf metres, which is not finite"),
              ("0 50.01 0 4 4 4", OUT + "y of the eye is 50.01 metres, beyond 10000 units"),
              ("0 0 0 0 0 0 4 4 4", NO_VIEW), ("0 0 0 4 4", NO_VIEW),
-             ("0 0 x 4 4 4", "'x' is not a number"), ("0 0", "numbers after --metres: 1 more needed"))
+             ("0 0 x 4 4 4", "'x' is not a number"),
+             ("0 0", "numbers after --metres: 1 more needed"))
 
 
 def check_faulty(said, name, *words, data=None):
