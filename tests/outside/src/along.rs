@@ -9,6 +9,7 @@ use crate::polygon::{divisor, point};
 use crate::random::Random;
 use crate::ray::direction;
 use crate::scene::Patch;
+use crate::station::Station::Units;
 use crate::vector::Point;
 use crate::view;
 
@@ -55,7 +56,7 @@ fn along_joints(rng: &mut Random, parts: &[Part], patches: &[Patch], most: usize
     };
     let (width, height) = (cells(across, 40), cells(above, 24));
     let view = View {
-        eye: [0; 3],
+        station: Units([0; 3]),
         axes,
         width: width as u16,
         height: (most as i64 / width).clamp(1, height) as u16,
@@ -65,7 +66,8 @@ fn along_joints(rng: &mut Random, parts: &[Part], patches: &[Patch], most: usize
     let [i, j] = [view.width - 1, view.height - 1].map(|last| amid(last) as usize);
     let ahead = direction(&view, i, j).map(|n| depth * n as i64);
     let eye = point([0, 1, 2].map(|k| target[k] - ahead[k]))?;
-    Some(View { eye, ..view })
+    let station = Units(eye);
+    Some(View { station, ..view })
 }
 
 /// A camera whose right and up are lattice lines, and how many times they go into
@@ -112,7 +114,7 @@ fn in_plane(rng: &mut Random, parts: &[Part], most: usize) -> Option<View> {
     let width = rng.between(1, 12);
     let height = (most as i64 / width).clamp(1, 8);
     Some(View {
-        eye,
+        station: Units(eye),
         axes: mount::facing(rng, eye, target.map(i64::from))?,
         width: width as u16,
         height: rng.between(1, height) as u16,

@@ -65,7 +65,7 @@ struct Told<'a> {
 
 impl Told<'_> {
     fn of<'a>(patches: &'a [Patch], view: &View) -> Told<'a> {
-        let eye = wide(view.eye);
+        let eye = wide(view.eye());
         let (flat, open): (Vec<&Patch>, Vec<&Patch>) =
             patches.iter().partition(|p| eye_to_corner(p, eye) == 0);
         Told {

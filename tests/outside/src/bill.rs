@@ -3,6 +3,7 @@
 use crate::axes::LEVEL;
 use crate::call::{Call, View};
 use crate::scene::{point_at, u16_at};
+use crate::station::Station::Units;
 use crate::survey::survey;
 
 pub const SHORTEST: usize = 12;
@@ -16,7 +17,7 @@ pub fn bill(input: &[u8]) -> String {
     }
     // "`ringbill` keeps it": the old view.
     let view = View {
-        eye: point_at(input, 0),
+        station: Units(point_at(input, 0)),
         axes: LEVEL,
         width: u16_at(input, 6),
         height: u16_at(input, 8),

@@ -5,6 +5,7 @@ use crate::axes::{Axes, LEVEL};
 use crate::call::{Call, View, COUNTS};
 use crate::mount::with_part;
 use crate::scene::Scene;
+use crate::station::Station::Units;
 use crate::stations::{hung, in_one_node, piece, s, square, t, window, VIEW};
 use crate::trial::{accepted, refused, Trial};
 
@@ -97,7 +98,7 @@ fn of_two_nodes() -> Vec<Trial> {
     let pieces = [[-50, 10], [10, 50]].map(|x| piece(5, 100, x, [-50, 50]));
     let hidden = hung(vec![piece(7, 50, [-20, 0], [-20, 20])], pieces.to_vec());
     let back = View {
-        eye: [0, 200, 0],
+        station: Units([0, 200, 0]),
         axes: Axes {
             right: [-1, 0, 0],
             forward: [0, -1, 0],

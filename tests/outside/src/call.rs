@@ -3,6 +3,7 @@
 use crate::axes::Axes;
 use crate::random::Random;
 use crate::scene::patches_told;
+use crate::station::Station;
 use crate::vector::Point;
 
 pub const COUNTS: usize = 1_025;
@@ -12,7 +13,7 @@ pub const ROW: usize = 256;
 /// The station, the camera's vectors and "A window is width, height and lens."
 #[derive(Clone, Copy, Debug, PartialEq, Eq)]
 pub struct View {
-    pub eye: Point,
+    pub station: Station,
     pub axes: Axes,
     pub width: u16,
     pub height: u16,
@@ -22,6 +23,19 @@ pub struct View {
 impl View {
     pub fn cells(&self) -> usize {
         usize::from(self.width) * usize::from(self.height)
+    }
+
+    /// The whole-number station.
+    pub fn eye(&self) -> Point {
+        self.station.eye()
+    }
+
+    /// "The picture is that of the whole-number station."
+    pub fn in_units(&self) -> View {
+        View {
+            station: Station::Units(self.eye()),
+            ..*self
+        }
     }
 }
 
@@ -55,7 +69,7 @@ impl Call {
     pub fn standard_input(&self) -> Vec<u8> {
         let view = &self.view;
         let mut bytes = Vec::new();
-        for number in view.eye {
+        for number in view.eye() {
             bytes.extend(number.to_le_bytes());
         }
         for number in [view.width, view.height, view.lens] {

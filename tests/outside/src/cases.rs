@@ -37,6 +37,7 @@ const FILES: &[File] = &[
     file("F-3.txt", 187, 3),
     file("F-5.txt", 80, 5),
     file("F-6.txt", 61, 6),
+    file("F-7.txt", 195, 7),
 ];
 
 /// The request that brought the patch table.
@@ -47,6 +48,8 @@ const JOINTS: u32 = 3;
 const CUTTINGS: u32 = 5;
 /// The request that asks what the spans of a row look at.
 const ROWS: u32 = 6;
+/// The request by which a station may be in metres.
+const METRES: u32 = 7;
 /// How many spans its file tells of: one line left out is seen.
 const SPANS: usize = 832;
 
@@ -191,7 +194,7 @@ pub fn said_by(mut block: Block, file: &File) -> Reading<Said> {
 fn two_cuttings(block: &mut Block) -> Reading<[Trial; 2]> {
     let about = block.text("about")?;
     let scenes = [block.bytes("scene_a")?, block.bytes("scene_b")?];
-    let view = view(block)?;
+    let view = view(block, false)?;
     if block.number::<u32>("answer")? != 0 {
         return Err(block.wrong("a cutting that is not accepted"));
     }
@@ -228,7 +231,7 @@ fn survey_call(block: &mut Block, request: u32) -> Reading<Trial> {
     let about = block.text("about")?;
     let scene = block.bytes("scene")?;
     let call = Call {
-        view: view(block)?,
+        view: view(block, request >= METRES)?,
         picture_len: block.number("picture_len")?,
         counts_len: block.number("counts_len")?,
         patch_counts_len: match request < PATCH_TABLE {

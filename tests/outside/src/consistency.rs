@@ -8,6 +8,7 @@ use crate::pairs::{parts, Pair};
 use crate::random::Random;
 use crate::ray::{direction, holder, met, Line, Sight};
 use crate::scene::Scene;
+use crate::station::Station::Units;
 use crate::stations::{t, VIEW};
 use crate::steps::{each_alone, pierces};
 use crate::survey::{holders, lines, survey, Done};
@@ -19,7 +20,7 @@ use crate::walk::walk;
 pub fn rays_agree(call: &Call) -> bool {
     let scene = Scene::read(&call.scene);
     let patches = scene.patches();
-    let order = walk(&scene, call.view.eye);
+    let order = walk(&scene, call.view.eye());
     let first_has = |line: &Line| {
         let mut walked = order.iter().copied();
         walked.find(|&k| met(&patches[k], line)) == holder(&patches, line)
@@ -71,12 +72,12 @@ pub fn turned_back(call: &Call) -> Option<bool> {
     let told_by = [cross(forward, up), cross(up, right), cross(right, forward)];
     let mut patches = Scene::read(&call.scene).patches();
     for corner in patches.iter_mut().flat_map(|p| p.corners.iter_mut()) {
-        let from = minus(wide(*corner), wide(call.view.eye));
+        let from = minus(wide(*corner), wide(call.view.eye()));
         let [x, y, z] = told_by.map(|by| i16::try_from(dot(by, from)).ok());
         *corner = [x?, y?, z?];
     }
     let level = View {
-        eye: [0; 3],
+        station: Units([0; 3]),
         axes: LEVEL,
         ..call.view
     };

@@ -34,6 +34,7 @@ impl Gate {
                 (7, panels_in_order),
                 (8, patches_convex),
                 (9, patches_on_their_sides),
+                (15, station_turns),
                 (10, view_in_range),
                 (14, axes_proper),
                 (11, lengths_fit),
@@ -244,11 +245,17 @@ pub fn on_side(plane: &[Point; 3], sign: i128, patch: &Patch) -> bool {
     sides.iter().all(|&s| s >= 0) && sides.iter().any(|&s| s > 0)
 }
 
+/// 15: "when a double is not finite or its whole number leaves ±10,000, put just
+/// before question 10." A station in units has no double.
+pub fn station_turns(call: &Call, _: &Scene) -> bool {
+    call.view.station.whole().is_some()
+}
+
 /// 10: "Is the eye within ±10,000, width 1 to 256, height 1 to 128, lens 1 to
 /// 4,096?"
 pub fn view_in_range(call: &Call, _: &Scene) -> bool {
     let view = &call.view;
-    in_range(&view.eye)
+    in_range(&view.eye())
         && (1..=256).contains(&view.width)
         && (1..=128).contains(&view.height)
         && (1..=4_096).contains(&view.lens)

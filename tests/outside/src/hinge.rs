@@ -5,6 +5,7 @@ use crate::call::View;
 use crate::polygon::point;
 use crate::random::Random;
 use crate::soup::Corners;
+use crate::station::Station::Units;
 use crate::vector::{normal, Point};
 use crate::works::plain;
 
@@ -14,7 +15,7 @@ type Place = [i64; 3];
 /// Patches around one to three hinges, and a small window before them.
 pub fn hinged(rng: &mut Random) -> (Vec<Corners>, View) {
     let view = View {
-        eye: [0; 3].map(|_| rng.between(-40, 40) as i16),
+        station: Units([0; 3].map(|_| rng.between(-40, 40) as i16)),
         axes: plain(rng),
         width: rng.between(1, 7) as u16,
         height: rng.between(1, 5) as u16,
@@ -162,7 +163,7 @@ fn behind(rng: &mut Random, view: &View) -> Vec<Place> {
 fn stands(view: &View, places: &[Place]) -> Option<Corners> {
     let corner = |place: &Place| {
         let from = view.axes.sum(place.map(i128::from)).map(|n| n as i64);
-        point([0, 1, 2].map(|k| i64::from(view.eye[k]) + from[k]))
+        point([0, 1, 2].map(|k| i64::from(view.eye()[k]) + from[k]))
     };
     let corners: Option<Vec<Point>> = places.iter().map(corner).collect();
     corners.filter(|c| normal(c[0], c[1], c[2]) != [0, 0, 0])

@@ -3,10 +3,16 @@
 use crate::axes::Axes;
 use crate::block::{Block, Reading};
 use crate::call::{View, COUNTS, ROW};
+use crate::double::Double;
+use crate::station::Station;
 
-/// Station, camera and window.
-pub fn view(block: &mut Block) -> Reading<View> {
-    let eye = block.numbers("eye")?;
+/// Station, camera and window; the station in metres only where the file knows
+/// of these.
+pub fn view(block: &mut Block, has_metres: bool) -> Reading<View> {
+    let station = match has_metres && block.is_next("metres_bits") {
+        true => Station::Metres(metres(block)?),
+        false => Station::Units(block.numbers("eye")?),
+    };
     let axes = Axes {
         right: block.numbers("right")?,
         forward: block.numbers("forward")?,
@@ -14,12 +20,31 @@ pub fn view(block: &mut Block) -> Reading<View> {
     };
     let [width, height, lens] = block.numbers("window")?;
     Ok(View {
-        eye,
+        station,
         axes,
         width,
         height,
         lens,
     })
+}
+
+/// "the bits of the three doubles; the same in decimal, the shortest that reads
+/// back as that double, or `NaN`, `inf`, `-inf`".
+fn metres(block: &mut Block) -> Reading<[Double; 3]> {
+    let doubles: [Double; 3] = block.numbers("metres_bits")?;
+    let words: [String; 3] = block.numbers("metres")?;
+    let is_told = |(double, word): (&Double, &String)| match double.is_nan() {
+        true => word == "NaN",
+        false => {
+            let read_back: Reading<f64> = block.value(word);
+            let same = read_back.is_ok_and(|value| Double::of(value) == *double);
+            same && *word == format!("{:e}", double.value())
+        }
+    };
+    match doubles.iter().zip(&words).all(is_told) {
+        true => Ok(doubles),
+        false => Err(block.wrong("not the shortest decimal of the bits")),
+    }
 }
 
 /// Its rows from the top.

@@ -5,6 +5,7 @@ use crate::call::{Call, View, COUNTS, ROW};
 use crate::mount;
 use crate::random::Random;
 use crate::scene::{pair_at, HEADER, SIZES};
+use crate::station::Station::Units;
 
 pub type CallHarm = fn(&mut Call, &mut Random);
 
@@ -26,7 +27,9 @@ fn eye_out(call: &mut Call, rng: &mut Random) {
     let ends = [
         -10_001, 10_001, -10_001, 10_001, -32_768, 32_767, -10_000, 10_000,
     ];
-    call.view.eye[rng.below(3)] = rng.pick(&ends);
+    let axis = rng.below(3);
+    let station = &mut call.view.station;
+    *station = station.with_part(axis, rng.pick(&ends));
 }
 
 /// One measure at or over its ends; the lengths follow where they can.
@@ -136,7 +139,9 @@ pub fn ends(call: &Call) -> Vec<Call> {
     let mut all = Vec::new();
     for axis in 0..3 {
         for n in [-10_001, -10_000, 10_000, 10_001] {
-            all.push(changed(&|c| c.view.eye[axis] = n));
+            all.push(changed(&|c| {
+                c.view.station = c.view.station.with_part(axis, n)
+            }));
         }
     }
     let view = call.view;
@@ -202,7 +207,7 @@ fn lengths_of_the_table(call: &Call) -> Vec<Call> {
 fn axes_and_another(call: &Call) -> Vec<Call> {
     let others: [&dyn Fn(&mut Call); 8] = [
         &|c| c.scene = c.scene[1..].into(),
-        &|c| c.view.eye[2] = 10_001,
+        &|c| c.view.station = c.view.station.with_part(2, 10_001),
         &|c| c.view.lens = 0,
         &|c| c.picture_len = stepped(c.picture_len, -1),
         &|c| c.counts_len = 0,
@@ -247,7 +252,7 @@ pub fn beyond_memory(call: &mut Call, rng: &mut Random) {
 /// A window whose measures are all in range, anywhere.
 pub fn any_window(rng: &mut Random) -> View {
     View {
-        eye: [0; 3].map(|_| rng.between(-10_000, 10_000) as i16),
+        station: Units([0; 3].map(|_| rng.between(-10_000, 10_000) as i16)),
         axes: mount::any(rng),
         width: rng.between(1, 256) as u16,
         height: rng.between(1, 128) as u16,

@@ -47,7 +47,7 @@ impl Line {
     /// that taken away": the view's own right and up.
     pub fn of(sight: Sight, view: &View, i: usize, j: usize) -> Line {
         let [right, _, up] = view.axes.vectors().map(wide);
-        let line = Line::alone(wide(view.eye), direction(view, i, j));
+        let line = Line::alone(wide(view.eye()), direction(view, i, j));
         match sight {
             Sight::Plain => line,
             Sight::Beside => Line {

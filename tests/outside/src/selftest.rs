@@ -18,6 +18,7 @@ use outside::consistency::{
 };
 use outside::cuttings_check::{faults_show, made, pairs_hold, stored_cover, tampering_shows};
 use outside::differential::{case, put, Case, Tally};
+use outside::double_check::doubles_hold;
 use outside::fault::Faulty;
 use outside::gate::{Gate, STRUCK};
 use outside::generate::{FULL, SMALL};
@@ -70,6 +71,7 @@ fn failing() -> usize {
         println!("{} {name}", if held { "holds" } else { "FAILS" });
         failed += usize::from(!held);
     }
+    failed += doubles_hold(SEED, 20_000);
     failed += hold_model();
     failed += alterations_show().unwrap_or_else(|why| {
         println!("FAILS {why}");

@@ -5,12 +5,13 @@ use crate::bill::bill;
 use crate::call::{Call, View};
 use crate::loose::{Loose, Site};
 use crate::scene::{Patch, Scene, NONE};
+use crate::station::Station::Units;
 use crate::survey::{survey, used_pairs, Done};
 use crate::vector::{side, Point};
 
 /// "Eye and window as above unless said."
 pub const VIEW: View = View {
-    eye: [0, 0, 0],
+    station: Units([0, 0, 0]),
     axes: LEVEL,
     width: 4,
     height: 4,
@@ -100,7 +101,8 @@ fn done(scene: &Scene, view: View) -> Done {
 }
 
 pub fn with_eye(eye: Point) -> View {
-    View { eye, ..VIEW }
+    let station = Units(eye);
+    View { station, ..VIEW }
 }
 
 /// Each station with what the model says of it.

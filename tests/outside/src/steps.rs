@@ -51,7 +51,7 @@ fn gives_up(patches: &[Patch], [k, m]: [usize; 2], eye: Vector, along: Vector) -
 /// Each patch by itself: its cells are those where the cell's one line pierces
 /// it and it gives none up. A lit cell is had by one patch, an unlit one by none.
 pub fn each_alone(call: &Call, sight: Sight, along: &[Vector]) -> bool {
-    let (patches, eye) = (Scene::read(&call.scene).patches(), wide(call.view.eye));
+    let (patches, eye) = (Scene::read(&call.scene).patches(), wide(call.view.eye()));
     let done = survey_by(sight, call).expect("an accepted scene");
     let mut table = vec![0; patches.len()];
     let once = along.iter().zip(&done.picture).all(|(&along, &panel)| {
@@ -111,7 +111,7 @@ fn greatest_product(patches: &[Patch], eye: Vector, axes: &Axes) -> i128 {
 /// to be worked with, or the scene has no patch.
 pub fn steps_agree(call: &Call) -> Option<bool> {
     let (patches, view) = (Scene::read(&call.scene).patches(), &call.view);
-    let eye = wide(view.eye);
+    let eye = wide(view.eye());
     let lines = lines(Sight::Plain, view);
     let own: Vec<Vector> = lines.iter().map(|line| line.along[0]).collect();
     let most = greatest_product(&patches, eye, &view.axes);

@@ -81,8 +81,8 @@ pub fn holders(sight: Sight, patches: &[Patch], view: &View) -> Vec<Holder> {
 
 /// The cells' lines in that order.
 pub fn lines(sight: Sight, view: &View) -> Vec<Line> {
-    let width = usize::from(view.width);
-    let line = |at: usize| Line::of(sight, view, at % width, at / width);
+    let (view, width) = (view.in_units(), usize::from(view.width));
+    let line = |at: usize| Line::of(sight, &view, at % width, at / width);
     (0..view.cells()).map(line).collect()
 }
 

@@ -1,6 +1,6 @@
 //! Calls with what is due for them, known beforehand: the turned stations,
 //! those booked patch by patch, those of joints, those of stretches, those of
-//! cuttings, and the stored cases.
+//! cuttings, those in metres, and the stored cases.
 
 use crate::block::Reading;
 use crate::booking::booking;
@@ -8,6 +8,7 @@ use crate::call::{Call, Lent, Library, View};
 use crate::cases::stored;
 use crate::compare::{check_due, cuttings_apart};
 use crate::joints::joints;
+use crate::metres::metres;
 use crate::random::Random;
 use crate::ray::Sight;
 use crate::rings::rings;
@@ -87,6 +88,7 @@ fn suites() -> Reading<Vec<Suite>> {
         told("the joints before F-3", Sight::Plain, joints(Sight::Plain)),
         told("the stretch stations", Sight::Beside, stretches()),
         told("the cutting stations", Sight::Beside, rings()),
+        told("the metre stations", Sight::Beside, metres()),
     ];
     all.extend(stored()?);
     Ok(all)

@@ -4,6 +4,7 @@ use crate::axes::{Axes, LEVEL};
 use crate::call::{Call, View};
 use crate::mount::with_part;
 use crate::scene::{Patch, Scene};
+use crate::station::Station::Units;
 use crate::stations::{piece, scene_of, site, t, window, VIEW};
 use crate::trial::{self, Trial};
 use crate::vector::Point;
@@ -91,7 +92,7 @@ fn of_quarters() -> Vec<Trial> {
 fn of_walls() -> Vec<Trial> {
     let aslant = axes([100, -100, 0], [100, 100, 0], [0, 0, 100]);
     let beyond = View {
-        eye: [0, 200, 0],
+        station: Units([0, 200, 0]),
         ..VIEW
     };
     [

@@ -9,6 +9,7 @@ use crate::random::Random;
 use crate::ray::direction;
 use crate::scene::Patch;
 use crate::soup::end;
+use crate::station::Station::Units;
 use crate::vector::Point;
 
 /// A view of the patches with at most `work` rays times patches, or so.
@@ -22,21 +23,23 @@ pub fn choose(rng: &mut Random, patches: &[Patch], work: usize) -> View {
     }
     let (width, height) = size(rng, most);
     let mut view = View {
-        eye: [0, 0, 0],
+        station: Units([0, 0, 0]),
         axes,
         width,
         height,
         lens: lens(rng, width),
     };
     if patches.is_empty() {
-        view.eye = anywhere(rng);
+        view.station = Units(anywhere(rng));
     } else if rng.once_in(2) {
-        view.eye = aimed(rng, patches, &view).unwrap_or_else(|| anywhere(rng));
+        let eye = aimed(rng, patches, &view);
+        view.station = Units(eye.unwrap_or_else(|| anywhere(rng)));
     } else {
-        view.eye = standing(rng, patches).unwrap_or_else(|| anywhere(rng));
+        let eye = standing(rng, patches).unwrap_or_else(|| anywhere(rng));
+        view.station = Units(eye);
         if rng.once_in(2) {
             let target = target(rng, patches);
-            view.axes = mount::facing(rng, view.eye, target).unwrap_or(axes);
+            view.axes = mount::facing(rng, eye, target).unwrap_or(axes);
         }
     }
     view
@@ -124,7 +127,7 @@ fn framed(rng: &mut Random, patches: &[Patch], axes: Axes, most: usize) -> Optio
     let room = 10_000 / step.iter().map(|n| n.abs()).max().unwrap_or(1);
     let far = rng.between(1, reach.unwrap_or(1).clamp(1, room.min(2_000)));
     let view = View {
-        eye: point([0, 1, 2].map(|k| target[k] - far * step[k]))?,
+        station: Units(point([0, 1, 2].map(|k| target[k] - far * step[k]))?),
         axes,
         width: width as u16,
         height: height as u16,

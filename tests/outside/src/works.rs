@@ -8,6 +8,7 @@ use crate::polygon::{dressed, hull, point, Basis};
 use crate::random::Random;
 use crate::scene::Patch;
 use crate::soup::{gather, Corners};
+use crate::station::Station::Units;
 use crate::vector::{dot, Point};
 
 /// Up to 1,024 parallel patches, one plane each; with four corners each they
@@ -46,7 +47,7 @@ pub fn comb(rng: &mut Random, work: usize) -> (Vec<Corners>, View) {
     let height = (work as i64 / (width * width / 2)).clamp(1, 6);
     let axes = plain(rng);
     let view = View {
-        eye: [0; 3].map(|_| rng.between(-400, 400) as i16),
+        station: Units([0; 3].map(|_| rng.between(-400, 400) as i16)),
         axes,
         width: width as u16,
         height: rng.between(1, height) as u16,
@@ -110,7 +111,7 @@ fn tooth(
     let corner = |(aside, above): (i64, i64)| {
         let told = [middle + aside, depth * i64::from(view.lens), above];
         let from = view.axes.sum(told.map(i128::from)).map(|n| n as i64);
-        point([0, 1, 2].map(|k| i64::from(view.eye[k]) + from[k]))
+        point([0, 1, 2].map(|k| i64::from(view.eye()[k]) + from[k]))
     };
     let square = [(-left, -up), (right, -up), (right, up), (-left, up)];
     let corners: Option<Corners> = square.into_iter().map(corner).collect();
@@ -123,7 +124,7 @@ pub fn pieces(rng: &mut Random, work: usize) -> (Vec<Patch>, View) {
     let width = rng.pick(&[256, 255, 40, 12, 9, 8, 7]);
     let height = (work as i64 / (8 * width)).clamp(1, 30);
     let view = View {
-        eye: [0; 3].map(|_| rng.between(-200, 200) as i16),
+        station: Units([0; 3].map(|_| rng.between(-200, 200) as i16)),
         axes: plain(rng),
         width: width as u16,
         height: rng.between(1, height) as u16,
@@ -165,7 +166,7 @@ fn layer(rng: &mut Random, view: &View) -> Basis {
     let told = |at: [i64; 3]| view.axes.sum(at.map(i128::from)).map(|n| n as i64);
     let from = told([left, ahead, low]);
     Basis {
-        origin: [0, 1, 2].map(|k| i64::from(view.eye[k]) + from[k]),
+        origin: [0, 1, 2].map(|k| i64::from(view.eye()[k]) + from[k]),
         u: told([right, lean[0], 0]),
         v: told([0, lean[1], up]),
     }
@@ -225,7 +226,7 @@ pub fn lining(rng: &mut Random, most: usize) -> (Vec<Patch>, View) {
         rng.between(-radius / 3, radius / 3),
     ];
     let view = View {
-        eye: eye.map(|n| n as i16),
+        station: Units(eye.map(|n| n as i16)),
         axes: mount::any(rng),
         width: rng.between(1, 48) as u16,
         height: rng.between(1, 32) as u16,

@@ -58,7 +58,7 @@ pub const BOOKS: &[(&str, &[Difference], Book)] = &[
         each_cell(p, |_, _| vec![0])
     }),
     ("by place in the walk", SUMS, |p| {
-        let order = walk(p.scene, p.view.eye);
+        let order = walk(p.scene, p.view.eye());
         each_cell(p, |_, k| place(&order, k).into_iter().collect())
     }),
     ("by place in the node's run", SUMS, |p| {
@@ -71,7 +71,7 @@ pub const BOOKS: &[(&str, &[Difference], Book)] = &[
         })
     }),
     ("last patch of a full row not booked", SUMS, |p| {
-        let order = walk(p.scene, p.view.eye);
+        let order = walk(p.scene, p.view.eye());
         each_row(p, |row, k| match filler(row, &order) == Some(k) {
             true => 0,
             false => cells(row, k),

@@ -102,7 +102,7 @@ fn part_of_each(axes: Axes, k: usize) -> Point {
 pub fn in_rows(scene: &Scene, cell: Cell, axes: Axes, reaches: fn(&[i128]) -> bool) -> Holder {
     let other = View { axes, ..cell.view };
     let plane = cross(wide(axes.right), direction(&other, 0, cell.j));
-    let side = |&p: &Point| dot(plane, minus(wide(p), wide(cell.view.eye)));
+    let side = |&p: &Point| dot(plane, minus(wide(p), wide(cell.view.eye())));
     cell.holder_among(scene, |_, patch| {
         let sides: Vec<i128> = patch.corners.iter().map(side).collect();
         reaches(&sides)

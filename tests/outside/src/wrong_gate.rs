@@ -92,27 +92,27 @@ pub const WRONG: &[WrongGate] = &[
     }),
     ("10: width 257", || {
         asked(10, |c, _| {
-            in_range(&c.view.eye) && window(c, 257, 128, 4_096)
+            in_range(&c.view.eye()) && window(c, 257, 128, 4_096)
         })
     }),
     ("10: height 129", || {
         asked(10, |c, _| {
-            in_range(&c.view.eye) && window(c, 256, 129, 4_096)
+            in_range(&c.view.eye()) && window(c, 256, 129, 4_096)
         })
     }),
     ("10: lens 4,097", || {
         asked(10, |c, _| {
-            in_range(&c.view.eye) && window(c, 256, 128, 4_097)
+            in_range(&c.view.eye()) && window(c, 256, 128, 4_097)
         })
     }),
     ("10: width 255 at most", || {
         asked(10, |c, _| {
-            in_range(&c.view.eye) && window(c, 255, 128, 4_096)
+            in_range(&c.view.eye()) && window(c, 255, 128, 4_096)
         })
     }),
     ("10: lens 0", || {
         asked(10, |c, _| {
-            in_range(&c.view.eye)
+            in_range(&c.view.eye())
                 && c.view.width.clamp(1, 256) == c.view.width
                 && c.view.height.clamp(1, 128) == c.view.height
                 && c.view.lens <= 4_096

@@ -35,8 +35,8 @@ must() {
             { echo "$fault: $difference not seen"; exit 1; }
     done
     for known in 'the turned stations' 'the booked stations' 'the joint stations' \
-        'the stretch stations' 'the cutting stations' F-1.txt F-2.txt F-3.txt \
-        F-5.txt; do
+        'the stretch stations' 'the cutting stations' 'the metre stations' \
+        F-1.txt F-2.txt F-3.txt F-5.txt F-7.txt; do
         grep -q "^cases: [1-9][0-9]* of $known differ\$" "$work/report" ||
             { echo "$fault: $known not seen"; exit 1; }
     done
