@@ -3,13 +3,17 @@
 use crate::block::{Block, Reading};
 use crate::cases::{files, said, said_by, File, Said};
 use crate::compare::check_due;
+use crate::double::Double;
 use crate::random::Random;
 use crate::row_cases::RowCase;
 use crate::row_fault::Laying;
 use crate::trial::Trial;
 
-/// The keys of what is due; a change of another number need not show.
+/// The keys of what is due, and of what is told twice; a change of another number
+/// need not show.
 const DUE: &[&str] = &[
+    "metres_bits",
+    "metres",
     "answer",
     "picture_row",
     "counts",
@@ -60,17 +64,29 @@ fn rows_differ(before: &RowCase, other: &RowCase) -> bool {
     !found.is_empty()
 }
 
+/// Does the digit belong to a NaN's bits? With another payload it is due the
+/// same.
+fn is_of_nan(line: &str, at: usize) -> bool {
+    let word = line[..at].matches(' ').count();
+    let word = line.split(' ').nth(word).unwrap_or("");
+    word.parse().is_ok_and(Double::is_nan)
+}
+
 /// The line with one digit behind its key changed, or behind the columns of a
 /// span; a table without entries has none, and gets one.
 fn renumbered(line: &str, rng: &mut Random) -> String {
-    let is_digit = |at: &usize| line.as_bytes()[*at].is_ascii_digit();
+    let base = if key(line) == "metres_bits" { 16 } else { 10 };
+    let digit_at = |at: usize| char::from(line.as_bytes()[at]).to_digit(base);
+    let is_digit = |at: &usize| digit_at(*at).is_some() && !(base == 16 && is_of_nan(line, *at));
     let from = line.find(" looked ").unwrap_or(key(line).len());
     let digits: Vec<usize> = (from..line.len()).filter(is_digit).collect();
     if digits.is_empty() {
         return format!("{line} 0");
     }
     let at = rng.pick(&digits);
-    let other = (line.as_bytes()[at] - b'0' + 1 + rng.below(9) as u8) % 10;
+    let step = 1 + rng.below(base as usize - 1) as u32;
+    let other = digit_at(at).map_or(0, |digit| (digit + step) % base);
+    let other = char::from_digit(other, base).unwrap_or('0');
     format!("{}{other}{}", &line[..at], &line[at + 1..])
 }
 

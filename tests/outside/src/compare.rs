@@ -2,6 +2,7 @@
 
 use crate::call::{Call, Lent, Library};
 use crate::cuttings::Cuttings;
+use crate::forms;
 use crate::gate::{Gate, STRUCK};
 use crate::pairs::{parts, Pair};
 use crate::random::Random;
@@ -39,6 +40,8 @@ pub enum Difference {
     CuttingsPicture,
     CuttingsCounts,
     CuttingsUnlit,
+    /// F-7: two forms of one station.
+    Forms,
     /// `ringbill` printed something else.
     Bill,
 }
@@ -48,6 +51,8 @@ use Difference::*;
 pub struct Outcome {
     /// The answer that is due.
     pub number: u32,
+    /// The survey's answer and the gate's.
+    pub answers: [u32; 2],
     pub lent: Lent,
     pub differences: Vec<Difference>,
 }
@@ -93,6 +98,7 @@ pub fn check_due(library: &dyn Library, call: &Call, due: &Due, rng: &mut Random
     }
     Outcome {
         number,
+        answers: [answer, gate],
         lent,
         differences: found,
     }
@@ -149,6 +155,19 @@ pub fn check_cuttings(library: &dyn Library, pair: &Cuttings, rng: &mut Random) 
     let apart = cuttings_apart(&first.lent, &second.lent);
     second.differences.extend(apart);
     [first, second]
+}
+
+/// One call in all its forms: they are answered alike, and where accepted leave
+/// the same, patch table and counter too.
+pub fn check_forms(library: &dyn Library, calls: &forms::Forms, rng: &mut Random) -> [Outcome; 3] {
+    let mut outcomes = calls.each_ref().map(|call| check(library, call, rng));
+    let [first, others @ ..] = &mut outcomes;
+    for other in others {
+        let left = first.number == 0 && other.lent != first.lent;
+        let unlike = left || other.answers != first.answers;
+        note(&mut other.differences, unlike, Forms);
+    }
+    outcomes
 }
 
 /// The gate alone, for lengths that nobody can lend.

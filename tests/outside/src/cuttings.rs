@@ -4,6 +4,7 @@
 use crate::along::sighted;
 use crate::call::{Call, Lent, Library};
 use crate::compare::{cuttings_apart, Difference};
+use crate::forms::in_two_forms;
 use crate::gate::Gate;
 use crate::generate::Size;
 use crate::loose::Loose;
@@ -49,13 +50,15 @@ fn two_calls(rng: &mut Random, size: Size) -> Option<[Call; 2]> {
     let scenes = [planned(rng, &parts)?, planned(rng, &parts)?];
     let patches = rng.pick(&scenes).patches();
     let view = sighted(rng, &parts, &patches, size.work.min(WORK));
-    let calls = scenes.map(|scene| {
+    let mut calls = scenes.map(|scene| {
         let any = rng.next() as u32 / 2;
         Call {
             counter: rng.pick(&[0, u32::MAX - 1, any]),
             ..Call::new(scene.write(), view)
         }
     });
+    let [first, second] = &mut calls;
+    in_two_forms(rng, first, second);
     let gate = Gate::of_the_paper();
     let accepted = calls.iter().all(|call| gate.judge(call) == 0);
     accepted.then_some(calls)

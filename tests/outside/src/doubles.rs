@@ -24,9 +24,9 @@ pub fn halves(n: i64) -> Double {
 pub fn of_units(rng: &mut Random, n: i16) -> Double {
     let twice = 2 * i64::from(n);
     let base = match rng.below(8) {
+        0..=3 if n == 0 => near_zero(rng),
         0 | 1 => halves(twice),
         2..=5 => halves(twice + rng.pick(&[-1, 1])),
-        6 if n == 0 => near_zero(rng),
         _ => Double::of((twice as f64 + rng.between(-1_000, 1_000) as f64 / 1_000.0) / 400.0),
     };
     let reach = rng.pick(&[0, 1, 1, 3, 9]);
@@ -40,10 +40,10 @@ pub fn of_units(rng: &mut Random, n: i16) -> Double {
 
 /// Zeros, subnormals, and what is far from half a unit.
 fn near_zero(rng: &mut Random) -> Double {
-    let bits = match rng.below(4) {
-        0 => 0,
-        1 => rng.next() >> rng.between(12, 63),
-        2 => rng.pick(&[1, (1 << 52) - 1, 1 << 52]),
+    let bits = match rng.below(5) {
+        0 | 1 => 0,
+        2 => rng.next() >> rng.between(12, 63),
+        3 => rng.pick(&[1, (1 << 52) - 1, 1 << 52]),
         _ => rng.next() % halves(1).0,
     };
     Double(bits | rng.pick(&[0, SIGN]))

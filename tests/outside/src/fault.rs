@@ -9,6 +9,7 @@ use crate::gate::{Gate, STRUCK};
 use crate::generate::Size;
 use crate::random::Random;
 use crate::scene::Scene;
+use crate::station::Station;
 use crate::survey::{booked, Done};
 use crate::wrong_booking::{Book, Painted, BOOKS};
 use crate::wrong_buffers::{Spoil, Trace, SPOILS, TRACES};
@@ -18,6 +19,7 @@ use crate::wrong_gate::{WRONG, WRONG_STRUCK};
 use crate::wrong_joints::JOINTS;
 use crate::wrong_lengths::{LENGTHS, SHORT_LENGTHS};
 use crate::wrong_paint::{painted, Look, LOOKS};
+use crate::wrong_station::{Turn, RANGES, ROUNDINGS, WRONG_STATIONS};
 
 pub struct Faulty {
     pub name: String,
@@ -30,6 +32,10 @@ pub struct Faulty {
     write: Write,
     spoil: Spoil,
     trace: Trace,
+    /// Other ways to units, of the survey and of the gate.
+    turns: [Option<Turn>; 2],
+    /// Is question 15 put before all others?
+    early: bool,
     /// Does a row that holds 128 stretches give 13, a number that is struck and
     /// never an answer?
     struck: bool,
@@ -47,7 +53,9 @@ impl Faulty {
             book: |painted| booked(painted.holders, painted.patches.len()),
             write: |_, done| done,
             spoil: |_, _, _| (),
-            trace: |_| (),
+            trace: |_, _| (),
+            turns: [None; 2],
+            early: false,
             struck: false,
         }
     }
@@ -64,6 +72,7 @@ impl Faulty {
         let mut all = Faulty::painters();
         all.extend(Faulty::writers());
         all.extend(Faulty::gates());
+        all.extend(Faulty::stations());
         all
     }
 
@@ -106,7 +115,8 @@ impl Faulty {
 
     fn gates() -> Vec<Faulty> {
         let both = [Difference::Gate, Difference::Answer];
-        let wrong = WRONG.iter().chain(LENGTHS).map(|&(name, wrong)| Faulty {
+        let wrong = WRONG.iter().chain(LENGTHS).chain(WRONG_STATIONS);
+        let wrong = wrong.map(|&(name, wrong)| Faulty {
             gate: wrong(),
             survey_gate: wrong(),
             ..Faulty::named(name, &both)
@@ -121,6 +131,35 @@ impl Faulty {
             ..Faulty::named(name, &[Difference::Gate])
         });
         wrong.chain(struck).chain(short).collect()
+    }
+
+    /// Stations in metres taken for others, refused or let pass.
+    fn stations() -> Vec<Faulty> {
+        let turned = |name: &str, turns, shows: &[Difference]| Faulty {
+            turns,
+            ..Faulty::named(name, shows)
+        };
+        let [picture, forms] = [Difference::Picture, Difference::Forms];
+        let [answer, gate] = [Difference::Answer, Difference::Gate];
+        let roundings = ROUNDINGS.iter();
+        let roundings =
+            roundings.map(|&(name, turn)| turned(name, [Some(turn); 2], &[picture, forms]));
+        let ranges = RANGES.iter().flat_map(|&(name, turn)| {
+            [
+                turned(name, [Some(turn); 2], &[answer, gate]),
+                turned(
+                    &format!("{name}, by the survey"),
+                    [Some(turn), None],
+                    &[answer],
+                ),
+                turned(&format!("{name}, by the gate"), [None, Some(turn)], &[gate]),
+            ]
+        });
+        let early = Faulty {
+            early: true,
+            ..Faulty::named("15 before all", &[answer, gate])
+        };
+        roundings.chain(ranges).chain([early]).collect()
     }
 
     /// The case of a run by which this fault has shown as it must, if any.
@@ -153,13 +192,41 @@ impl Faulty {
         })
     }
 
-    /// A wrong gate shows only where it judges otherwise; the comparison is
-    /// spared the rest.
+    /// A wrong gate shows only where it judges otherwise, and another way to units
+    /// where it leads elsewhere; the comparison is spared the rest.
     fn can_show(&self, made: &Case) -> bool {
         let right = Gate::of_the_paper();
-        let otherwise = |call: &&Call| self.gate.judge(call) != right.judge(call);
-        !self.shows.contains(&Difference::Gate) || made.calls().iter().any(otherwise)
+        let leads_elsewhere = |call: &Call| {
+            let own = self
+                .turns
+                .map(|turn| taken(turn, call).view.station.whole());
+            own != [call.view.station.whole(); 2]
+        };
+        let judges_otherwise = |call: &Call| Library::gate(self, call) != right.judge(call);
+        let is_turned = self.turns.iter().any(Option::is_some);
+        let is_gate = self.shows.contains(&Difference::Gate);
+        made.calls().into_iter().any(|call| match is_turned {
+            true => leads_elsewhere(call),
+            false => !is_gate || judges_otherwise(call),
+        })
     }
+
+    fn judge(&self, gate: &Gate, call: &Call) -> u32 {
+        match self.early && call.view.station.whole().is_none() {
+            true => 15,
+            false => gate.judge(call),
+        }
+    }
+}
+
+/// The call with its station as the library takes it.
+fn taken(turn: Option<Turn>, call: &Call) -> Call {
+    let mut own = call.clone();
+    if let (Some(turn), Station::Metres(doubles)) = (turn, call.view.station) {
+        let refused = Station::metres([f64::NAN; 3]);
+        own.view.station = turn(doubles).map_or(refused, Station::Units);
+    }
+    own
 }
 
 impl Faulty {
@@ -184,16 +251,17 @@ impl Faulty {
 
 impl Library for Faulty {
     fn survey(&self, call: &Call, lent: &mut Lent) -> u32 {
-        let number = self.survey_gate.judge(call);
+        let own = taken(self.turns[0], call);
+        let number = self.judge(&self.survey_gate, &own);
         if number != 0 {
-            (self.trace)(lent);
+            (self.trace)(number, lent);
             return number;
         }
         // What a wrong gate let in cannot always be painted.
         if Gate::of_the_paper().judge(call) != 0 {
             return 0;
         }
-        let done = self.painted(call);
+        let done = self.painted(&own);
         let is_full = |row: &[u16]| row[255] > 0;
         if self.struck && done.unlit.chunks(256).any(is_full) {
             return STRUCK;
@@ -206,6 +274,6 @@ impl Library for Faulty {
     }
 
     fn gate(&self, call: &Call) -> u32 {
-        self.gate.judge(call)
+        self.judge(&self.gate, &taken(self.turns[1], call))
     }
 }

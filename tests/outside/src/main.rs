@@ -180,6 +180,12 @@ fn tell(tally: &Tally) {
     for (times, name) in tally.pieces.told() {
         println!("{times:8} views show {name}");
     }
+    for (times, name) in tally.stations.told() {
+        println!("{times:8} {name}");
+    }
+    for (answer, times) in &tally.stations.answers {
+        println!("{times:8} calls in metres answered {answer}");
+    }
     for (times, name) in tally.cuttings.told() {
         println!("{times:8} two cuttings {name}");
     }
@@ -187,6 +193,13 @@ fn tell(tally: &Tally) {
     for (difference, times) in &tally.differences {
         println!("{times:8} differences: {difference:?}");
     }
+}
+
+/// The answers that no call in metres got, in a run that is long enough.
+fn unasked_in_metres(tally: &Tally, cases: u64) -> Vec<u32> {
+    let mut all = Gate::of_the_paper().numbers();
+    all.retain(|answer| cases >= 2_000 && !tally.stations.answers.contains_key(answer));
+    all
 }
 
 fn report(options: &Options, tally: &Tally) -> i32 {
@@ -197,9 +210,10 @@ fn report(options: &Options, tally: &Tally) -> i32 {
     silent.retain(|answer| !tally.answers.contains_key(answer));
     let unseen = tally.never_shown();
     let others = tally.cases - tally.cuttings.pairs;
-    let thin = others >= 500 && !(silent.is_empty() && unseen.is_empty());
+    let unasked = unasked_in_metres(tally, others);
+    let thin = others >= 500 && !(silent.is_empty() && unseen.is_empty() && unasked.is_empty());
     if thin {
-        println!("never answered: {silent:?}, never shown: {unseen:?}");
+        println!("never answered: {silent:?}, in metres: {unasked:?}, never shown: {unseen:?}");
     }
     let bites = !tally.cuttings.is_thin();
     if !bites {

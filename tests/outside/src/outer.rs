@@ -1,7 +1,9 @@
-//! Damage to the call around the scene, aimed at questions 10 to 12 and 14.
+//! Damage to the call around the scene, aimed at questions 10 to 12, 14 and
+//! 15.
 
 use crate::axes::{Axes, LEVEL};
 use crate::call::{Call, View, COUNTS, ROW};
+use crate::far::{any_bits, double_out, doubles_and_another, ends_of_doubles};
 use crate::mount;
 use crate::random::Random;
 use crate::scene::{pair_at, HEADER, SIZES};
@@ -10,6 +12,9 @@ use crate::station::Station::Units;
 pub type CallHarm = fn(&mut Call, &mut Random);
 
 pub const CALL: &[(u32, CallHarm)] = &[
+    (15, double_out),
+    (15, double_out),
+    (15, any_bits),
     (10, eye_out),
     (10, window_out),
     (14, part_out),
@@ -131,7 +136,7 @@ fn counter_full(call: &mut Call, rng: &mut Random) {
     call.counter = rng.pick(&[u32::MAX, u32::MAX, u32::MAX - 1, 0]);
 }
 
-/// Every end of questions 10 to 12 and 14, just inside and just outside, and
+/// Every end of questions 10 to 12, 14 and 15, just inside and just outside, and
 /// two questions at once.
 pub fn ends(call: &Call) -> Vec<Call> {
     let changed = |change: &dyn Fn(&mut Call)| changed(call, change);
@@ -166,6 +171,8 @@ pub fn ends(call: &Call) -> Vec<Call> {
     all.extend(ends_of_axes().map(|axes| changed(&|c| c.view.axes = axes)));
     all.extend(axes_and_another(call));
     all.extend(lengths_of_the_table(call));
+    all.extend(ends_of_doubles(call));
+    all.extend(doubles_and_another(call));
     all
 }
 

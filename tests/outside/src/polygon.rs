@@ -87,6 +87,18 @@ pub fn in_box(rng: &mut Random, low: [i64; 3], high: [i64; 3]) -> Option<Vec<Poi
     dressed(rng, corners)
 }
 
+/// Few hulls have as many corners by chance.
+const EIGHT: [[i64; 2]; 8] = [
+    [1, 0],
+    [2, 0],
+    [3, 1],
+    [3, 2],
+    [2, 3],
+    [1, 3],
+    [0, 2],
+    [0, 1],
+];
+
 /// A plane's lattice: origin + s · u + t · v.
 #[derive(Clone, Copy, Debug, PartialEq, Eq)]
 pub struct Basis {
@@ -135,8 +147,14 @@ impl Basis {
             return None;
         }
         let wanted = 3 + rng.below(10);
-        let spots = (0..wanted).map(|_| self.at(rng.between(0, grid), rng.between(0, grid)));
-        let points: Option<Vec<Point>> = spots.map(point).collect();
+        let spots: Vec<[i64; 2]> = match grid > 2 && rng.once_in(8) {
+            true => EIGHT.to_vec(),
+            false => (0..wanted)
+                .map(|_| [0; 2].map(|_| rng.between(0, grid)))
+                .collect(),
+        };
+        let places = spots.into_iter().map(|[s, t]| point(self.at(s, t)));
+        let points: Option<Vec<Point>> = places.collect();
         let corners = hull(points?, self.normal());
         dressed(rng, corners)
     }

@@ -12,6 +12,7 @@ pub const STORED: &[(u32, SceneHarm)] = &[
     (4, points_in_line),
     (5, child_wrong),
     (5, child_of_another),
+    (5, child_lost),
     (6, patch_run_wrong),
     (6, corner_run_wrong),
     (6, empty_run_elsewhere),
@@ -82,6 +83,19 @@ fn child_of_another(scene: &mut Scene, rng: &mut Random) {
     match (rng.once_in(2), node.positive == NONE) {
         (true, _) | (_, true) => node.positive = child as u16,
         _ => node.negative = child as u16,
+    }
+}
+
+/// A node that no other names any more.
+fn child_lost(scene: &mut Scene, rng: &mut Random) {
+    let children = scene
+        .nodes
+        .iter_mut()
+        .flat_map(|node| [&mut node.positive, &mut node.negative]);
+    let mut named: Vec<&mut u16> = children.filter(|child| **child != NONE).collect();
+    if !named.is_empty() {
+        let at = rng.below(named.len());
+        *named[at] = NONE;
     }
 }
 

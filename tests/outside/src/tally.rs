@@ -9,6 +9,7 @@ use crate::compare::{Difference, Outcome};
 use crate::cuttings::Cuttings;
 use crate::ray::Sight;
 use crate::scene::Scene;
+use crate::station_tally::{two_forms, StationTally, TWO_FORMS};
 
 #[derive(Default)]
 pub struct Tally {
@@ -21,6 +22,7 @@ pub struct Tally {
     pub turned: Shown,
     pub pieces: Pieces,
     pub cuttings: CuttingsTally,
+    pub stations: StationTally,
     pub differences: BTreeMap<Difference, u64>,
     pub failed: u64,
 }
@@ -63,11 +65,15 @@ pub struct CuttingsTally {
     pub plain: u64,
     /// Of these last, those of a level view.
     pub plain_level: u64,
+    /// How many have their station in two forms, and how many in metres by other
+    /// doubles.
+    pub forms: [u64; 2],
 }
 
 impl Tally {
     pub fn answer(&mut self, outcome: &Outcome, call: &Call) {
         *self.answers.entry(outcome.number).or_default() += 1;
+        self.stations.add(call, outcome.number);
         if outcome.number == 0 {
             let shown = match call.view.axes == LEVEL {
                 true => &mut self.level,
@@ -93,7 +99,11 @@ impl Tally {
             let ways = shown.beside.told().into_iter();
             ways.map(move |(times, _, name)| (times, format!("{view}, cells {name}")))
         });
-        let never = pieces.chain(beside).filter(|(times, _)| *times == 0);
+        let stations = self.stations.told();
+        let never = pieces
+            .chain(beside)
+            .chain(stations)
+            .filter(|(times, _)| *times == 0);
         never.map(|(_, name)| name).collect()
     }
 
@@ -115,10 +125,13 @@ impl CuttingsTally {
         let differ = plain.picture != beyond.picture;
         self.plain += u64::from(differ);
         self.plain_level += u64::from(differ && pair.first.view.axes == LEVEL);
+        for (own, new) in self.forms.iter_mut().zip(two_forms(pair.calls())) {
+            *own += new;
+        }
     }
 
     /// Each number with its name.
-    pub fn told(&self) -> [(u64, &'static str); 5] {
+    pub fn told(&self) -> [(u64, &'static str); 7] {
         [
             (self.patches, "have lists of patches of two lengths"),
             (
@@ -128,6 +141,8 @@ impl CuttingsTally {
             (self.lit, "show a panel"),
             (self.plain, "would differ by the sight lines themselves"),
             (self.plain_level, "would do so in a level view"),
+            (self.forms[0], TWO_FORMS[0]),
+            (self.forms[1], TWO_FORMS[1]),
         ]
     }
 

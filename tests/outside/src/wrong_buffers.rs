@@ -116,39 +116,84 @@ fn keep_unseen(before: &[u32], lent: &mut [u32]) {
     }
 }
 
-/// What a refusal leaves behind.
-pub type Trace = fn(&mut Lent);
+/// What a refusal leaves behind, by its number.
+pub type Trace = fn(u32, &mut Lent);
 
 pub const TRACES: &[(&str, Difference, Trace)] = &[
-    ("picture cleared", Difference::TouchedPicture, |lent| {
+    ("picture cleared", Difference::TouchedPicture, |_, lent| {
         lent.picture.fill(0)
     }),
-    ("counts cleared", Difference::TouchedCounts, |lent| {
+    ("counts cleared", Difference::TouchedCounts, |_, lent| {
         lent.counts.fill(0)
     }),
     (
         "patch table cleared",
         Difference::TouchedPatchCounts,
-        |lent| lent.patch_counts.fill(0),
+        |_, lent| lent.patch_counts.fill(0),
     ),
     (
         "one patch's entry touched",
         Difference::TouchedPatchCounts,
-        |lent| {
+        |_, lent| {
             if let Some(entry) = lent.patch_counts.last_mut() {
                 *entry = entry.wrapping_add(1);
             }
         },
     ),
-    ("stretches cleared", Difference::TouchedUnlit, |lent| {
+    ("stretches cleared", Difference::TouchedUnlit, |_, lent| {
         lent.unlit.fill(0)
     }),
-    ("counter raised", Difference::TouchedCounter, |lent| {
+    ("counter raised", Difference::TouchedCounter, |_, lent| {
         lent.counter = lent.counter.wrapping_add(1)
     }),
-    ("one cell touched", Difference::TouchedPicture, |lent| {
+    ("one cell touched", Difference::TouchedPicture, |_, lent| {
         if let Some(cell) = lent.picture.last_mut() {
             *cell = cell.wrapping_add(1);
         }
     }),
+    (
+        "15 clears the picture",
+        Difference::TouchedPicture,
+        |number, lent| {
+            if number == 15 {
+                lent.picture.fill(0)
+            }
+        },
+    ),
+    (
+        "15 clears the counts",
+        Difference::TouchedCounts,
+        |number, lent| {
+            if number == 15 {
+                lent.counts.fill(0)
+            }
+        },
+    ),
+    (
+        "15 clears the patch table",
+        Difference::TouchedPatchCounts,
+        |number, lent| {
+            if number == 15 {
+                lent.patch_counts.fill(0)
+            }
+        },
+    ),
+    (
+        "15 clears the stretches",
+        Difference::TouchedUnlit,
+        |number, lent| {
+            if number == 15 {
+                lent.unlit.fill(0)
+            }
+        },
+    ),
+    (
+        "15 raises the counter",
+        Difference::TouchedCounter,
+        |number, lent| {
+            if number == 15 {
+                lent.counter = lent.counter.wrapping_add(1)
+            }
+        },
+    ),
 ];

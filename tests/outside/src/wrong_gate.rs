@@ -1,5 +1,6 @@
 //! Gates that are right but for one thing; the cases must find each. Those
-//! with another question 11 are in `wrong_lengths`.
+//! with another question 11 are in `wrong_lengths`, with another question 15 in
+//! `wrong_station`.
 
 use crate::gate::*;
 use crate::scene::u16_at;
@@ -172,7 +173,7 @@ pub const WRONG: &[WrongGate] = &[
     ("6 after 7", || swapped(6)),
     ("7 after 8", || swapped(7)),
     ("8 after 9", || swapped(8)),
-    ("9 after 10", || swapped(9)),
+    ("9 after 15", || swapped(9)),
     ("10 after 14", || swapped(10)),
     ("14 after 11", || swapped(14)),
     ("11 after 12", || swapped(11)),
@@ -217,7 +218,7 @@ pub fn asked(number: u32, question: Question) -> Gate {
     gate
 }
 
-fn without(number: u32) -> Gate {
+pub fn without(number: u32) -> Gate {
     asked(number, |_, _| true)
 }
 
@@ -229,7 +230,7 @@ pub fn place(gate: &Gate, number: u32) -> usize {
 }
 
 /// The question changes places with the next.
-fn swapped(number: u32) -> Gate {
+pub fn swapped(number: u32) -> Gate {
     let mut gate = Gate::of_the_paper();
     let at = place(&gate, number);
     gate.questions.swap(at, at + 1);
@@ -237,7 +238,7 @@ fn swapped(number: u32) -> Gate {
 }
 
 /// The question is asked in the place of another.
-fn moved(number: u32, other: u32) -> Gate {
+pub fn moved(number: u32, other: u32) -> Gate {
     let mut gate = Gate::of_the_paper();
     let (from, to) = (place(&gate, number), place(&gate, other));
     let question = gate.questions.remove(from);
