@@ -65,7 +65,7 @@ impl Call {
     }
 
     /// What `ringbill` reads: eye, width, height, lens, then the scene. Its
-    /// view is level, whatever this one is.
+    /// view is level, whatever this one is, and its eye in units.
     pub fn standard_input(&self) -> Vec<u8> {
         let view = &self.view;
         let mut bytes = Vec::new();

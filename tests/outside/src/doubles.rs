@@ -22,9 +22,11 @@ pub fn halves(n: i64) -> Double {
 
 /// A double whose whole number is n.
 pub fn of_units(rng: &mut Random, n: i16) -> Double {
+    if n == 0 && rng.once_in(2) {
+        return near_zero(rng);
+    }
     let twice = 2 * i64::from(n);
     let base = match rng.below(8) {
-        0..=3 if n == 0 => near_zero(rng),
         0 | 1 => halves(twice),
         2..=5 => halves(twice + rng.pick(&[-1, 1])),
         _ => Double::of((twice as f64 + rng.between(-1_000, 1_000) as f64 / 1_000.0) / 400.0),
@@ -38,7 +40,7 @@ pub fn of_units(rng: &mut Random, n: i16) -> Double {
     }
 }
 
-/// Zeros, subnormals, and what is far from half a unit.
+/// Zeros, subnormals, and what is below half a unit.
 fn near_zero(rng: &mut Random) -> Double {
     let bits = match rng.below(5) {
         0 | 1 => 0,

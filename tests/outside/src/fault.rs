@@ -11,34 +11,30 @@ use crate::random::Random;
 use crate::scene::Scene;
 use crate::station::Station;
 use crate::survey::{booked, Done};
-use crate::wrong_booking::{Book, Painted, BOOKS};
-use crate::wrong_buffers::{Spoil, Trace, SPOILS, TRACES};
-use crate::wrong_camera::CAMERAS;
-use crate::wrong_cuttings::{Write, CUT_LOOKS, WRITES};
-use crate::wrong_gate::{WRONG, WRONG_STRUCK};
-use crate::wrong_joints::JOINTS;
-use crate::wrong_lengths::{LENGTHS, SHORT_LENGTHS};
-use crate::wrong_paint::{painted, Look, LOOKS};
-use crate::wrong_station::{Turn, RANGES, ROUNDINGS, WRONG_STATIONS};
+use crate::wrong_booking::{Book, Painted};
+use crate::wrong_buffers::{Spoil, Trace};
+use crate::wrong_cuttings::Write;
+use crate::wrong_paint::{painted, Look};
+use crate::wrong_station::Turn;
 
 pub struct Faulty {
     pub name: String,
     /// The differences that must show.
     pub shows: Vec<Difference>,
-    gate: Gate,
-    survey_gate: Gate,
-    look: Look,
-    book: Book,
-    write: Write,
-    spoil: Spoil,
-    trace: Trace,
+    pub(crate) gate: Gate,
+    pub(crate) survey_gate: Gate,
+    pub(crate) look: Look,
+    pub(crate) book: Book,
+    pub(crate) write: Write,
+    pub(crate) spoil: Spoil,
+    pub(crate) trace: Trace,
     /// Other ways to units, of the survey and of the gate.
-    turns: [Option<Turn>; 2],
+    pub(crate) turns: [Option<Turn>; 2],
     /// Is question 15 put before all others?
-    early: bool,
+    pub(crate) early: bool,
     /// Does a row that holds 128 stretches give 13, a number that is struck and
     /// never an answer?
-    struck: bool,
+    pub(crate) struck: bool,
 }
 
 impl Faulty {
@@ -60,106 +56,12 @@ impl Faulty {
         }
     }
 
-    fn named(name: &str, shows: &[Difference]) -> Faulty {
+    pub(crate) fn named(name: &str, shows: &[Difference]) -> Faulty {
         Faulty {
             name: name.to_string(),
             shows: shows.to_vec(),
             ..Faulty::none()
         }
-    }
-
-    pub fn all() -> Vec<Faulty> {
-        let mut all = Faulty::painters();
-        all.extend(Faulty::writers());
-        all.extend(Faulty::gates());
-        all.extend(Faulty::stations());
-        all
-    }
-
-    /// Wrong pictures, and right ones that are booked wrongly.
-    fn painters() -> Vec<Faulty> {
-        let looks = LOOKS.iter().chain(CAMERAS).chain(JOINTS).chain(CUT_LOOKS);
-        let looks = looks.map(|&(name, look)| Faulty {
-            look,
-            ..Faulty::named(name, &[Difference::Picture])
-        });
-        let books = BOOKS.iter().map(|&(name, shows, book)| Faulty {
-            book,
-            ..Faulty::named(name, shows)
-        });
-        let writes = WRITES.iter().map(|&(name, shows, write)| Faulty {
-            write,
-            ..Faulty::named(name, shows)
-        });
-        looks.chain(books).chain(writes).collect()
-    }
-
-    fn writers() -> Vec<Faulty> {
-        let spoils = SPOILS.iter().map(|&(name, shows, spoil)| Faulty {
-            spoil,
-            ..Faulty::named(name, &[shows])
-        });
-        let traces = TRACES.iter().map(|&(name, shows, trace)| Faulty {
-            trace,
-            ..Faulty::named(name, &[shows])
-        });
-        let full = Faulty {
-            struck: true,
-            ..Faulty::named(
-                "13 at 128 stretches, though it is struck",
-                &[Difference::Answer, Difference::Struck],
-            )
-        };
-        spoils.chain(traces).chain([full]).collect()
-    }
-
-    fn gates() -> Vec<Faulty> {
-        let both = [Difference::Gate, Difference::Answer];
-        let wrong = WRONG.iter().chain(LENGTHS).chain(WRONG_STATIONS);
-        let wrong = wrong.map(|&(name, wrong)| Faulty {
-            gate: wrong(),
-            survey_gate: wrong(),
-            ..Faulty::named(name, &both)
-        });
-        let struck = WRONG_STRUCK.iter().map(|&(name, wrong)| Faulty {
-            gate: wrong(),
-            survey_gate: wrong(),
-            ..Faulty::named(name, &[both[0], both[1], Difference::Struck])
-        });
-        let short = SHORT_LENGTHS.iter().map(|&(name, wrong)| Faulty {
-            gate: wrong(),
-            ..Faulty::named(name, &[Difference::Gate])
-        });
-        wrong.chain(struck).chain(short).collect()
-    }
-
-    /// Stations in metres taken for others, refused or let pass.
-    fn stations() -> Vec<Faulty> {
-        let turned = |name: &str, turns, shows: &[Difference]| Faulty {
-            turns,
-            ..Faulty::named(name, shows)
-        };
-        let [picture, forms] = [Difference::Picture, Difference::Forms];
-        let [answer, gate] = [Difference::Answer, Difference::Gate];
-        let roundings = ROUNDINGS.iter();
-        let roundings =
-            roundings.map(|&(name, turn)| turned(name, [Some(turn); 2], &[picture, forms]));
-        let ranges = RANGES.iter().flat_map(|&(name, turn)| {
-            [
-                turned(name, [Some(turn); 2], &[answer, gate]),
-                turned(
-                    &format!("{name}, by the survey"),
-                    [Some(turn), None],
-                    &[answer],
-                ),
-                turned(&format!("{name}, by the gate"), [None, Some(turn)], &[gate]),
-            ]
-        });
-        let early = Faulty {
-            early: true,
-            ..Faulty::named("15 before all", &[answer, gate])
-        };
-        roundings.chain(ranges).chain([early]).collect()
     }
 
     /// The case of a run by which this fault has shown as it must, if any.

@@ -58,7 +58,8 @@ pub fn in_two_forms(rng: &mut Random, first: &mut Call, second: &mut Call) {
 pub fn gauged(rng: &mut Random) -> Call {
     let mut part = || match rng.below(8) {
         0..=3 => next_to_halfway(rng.between(0, 399) as i16) * rng.pick(&[-1, 1]),
-        4 => rng.pick(&[0, 0, 1, -1, 9_999, 10_000, -10_000]),
+        4 => 0,
+        5 => rng.pick(&[0, 1, -1, 9_999, 10_000, -10_000]),
         _ => rng.between(-10_000, 10_000) as i16,
     };
     let eye: Point = [part(), part(), part()];

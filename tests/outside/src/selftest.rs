@@ -28,6 +28,7 @@ use outside::rings::covered;
 use outside::row_check::rows_hold;
 use outside::row_fault::Laying;
 use outside::row_programs::{written_for_laid, written_for_worst};
+use outside::station_check::stations_find_all;
 use outside::stations::stations;
 use outside::steps::steps_agree;
 use outside::survey::is_read_otherwise;
@@ -74,10 +75,12 @@ fn failing() -> usize {
     }
     failed += doubles_hold(SEED, 20_000);
     failed += hold_model();
-    failed += alterations_show().unwrap_or_else(|why| {
-        println!("FAILS {why}");
-        1
-    });
+    for checked in [alterations_show(), stations_find_all()] {
+        failed += checked.unwrap_or_else(|why| {
+            println!("FAILS {why}");
+            1
+        });
+    }
     failed += cuttings(1_000);
     // The sequences of spans that tests/outside.sh puts to the programs.
     failed += rows_hold(1, 600);
