@@ -1,21 +1,24 @@
 //! An outside check of the lining survey, in exact whole numbers.
 //!
-//! The model: `vector`, `axes`, `scene`, `gate`, `ray`, `survey`, `bill`,
-//! `stations`; beside it `walk`; and of one row `row`, `worst`.
+//! The model: `vector`, `axes`, `double`, `station`, `scene`, `gate`, `ray`,
+//! `survey`, `bill`, `stations`; beside it `walk`; and of one row `row`, `worst`.
 //! The cases: `random`, `polygon`, `soup`, `works`, `hinge`, `tree`, `loose`,
-//! `mount`, `view`, `generate`, `damage`, `stored`, `header`, `outer`, `pairs`;
-//! of two cuttings `cut`, `panels`, `planner`, `along`, `cuttings`, and `cover`.
+//! `mount`, `view`, `generate`, `harmed`, `damage`, `stored`, `header`, `outer`,
+//! `pairs`; of two cuttings `cut`, `panels`, `planner`, `along`, `cuttings`, and
+//! `cover`; of stations in metres `doubles`, `gauge`, `forms`, `far`.
 //! Cases with what is due known beforehand: `trial`, `turned`, `booking`,
-//! `joints`, `stretches`, `rings`, and from files `block`, `keys`, `cases`.
+//! `joints`, `stretches`, `rings`, `metres`, `metres_order`, and from files
+//! `block`, `keys`, `cases`.
 //! Rows by two programs: `program`, `row_programs`, `row_cases`, `row_stations`,
 //! `row_trials`, `row_spans`, `row_tally`, `row_compare`, and what shows that
 //! these can fail: `row_check`, `row_fault`, `wrong_looks`, `wrong_rows`,
 //! `wrong_makers`.
-//! The comparison: `compare`, `differential`, `tally`, `beside`; and what shows
-//! that it can fail: `fault`, `wrong_gate`, `wrong_lengths`, `wrong_questions`,
-//! `wrong_paint`, `wrong_joints`, `wrong_camera`, `wrong_booking`,
-//! `wrong_cuttings`, `wrong_buffers`, `altered`; and the model against itself:
-//! `consistency`, `steps`, `cuttings_check`.
+//! The comparison: `compare`, `differential`, `tally`, `station_tally`, `beside`;
+//! and what shows that it can fail: `fault`, `faults`, `wrong_gate`,
+//! `wrong_lengths`, `wrong_questions`, `wrong_station`, `wrong_paint`,
+//! `wrong_joints`, `wrong_camera`, `wrong_booking`, `wrong_cuttings`,
+//! `wrong_buffers`, `station_check`, `altered`; and the model against itself:
+//! `consistency`, `steps`, `cuttings_check`, `double_check`.
 
 pub mod along;
 pub mod altered;

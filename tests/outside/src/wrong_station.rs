@@ -24,6 +24,9 @@ pub const ROUNDINGS: &[(&str, Turn)] = &[
     ("half added, and what is behind the point dropped", |d| {
         by_value(d, |x| (x * 200.0 + 0.5).trunc())
     }),
+    ("half added, and the whole number below", |d| {
+        by_value(d, |x| (x * 200.0 + 0.5).floor())
+    }),
     ("what is behind the point dropped", |d| {
         by_value(d, |x| (x * 200.0).trunc())
     }),

@@ -46,13 +46,16 @@ must() {
 cases=300 bill=
 must silent 1 '' Answer Gate Picture Counts PatchCounts Unlit Counter \
     PanelSums FirstShowsClosest EqualWhenNoneCounted DifferWhereChosen \
-    SecondShowsKept CuttingsPicture CuttingsCounts CuttingsUnlit
+    SecondShowsKept CuttingsPicture CuttingsCounts CuttingsUnlit Forms
 must scribe 1 '' Answer Gate TouchedPicture TouchedCounts TouchedPatchCounts \
     TouchedUnlit TouchedCounter TouchedScene
 must struck 1 '' Answer Gate Struck
 must blank 1 '' Answer Gate Picture Counts PatchCounts Unlit TouchedPicture \
     TouchedCounts TouchedPatchCounts TouchedUnlit TouchedCounter \
     FirstShowsClosest
+# Blank in both forms alike; in one alone only a call by its own name shows.
+grep -q ' differences: Forms$' "$work/report" && { echo 'blank: Forms seen'; exit 1; }
+must deaf 1 '' Answer Gate Picture Forms
 bill="--ringbill $work/ringbill"
 must blank 1 '' Bill
 cases=40 bill=

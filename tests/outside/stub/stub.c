@@ -5,8 +5,9 @@
  *   struck  refuses with 13, a number that no call answers any more;
  *   blank   says "done" with a blank picture, rightly counted;
  *   beyond  as blank, and reads and writes one place outside its buffers;
- *   booker  as blank, and books one patch more than the table has.
- * It looks at no station, so both forms of one are answered alike. */
+ *   booker  as blank, and books one patch more than the table has;
+ *   deaf    as blank in units, and refuses all that is in metres with 15.
+ * It looks at no station: but for the last both forms are answered alike. */
 #include <stddef.h>
 #include <stdint.h>
 #include <stdlib.h>
@@ -86,7 +87,7 @@ static uint32_t gated(void)
 }
 
 /* A survey and a gate, with stations of one form. */
-#define CALLS(SURVEY, GATE, PART)                                              \
+#define CALLS(SURVEY, GATE, PART, IN_METRES)                                   \
     uint32_t SURVEY(const uint8_t *scene, size_t scene_len,                    \
                     PART eye_x, PART eye_y, PART eye_z,                        \
                     int16_t right_x, int16_t right_y, int16_t right_z,         \
@@ -105,6 +106,8 @@ static uint32_t gated(void)
         (void)right_x, (void)right_y, (void)right_z;                           \
         (void)forward_x, (void)forward_y, (void)forward_z;                     \
         (void)up_x, (void)up_y, (void)up_z;                                    \
+        if (IN_METRES && fault_is("deaf"))                                     \
+            return 15;                                                         \
         return surveyed(scene, scene_len, width, height, lent);                \
     }                                                                          \
     uint32_t GATE(const uint8_t *scene, size_t scene_len,                      \
@@ -123,8 +126,8 @@ static uint32_t gated(void)
         (void)width, (void)height, (void)lens, (void)picture_len;              \
         (void)counts_len, (void)patch_counts_len, (void)unlit_len;             \
         (void)counter;                                                         \
-        return gated();                                                        \
+        return IN_METRES && fault_is("deaf") ? 15 : gated();                   \
     }
 
-CALLS(ring_survey, ring_gate, int16_t)
-CALLS(ring_survey_metres, ring_gate_metres, double)
+CALLS(ring_survey, ring_gate, int16_t, 0)
+CALLS(ring_survey_metres, ring_gate_metres, double, 1)
