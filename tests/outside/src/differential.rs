@@ -135,6 +135,12 @@ fn of_all<const N: usize>(outcomes: [Outcome; N]) -> Vec<Difference> {
     all
 }
 
+fn answered(outcomes: &[Outcome], case: &Case, tally: &mut Tally) {
+    for (outcome, call) in outcomes.iter().zip(case.calls()) {
+        tally.answer(outcome, call);
+    }
+}
+
 /// Puts one case to the library; gives what differs.
 pub fn put(
     library: &dyn Library,
@@ -162,40 +168,42 @@ fn differing(
         Case::Scene(_, call) | Case::Damaged(_, call) | Case::Ends(call) => {
             let outcome = check(library, call, noise);
             tally.answer(&outcome, call);
-            if let Case::Scene(kind, _) = case {
-                assert_eq!(outcome.number, 0, "a made scene is legal: {kind:?}");
-            }
+            let legal = outcome.number == 0 || !matches!(case, Case::Scene(..));
+            assert!(legal, "a made scene is legal: {}", case.name());
             outcome.differences
         }
         Case::Forms(calls) => {
             let outcomes = check_forms(library, calls, noise);
-            for (outcome, call) in outcomes.iter().zip(calls.iter()) {
-                tally.answer(outcome, call);
-            }
+            answered(&outcomes, case, tally);
             of_all(outcomes)
         }
         Case::Lengths(call) => {
             let (number, differences) = check_gate(library, call);
-            *tally.answers.entry(number).or_default() += 1;
-            tally.stations.add(call, number);
+            tally.number(number, call);
             differences
         }
         Case::Two(kind, pair) => {
             let outcomes = check_pair(library, pair, noise);
-            for (outcome, call) in outcomes.iter().zip(case.calls()) {
-                assert_eq!(outcome.number, 0, "a made pair is legal: {kind:?}");
-                tally.answer(outcome, call);
-            }
+            let legal = outcomes.iter().all(|outcome| outcome.number == 0);
+            assert!(legal, "a made pair is legal: {kind:?}");
+            answered(&outcomes, case, tally);
             tally.stations.add_pair([&pair.first, &pair.second]);
             of_all(outcomes)
         }
-        Case::Cuttings(pair) => {
-            let outcomes = check_cuttings(library, pair, noise);
-            let [one, other] = pair.patches();
-            assert!(same_cover(&one, &other), "a made pair covers the same");
-            let lent = [&outcomes[0].lent, &outcomes[1].lent];
-            tally.cuttings.add(pair, lent);
-            of_all(outcomes)
-        }
+        Case::Cuttings(pair) => of_cuttings(library, pair, noise, tally),
     }
+}
+
+fn of_cuttings(
+    library: &dyn Library,
+    pair: &Cuttings,
+    noise: &mut Random,
+    tally: &mut Tally,
+) -> Vec<Difference> {
+    let outcomes = check_cuttings(library, pair, noise);
+    let [one, other] = pair.patches();
+    assert!(same_cover(&one, &other), "a made pair covers the same");
+    let lent = outcomes.each_ref().map(|outcome| &outcome.lent);
+    tally.cuttings.add(pair, lent);
+    of_all(outcomes)
 }

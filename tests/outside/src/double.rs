@@ -119,15 +119,13 @@ impl Double {
         }
     }
 
-    /// Is the exact value times 200 just halfway between two whole numbers?
+    /// Is the exact value times 200 just halfway between two whole numbers? Then
+    /// twice of it is odd; behind 63 places twice of it is below 1.
     pub fn is_halfway(self) -> bool {
         self.exact().is_some_and(|exact| {
             let twice = 2 * UNITS * u128::from(exact.digits);
-            // Twice of it is an odd whole number; behind 63 places it is below 1.
-            (-63..=0).contains(&exact.exponent) && {
-                let under = 1u128 << -exact.exponent;
-                twice % under == 0 && twice / under % 2 == 1
-            }
+            let is_odd = |under: u128| twice % (2 * under) == under;
+            (-63..=0).contains(&exact.exponent) && is_odd(1 << -exact.exponent)
         })
     }
 }
@@ -138,11 +136,11 @@ fn nearest(over: u128, under: u128) -> u128 {
     let below = over / under;
     let above = below + 1;
     let (down, up) = (over - below * under, above * under - over);
-    match (down.cmp(&up), below % 2 == 0) {
+    match (down.cmp(&up), below % 2) {
         (Ordering::Less, _) => below,
         (Ordering::Greater, _) => above,
-        (Ordering::Equal, true) => below,
-        (Ordering::Equal, false) => above,
+        (Ordering::Equal, 0) => below,
+        (Ordering::Equal, _) => above,
     }
 }
 

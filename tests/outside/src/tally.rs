@@ -71,9 +71,14 @@ pub struct CuttingsTally {
 }
 
 impl Tally {
+    /// An answer that is due.
+    pub fn number(&mut self, number: u32, call: &Call) {
+        *self.answers.entry(number).or_default() += 1;
+        self.stations.add(call, number);
+    }
+
     pub fn answer(&mut self, outcome: &Outcome, call: &Call) {
-        *self.answers.entry(outcome.number).or_default() += 1;
-        self.stations.add(call, outcome.number);
+        self.number(outcome.number, call);
         if outcome.number == 0 {
             let shown = match call.view.axes == LEVEL {
                 true => &mut self.level,
