@@ -8,9 +8,10 @@
  * forward along the bore, z up. The camera may look any way: three vectors say how it is turned.
  *
  * Stations. A station is the eye. It is told in units, as three whole numbers, or in metres, as
- * three doubles, each way by calls of its own. What is told in metres is turned into whole units
- * first, each double into the nearest, and from there on it is the station in these units: two
- * stations that are one in whole units are the same station for all that is said here.
+ * three doubles, each way by calls of its own. What is told in metres is turned into whole units,
+ * each double into the nearest, and where these are in range it is from there on the station in
+ * these units: two such stations that are one in whole units are the same station for all that is
+ * said here. Only one out of range is refused by another number in metres than in units.
  *
  * Joints. Where a cell's sight line runs along an edge or through a corner, the cell is read as the
  * lines just beside it: to the right of it, toward the next column, and where these still run along
@@ -191,12 +192,17 @@ uint32_t ring_gate(const uint8_t *scene, size_t scene_len,
  *   eye_x, eye_y, eye_z       the station, in metres. Each double becomes the whole number of units
  *                             that is nearest to its exact value times RING_UNITS_PER_METRE, and
  *                             halfway between two the even one: 0.0625 becomes 12, 0.1875 becomes
- *                             38, -0.0625 becomes -12. Both zeros become 0. No step of this is
- *                             rounded: it is the double itself that counts, also next to a half.
+ *                             38, -0.0625 becomes -12. Both zeros become 0. Nothing is rounded on
+ *                             the way: it is the double itself that counts, also next to a half,
+ *                             whatever the rounding mode.
  *                             RING_BAD_METRES where one of the three is a NaN of any kind or an
  *                             infinity, or where its whole number is outside -10,000 to 10,000. The
  *                             whole number decides: the double that 50.0025 is read as becomes
  *                             10,000 and passes, and the next one above becomes 10,001 and does not
+ *
+ * C converts without a word: whole numbers given here are metres and not units, and a fraction
+ * given to ring_survey is cut off before the call. A signalling NaN may raise the floating-point
+ * flag for an invalid operation, and does nothing else where that is not made a trap.
  *
  * The rest as in ring_survey. Where the three whole numbers pass, the result and what is left in
  * picture, counts, patch_counts, unlit and counter are those of ring_survey with these numbers.

@@ -58,11 +58,12 @@ static double of_bits(uint64_t bits)
     return value;
 }
 
-/* A station of three doubles, all 0 but one. */
+/* A station of three doubles. */
 struct metres {
     double part[3];
 };
 
+/* All 0 but one. */
 static struct metres along(int part, double value)
 {
     struct metres station = {{0, 0, 0}};

@@ -1,5 +1,5 @@
 #!/usr/bin/env bash
-# The tests from outside, over the library as it was just proved: its read-only memory, the C header, stations in metres from C, the console example, the stored bills, the inputs and outputs that fail, spans laid on rows by the programs for that, and
+# The tests from outside, over the library as it was just proved: its read-only memory, the C header, stations in metres from C, the console example, the benchmark's peers, the stored bills, the inputs and outputs that fail, spans laid on rows by the programs for that, and
 # through the C interface the stored cases and the ray-by-ray program in Rust.
 #   outside.sh [CASES [SEED]]      more cases, or others; for each case there are two pairs of cuttings besides, and for five of them a sequence of spans
 set -euo pipefail
@@ -25,6 +25,8 @@ from_c() {
 }
 from_c >"$log" 2>&1 &
 (cd tests/outside && cargo build --quiet --release --offline --features library)
+# The benchmark takes its scenes and calls from the program just built: its peers are tried, nothing is timed.
+(cd bench && cargo run --quiet --release --offline -- --only none >/dev/null)
 wait $! && status=0 || status=$?
 cat "$log"
 [ "$status" -eq 0 ]

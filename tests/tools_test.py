@@ -1638,8 +1638,11 @@ def test_metres_commands():
           (0, b"accepted\n"))
     for words in (["rays.py", "--metres", "0", "0", "-"], ["rays.py", *near, *near, "-"],
                   ["rays.py", "--metres", "0", "x", "0", "-"], ["gate.py", *near, "--scene", "-"],
-                  ["gate.py", "--metres", "0", "", "0", "-"], ["gate.py", "--scene", *near, "-"]):
-        check("misused: " + " ".join(words), command(*words, data=s), (1, b""))
+                  ["gate.py", "--metres", "0", "", "0", "-"], ["gate.py", "--scene", *near, "-"],
+                  ["gate.py", "--metres", "0", "1_0", "0", "-"]):
+        status, written, told = ended(*words, data=s)
+        check("misused: " + " ".join(words), (status, written, b"Traceback" in told),
+              (1, b"", False))
 
 
 OUT, NO_VIEW = "no view for what is refused with 15: ", "a view is an eye of three numbers, "
@@ -1681,9 +1684,14 @@ def test_rings_in_metres():
         given = "--view --metres 0 0.1 0 256 128 160".split()
         check("ring.py, metres", command("ring.py", target, *given)[0], 0)
         check("the stored ring in metres", stored(target) == stored("samples/ring.view"))
-        for words, said in (("--view 0 20 0 256 128", NO_VIEW), ("--metres 0 0.1 0", NO_VIEW),
-                            ("--view --metres nan 0 0 4 4 4", OUT)):
+        for words, said in (("--metres 0 0.1 0", NO_VIEW), ("--view --metres nan 0 0 4 4 4", OUT)):
             check_faulty(said, "ring.py", target, *words.split())
+        for words in ("--view 0 20 0 256 128", "--view --metres 0 0.1 0 256 128"):
+            check("ring.py " + words, command("ring.py", target, *words.split()), (2, b""))
+        for words in ("--view 0 20 0 256 128 160", "--view --metres 0 0.1 0 256 128 160"):
+            check("ring.py, the file last", command("ring.py", *words.split(), target)[0], 0)
+            check("ring.py, what it holds", stored(target) == stored("samples/ring.view"))
+            os.remove(target)
 
 
 def test_patch_commands():

@@ -3,8 +3,11 @@
  * any other, which tests/metres.py sees to. It is compiled to call these. */
 #include "ring.h"
 
+#include <float.h>
 #include <math.h>
 #include <string.h>
+
+_Static_assert(LDBL_MANT_DIG >= 58, "200 times a double is exact in a long double");
 
 enum fault {
     RIGHT,
@@ -36,7 +39,7 @@ static uint64_t bits_of(double value)
     return bits;
 }
 
-/* Exact, for 200 takes five digits of a binary fraction, and a long double has eleven more. */
+/* Exact, for 200 takes five digits of a binary fraction: 25 times 8. */
 static long double nearest(double metres)
 {
     long double units = 200.0L * metres;

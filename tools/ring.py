@@ -203,7 +203,7 @@ def at_least(low):
     return read
 
 
-def arguments(words):
+def arguments(words, station=None):
     parser = argparse.ArgumentParser(description="Makes a sample ring.")
     parser.add_argument("out")
     for name, low, value in (("rings", 1, 16), ("segments", 3, 6), ("facets", 1, 3),
@@ -215,7 +215,8 @@ def arguments(words):
     parser.add_argument("--tree", choices=("chain", "halves", "walls"), default="chain")
     parser.add_argument("--cut", choices=("none", "across", "diagonal"), default="none")
     parser.add_argument("--without", type=numbers, default=[])
-    parser.add_argument("--view", type=int, nargs="+")
+    # The eye and the window; after --metres the window alone.
+    parser.add_argument("--view", type=int, nargs=6 if station is None else 3)
     return parser.parse_args(words)
 
 
@@ -232,7 +233,7 @@ def main():
     words = sys.argv[1:]
     try:
         station = scenes.take_metres(words)
-        shape = arguments(words)
+        shape = arguments(words, station)
         if shape.view or station:
             shape.view = scenes.view_numbers(station, shape.view or ())
         scene = make(shape)

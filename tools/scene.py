@@ -471,7 +471,8 @@ def take_axes(words):
 
 def double(word):
     try:
-        return float(word)
+        # Python's own grouping of digits is no form of a number elsewhere.
+        return float("" if "_" in word else word)
     except ValueError:
         raise Fault("%r is not a number" % word) from None
 

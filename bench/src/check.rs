@@ -45,7 +45,7 @@ pub fn joints() {
 }
 
 /// Each peer against the model on random scenes, whole and damaged, from level
-/// and turned views.
+/// and turned views, in units and in metres.
 pub fn random(cases: u64) {
     let (mut noise, mut tally) = (Random::new(1, 1), Tally::default());
     for number in 0..cases {
@@ -57,9 +57,10 @@ pub fn random(cases: u64) {
         }
     }
     // Without them a peer would pass that only knows the level view, and one that
-    // books by panel, or the later of two level patches, or sees through joints.
+    // books by panel, or the later of two level patches, or sees through joints, or
+    // takes a station in metres for another.
     let turned = tally.turned.lit > 0 && tally.answers.contains_key(&14);
     assert!(cases < 100 || turned, "turned views are among the cases");
     let never = tally.never_shown();
-    assert!(cases < 500 || never.is_empty(), "never shown: {never:?}");
+    assert!(cases < 1_500 || never.is_empty(), "never shown: {never:?}");
 }

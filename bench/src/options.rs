@@ -17,7 +17,7 @@ pub fn options() -> Options {
         out: None,
         rounds: 25,
         only: String::new(),
-        cases: 600,
+        cases: 1_500,
     };
     let mut words = env::args().skip(1);
     while let Some(word) = words.next() {

@@ -5,10 +5,11 @@ use outside::axes::{Axes, LEVEL};
 use outside::call::{Call, View};
 use outside::random::Random;
 use outside::scene::{Patch, Scene};
+use outside::station::Station;
 use outside::vector::Point;
 
 pub const WIDE: View = View {
-    eye: [0, 0, 0],
+    station: Station::Units([0, 0, 0]),
     axes: LEVEL,
     width: 256,
     height: 128,

@@ -33,7 +33,7 @@ impl Camera {
         let part = |k: usize| [2 * right[k], origin(k), -2 * up[k]];
         Camera {
             view: *view,
-            eye: view.eye.map(f64::from),
+            eye: view.eye().map(f64::from),
             parts: [1, -1].map(|sign| [0, 1, 2].map(|k| part(k).map(|n| (sign * n) as f64))),
             ahead: cross(up, right).map(|n| n as f64),
             above: cross(right, forward).map(|n| n as f64),

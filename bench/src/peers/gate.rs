@@ -1,4 +1,4 @@
-//! Questions 1 to 12 and 14, each to the whole scene before the next.
+//! Questions 1 to 12, 14 and 15, each to the whole scene before the next.
 
 use super::boxes::planes_divide;
 use super::plane::{cross, dot, Plane};
@@ -20,6 +20,7 @@ pub fn judge(call: &Call) -> Result<Tables, u32> {
     let mut patches = tables.patches.iter();
     yes(patches.all(|p| convex(tables.corners_of(p))), 8)?;
     yes(planes_divide(&tables), 9)?;
+    yes(call.view.station.whole().is_some(), 15)?;
     yes(view_fits(call), 10)?;
     yes(axes_proper(call), 14)?;
     yes(lengths_fit(call, &tables), 11)?;
@@ -114,7 +115,7 @@ fn turns(corners: &[[i32; 2]], positive: bool) -> bool {
 
 fn view_fits(call: &Call) -> bool {
     let view = &call.view;
-    point_fits(&view.eye)
+    point_fits(&view.eye())
         && (1..=256).contains(&view.width)
         && (1..=128).contains(&view.height)
         && (1..=4_096).contains(&view.lens)

@@ -7,7 +7,7 @@ use super::tables::{wide, Tables};
 use outside::call::{Call, Lent};
 
 pub fn paint(tables: &Tables, call: &Call, lent: &mut Lent) {
-    let order = front_to_back(tables, wide(call.view.eye));
+    let order = front_to_back(tables, wide(call.view.eye()));
     let shapes = Shapes::of(tables, &call.view, order.into_iter().rev());
     let width = usize::from(call.view.width);
     lent.picture.fill(NOTHING);

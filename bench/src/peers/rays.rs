@@ -39,7 +39,7 @@ struct Row {
 }
 
 pub fn paint(tables: &Tables, call: &Call, lent: &mut Lent) {
-    let order = front_to_back(tables, wide(call.view.eye));
+    let order = front_to_back(tables, wide(call.view.eye()));
     let shapes = Shapes::of(tables, &call.view, order.into_iter());
     let mut row = Row::default();
     let rows = lent.picture.chunks_exact_mut(usize::from(call.view.width));

@@ -7,7 +7,7 @@ use super::tables::{wide, Tables};
 use outside::call::{Call, Lent, ROW};
 
 pub fn paint(tables: &Tables, call: &Call, lent: &mut Lent) {
-    let order = front_to_back(tables, wide(call.view.eye));
+    let order = front_to_back(tables, wide(call.view.eye()));
     let mut canvas = Canvas::blank(call, lent);
     let shapes = Shapes::of(tables, &call.view, order.into_iter());
     for shape in &shapes.shapes {

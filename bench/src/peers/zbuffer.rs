@@ -51,7 +51,7 @@ pub fn paint(tables: &Tables, call: &Call, lent: &mut Lent) {
 
 fn depth(tables: &Tables, camera: &Camera, shape: &Shape) -> Depth {
     let corners = tables.corners_of(&tables.patches[usize::from(shape.patch)]);
-    let eye = wide(camera.view.eye);
+    let eye = wide(camera.view.eye());
     let [a, b, c] = [0, 1, 2].map(|n| minus(wide(corners[n]), eye));
     let plane = Plane::through(a, b, c);
     let over = plane.level.abs() as f64;

@@ -1,6 +1,7 @@
 -- Every limit that stands in the definitions as a number, tried by computing: the numbers at the limit pass, the next ones do not.
 use mathlib.Core.Bool.{Bool, true, not, cond, _&&_}
 use mathlib.Core.List.{List, [], _∷_, _++_}
+use mathlib.Core.Option.{some}
 use Prim.Native.Nat.{ℕ, suc, _+_, _%_}
 use lib.Dec.{T, eqb, leb}
 use lib.IntN.{ℤ, pos, negℤ, _-ℤ_}
@@ -15,7 +16,7 @@ use Rattle.model.specs.Picture.{counts}
 use Rattle.model.specs.View.{Axes, Camera, levelAxes}
 use Rattle.model.specs.Lent.{Lengths}
 use Rattle.model.specs.Call.{callView}
-use Rattle.model.specs.Questions.{hasHeader, hasSections, coordinatesInRange, properChild, panelsInRange, viewInRange, axesProper, lengthsFit, counterBelowEnd}
+use Rattle.model.specs.Questions.{hasHeader, hasSections, coordinatesInRange, properChild, panelsInRange, wholeInRange, viewInRange, axesProper, lengthsFit, counterBelowEnd}
 use Rattle.model.specs.Removal.{isChosen}
 use Rattle.model.proofs.Encode.{headerBytes}
 use Rattle.model.proofs.Computing.{everything}
@@ -160,7 +161,7 @@ axesLimits =
     ∷ limit (λ n. axesProper (axesOfParts ((pos n -ℤ pos 1) ∷ drop 1 level))) (2 ∷ []) (0 ∷ 1 ∷ [])
     ∷ []
 
--- ---- questions 10 to 12, of a call
+-- ---- question 15 of a whole number, and questions 10 to 12 of a call
 
 -- a camera with a window of 4 by 3 cells, and lengths for it and a scene of five patches
 abbrev fourByThree : Camera
@@ -171,7 +172,9 @@ lengths p n b u = record { picture = p; counts = n; patchCounts = b; unlit = u }
 
 abbrev callLimits : List Limit
 callLimits =
-    limit (λ n. viewInRange (callView (fittingCall [] origin n 4 4))) (1 ∷ 256 ∷ []) (0 ∷ 257 ∷ [])
+    limit (λ n. wholeInRange (some (pos n))) (0 ∷ 10000 ∷ []) (10001 ∷ [])
+    ∷ limit (λ n. wholeInRange (some (negℤ (pos n)))) (0 ∷ 10000 ∷ []) (10001 ∷ [])
+    ∷ limit (λ n. viewInRange (callView (fittingCall [] origin n 4 4))) (1 ∷ 256 ∷ []) (0 ∷ 257 ∷ [])
     ∷ limit (λ n. viewInRange (callView (fittingCall [] origin 4 n 4))) (1 ∷ 128 ∷ []) (0 ∷ 129 ∷ [])
     ∷ limit (λ n. viewInRange (callView (fittingCall [] origin 4 4 n))) (1 ∷ 4096 ∷ []) (0 ∷ 4097 ∷ [])
     ∷ limit (λ n. lengthsFit fourByThree 5 (lengths n 1025 5 768)) (12 ∷ []) (11 ∷ 13 ∷ [])

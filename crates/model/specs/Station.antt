@@ -29,8 +29,8 @@ nearestWhole a b =
 abbrev pub signed : Bool → ℕ → ℤ
 signed minus n = cond minus (negℤ (pos n)) (pos n)
 
--- "Each becomes the whole number nearest to its exact value times 200, halfway to the even one." A finite double is m × 2 ^ e, which is m × up e over down e, below 0 where
--- its sign is a minus. One that is not finite has no such number.
+-- "Each becomes the whole number nearest to its exact value times 200, halfway to the even one." A finite double is m × 2 ^ e, which is m × up e over down e, with its
+-- sign; "Both zeros give 0", for a size of 0 is not below 0. One that is not finite has no such number.
 unfoldable pub wholeUnits : Float → Option ℤ
 wholeUnits nan = none
 wholeUnits (inf minus) = none

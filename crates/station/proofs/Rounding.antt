@@ -13,20 +13,21 @@ use lib.Ieee.Nearest.{closest, closest-same, nearest-ge}
 use borrow.Author.Tests.{lt-ltb, le-ltb, leb-true, leb-false, eqb-true, eqb-false}
 use Rattle.model.specs.Station.{nearestWhole}
 
--- the three ways that two numbers lie
-abbrev Cmp : Ordering → ℕ → ℕ → Type 0
-Cmp Ordering·lt a b = a < b
-Cmp Ordering·eq a b = a ≡ b
-Cmp Ordering·gt a b = b < a
+-- what a comparison says of two numbers
+abbrev Compared : Ordering → ℕ → ℕ → Type 0
+Compared Ordering·lt a b = a < b
+Compared Ordering·eq a b = a ≡ b
+Compared Ordering·gt a b = b < a
 
-cmp : (a b : ℕ) → Cmp (compare a b) a b
-cmp a b = read (compare a b) refl
+compared : (a b : ℕ) → Compared (compare a b) a b
+compared a b = read (compare a b) refl
   where
-    read : (o : Ordering) → compare a b ≡ o → Cmp o a b
+    read : (o : Ordering) → compare a b ≡ o → Compared o a b
     read Ordering·lt e = lt-of-le-ne (leb-true a b (ap isLe e)) (eqb-false a b (ap isEq e))
     read Ordering·eq e = eqb-true a b (ap isEq e)
     read Ordering·gt e = leb-false a b (ap isLe e)
 
+-- the nearest number, by a quotient, twice the remainder and the divisor
 abbrev byTests : ℕ → ℕ → ℕ → ℕ
 byTests q r b = cond (ltb r b) q (cond (ltb b r) (q + 1) (q + q % 2))
 
@@ -39,14 +40,15 @@ by-more q r b h = rw (le-ltb r b (omega arith), lt-ltb b r h)
 by-level : (q r b : ℕ) → r ≡ b → q + q % 2 ≡ byTests q r b
 by-level q r b e = rw (le-ltb r b (omega arith), le-ltb b r (omega arith))
 
-nearest-is : (q r b : ℕ) (o : Ordering) → Cmp o r b → nearest q o ≡ byTests q r b
+nearest-is : (q r b : ℕ) (o : Ordering) → Compared o r b → nearest q o ≡ byTests q r b
 nearest-is q r b Ordering·lt h = by-less q r b h
 nearest-is q r b Ordering·eq h = by-level q r b h
 nearest-is q r b Ordering·gt h = sym (add-one q) ∙ by-more q r b h
 
+-- it is what the kit's rounding of doubles calls the closest
 closest-is : (a b : ℕ) → closest a b ≡ nearestWhole a b
 unfolding nearestWhole
-closest-is a b = nearest-is (a / b) (a % b * 2) b (compare (a % b * 2) b) (cmp (a % b * 2) b)
+closest-is a b = nearest-is (a / b) (a % b * 2) b (compare (a % b * 2) b) (compared (a % b * 2) b)
 
 -- equal fractions give one number
 pub same-fraction : (a b c d : ℕ) → 0 < b → 0 < d → a * d ≡ c * b → nearestWhole a b ≡ nearestWhole c d
@@ -69,19 +71,19 @@ module _ (p s : ℕ) (small : p < 2 ^ 61) (low : 1 ≤ s) (high : s ≤ 61) wher
   whole-le : p / 2 ^ s * 2 ^ s ≤ p
   whole-le = div-mul-le-self p (2 ^ s)
 
-  pub shifted-back : (p / 2 ^ s * 2 ^ s) % 2 ^ 64 ≡ p / 2 ^ s * 2 ^ s
+  shifted-back : (p / 2 ^ s * 2 ^ s) % 2 ^ 64 ≡ p / 2 ^ s * 2 ^ s
   shifted-back = mod-eq-of-lt (omega (arith, whole-le))
 
   pub back-le : (p / 2 ^ s * 2 ^ s) % 2 ^ 64 ≤ p
   back-le = rw shifted-back whole-le
 
-  pub rest-is : p - (p / 2 ^ s * 2 ^ s) % 2 ^ 64 ≡ p % 2 ^ s
+  rest-is : p - (p / 2 ^ s * 2 ^ s) % 2 ^ 64 ≡ p % 2 ^ s
   rest-is = rw shifted-back (omega (arith, div-add-mod' p (2 ^ s)))
 
   doubled : 2 ^ s ≡ 2 ^ (s - 1) * 2
   doubled = let e : s ≡ suc (s - 1) = omega arith in ap (λ (k : ℕ). 2 ^ k) e ∙ pow-suc 2 (s - 1)
 
-  pub half-is : (1 * 2 ^ (s - 1)) % 2 ^ 64 ≡ 2 ^ (s - 1)
+  half-is : (1 * 2 ^ (s - 1)) % 2 ^ 64 ≡ 2 ^ (s - 1)
   half-is = let l : 2 ^ (s - 1) < 2 ^ 64 = pow-lt {i = s - 1} {j = 64} (omega arith) in ap (λ (k : ℕ). k % 2 ^ 64) (omega arith) ∙ mod-eq-of-lt l
 
   pub whole-small : p / 2 ^ s < 2 ^ 61

@@ -64,6 +64,13 @@ impl Call {
         }
     }
 
+    /// Another call, changed so.
+    pub fn with(&self, change: &dyn Fn(&mut Call)) -> Call {
+        let mut other = self.clone();
+        change(&mut other);
+        other
+    }
+
     /// What `ringbill` reads: eye, width, height, lens, then the scene. Its
     /// view is level, whatever this one is, and its eye in units.
     pub fn standard_input(&self) -> Vec<u8> {

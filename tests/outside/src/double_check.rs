@@ -105,7 +105,7 @@ fn agrees(double: Double) -> bool {
 
 /// Every whole number and halfway point within reach with the doubles beside it,
 /// every exponent, and any bits.
-fn tried(seed: u64, random: u64) -> Vec<Double> {
+pub fn tried(seed: u64, random: u64) -> Vec<Double> {
     let mut all = vec![Double(0), Double(1), LAST, LAST.moved(1)];
     for n in 0..=20_010 {
         all.extend(
@@ -131,7 +131,8 @@ fn tried(seed: u64, random: u64) -> Vec<Double> {
 }
 
 /// The gauge shows what is told of it, and from any station one unit away
-/// something else.
+/// something else; an eye at two ends of the range is let off, as its wall is cut
+/// there.
 fn gauge_tells(eye: Point) -> bool {
     let gauge = Gauge::of(eye);
     let own = gauge.done();

@@ -51,9 +51,14 @@ fn near_zero(rng: &mut Random) -> Double {
     Double(bits | rng.pick(&[0, SIGN]))
 }
 
+/// Three doubles that are this station in units.
+pub fn doubles_of(rng: &mut Random, eye: Point) -> [Double; 3] {
+    eye.map(|n| of_units(rng, n))
+}
+
 /// A station in metres that is this one in units.
 pub fn station_of(rng: &mut Random, eye: Point) -> Station {
-    Station::Metres(eye.map(|n| of_units(rng, n)))
+    Station::Metres(doubles_of(rng, eye))
 }
 
 /// A double that question 15 refuses, or the last one that it lets pass.

@@ -4,7 +4,7 @@
 use crate::axes::LEVEL;
 use crate::call::Call;
 use crate::double::Double;
-use crate::doubles::{any, at_the_end, station_of, LAST};
+use crate::doubles::{any, at_the_end, doubles_of, LAST};
 use crate::random::Random;
 use crate::station::Station::Metres;
 
@@ -12,10 +12,7 @@ use crate::station::Station::Metres;
 fn doubles(call: &Call, rng: &mut Random) -> [Double; 3] {
     match call.view.station {
         Metres(doubles) => doubles,
-        _ => match station_of(rng, call.view.eye()) {
-            Metres(doubles) => doubles,
-            _ => [Double(0); 3],
-        },
+        _ => doubles_of(rng, call.view.eye()),
     }
 }
 
@@ -41,12 +38,6 @@ pub fn any_bits(call: &mut Call, rng: &mut Random) {
     call.view.station = Metres(doubles);
 }
 
-fn with(call: &Call, change: &dyn Fn(&mut Call)) -> Call {
-    let mut other = call.clone();
-    change(&mut other);
-    other
-}
-
 /// The last doubles that question 15 lets pass, the first that it does not, and
 /// what is no number, along each axis.
 pub fn ends_of_doubles(call: &Call) -> Vec<Call> {
@@ -63,7 +54,7 @@ pub fn ends_of_doubles(call: &Call) -> Vec<Call> {
         for bits in sizes.into_iter().flat_map(|size| [size, size | 1 << 63]) {
             let mut doubles = eye;
             doubles[axis] = Double(bits);
-            all.push(with(call, &|c| c.view.station = Metres(doubles)));
+            all.push(call.with(&|c| c.view.station = Metres(doubles)));
         }
     }
     all
@@ -88,8 +79,8 @@ pub fn doubles_and_another(call: &Call) -> Vec<Call> {
     let stations = [[out[0], zero, zero], [zero, zero, out[1]]];
     let mut all = Vec::new();
     for doubles in stations {
-        let there = with(call, &|c| c.view.station = Metres(doubles));
-        all.extend(others.map(|other| with(&there, other)));
+        let there = call.with(&|c| c.view.station = Metres(doubles));
+        all.extend(others.map(|other| there.with(other)));
     }
     all
 }

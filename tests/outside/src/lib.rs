@@ -13,12 +13,12 @@
 //! `row_trials`, `row_spans`, `row_tally`, `row_compare`, and what shows that
 //! these can fail: `row_check`, `row_fault`, `wrong_looks`, `wrong_rows`,
 //! `wrong_makers`.
-//! The comparison: `compare`, `differential`, `tally`, `station_tally`, `beside`;
-//! and what shows that it can fail: `fault`, `faults`, `wrong_gate`,
-//! `wrong_lengths`, `wrong_questions`, `wrong_station`, `wrong_paint`,
-//! `wrong_joints`, `wrong_camera`, `wrong_booking`, `wrong_cuttings`,
-//! `wrong_buffers`, `station_check`, `altered`; and the model against itself:
-//! `consistency`, `steps`, `cuttings_check`, `double_check`.
+//! The comparison: `compare`, `differential`, `gauging`, `tally`,
+//! `station_tally`, `beside`; and what shows that it can fail: `fault`, `faults`,
+//! `wrong_gate`, `wrong_lengths`, `wrong_questions`, `wrong_station`,
+//! `wrong_paint`, `wrong_joints`, `wrong_camera`, `wrong_booking`,
+//! `wrong_cuttings`, `wrong_buffers`, `station_check`, `altered`; and the model
+//! against itself: `consistency`, `steps`, `cuttings_check`, `double_check`.
 
 pub mod along;
 pub mod altered;
@@ -46,6 +46,7 @@ pub mod faults;
 pub mod forms;
 pub mod gate;
 pub mod gauge;
+pub mod gauging;
 pub mod generate;
 pub mod harmed;
 pub mod header;

@@ -1,5 +1,5 @@
-//! The library set against the stored cases, the stations, and the model case
-//! by case.
+//! The library set against the stored cases, the stations, doubles by the
+//! thousand, and the model case by case.
 //!
 //!     differential [--cases N] [--cuttings N] [--seed S] [--only K]
 //!                  [--only-cuttings K] [--small] [--trace] [--out DIR]
@@ -7,10 +7,11 @@
 //!
 //! Two cuttings of a ring are a case of their own sort; there are two of these
 //! pairs for each of the others, or as many as `--cuttings` says. A case that
-//! differs is written to DIR as an input of `ringbill`, its axes in what is
-//! printed. `--only` runs case K alone, `--only-cuttings` pair K of cuttings
-//! alone, `--trace` names each case before it runs, `--small` keeps cases cheap,
-//! `--ringbill` sets the program, whose view is level, against the model too.
+//! differs is written to DIR as an input of `ringbill`, its axes and the doubles
+//! of its station in what is printed. `--only` runs case K alone,
+//! `--only-cuttings` pair K of cuttings alone, `--trace` names each case before
+//! it runs, `--small` keeps cases cheap and leaves the doubles out, `--ringbill`
+//! sets the program, whose view is level, against the model too.
 
 mod library;
 
@@ -24,6 +25,7 @@ use outside::bill::{bill, LONGEST, SHORTEST};
 use outside::compare::Difference;
 use outside::differential::{case, put, two_cuttings, Case, Tally};
 use outside::gate::Gate;
+use outside::gauging::gauge_library;
 use outside::generate::{FULL, SMALL};
 use outside::program::printed;
 use outside::random::Random;
@@ -102,7 +104,10 @@ fn main() {
     let size = if options.small { SMALL } else { FULL };
     let mut tally = Tally::default();
     let ([cases, cuttings], all) = options.numbers();
-    let known = if all { hold_library(|| Linked) } else { 0 };
+    let mut known = if all { hold_library(|| Linked) } else { 0 };
+    if all && !options.small {
+        known += gauge_library(&Linked, options.seed, options.cases);
+    }
     for k in cases {
         let made = case(options.seed, k, size);
         run(&options, k, &made, &mut tally);
@@ -195,10 +200,14 @@ fn tell(tally: &Tally) {
     }
 }
 
-/// The answers that no call in metres got, in a run that is long enough.
-fn unasked_in_metres(tally: &Tally, cases: u64) -> Vec<u32> {
+/// Cases of a run that must show everything; a shorter one may miss what is rare,
+/// as a signalling NaN.
+const MANY: u64 = 2_000;
+
+/// The answers that no call in metres got.
+fn unasked_in_metres(tally: &Tally) -> Vec<u32> {
     let mut all = Gate::of_the_paper().numbers();
-    all.retain(|answer| cases >= 2_000 && !tally.stations.answers.contains_key(answer));
+    all.retain(|answer| !tally.stations.answers.contains_key(answer));
     all
 }
 
@@ -210,8 +219,8 @@ fn report(options: &Options, tally: &Tally) -> i32 {
     silent.retain(|answer| !tally.answers.contains_key(answer));
     let unseen = tally.never_shown();
     let others = tally.cases - tally.cuttings.pairs;
-    let unasked = unasked_in_metres(tally, others);
-    let thin = others >= 500 && !(silent.is_empty() && unseen.is_empty() && unasked.is_empty());
+    let unasked = unasked_in_metres(tally);
+    let thin = others >= MANY && !(silent.is_empty() && unseen.is_empty() && unasked.is_empty());
     if thin {
         println!("never answered: {silent:?}, in metres: {unasked:?}, never shown: {unseen:?}");
     }

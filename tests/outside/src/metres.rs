@@ -106,6 +106,19 @@ fn gauged(axis: usize, double: Double, n: i16) -> Trial {
     }
 }
 
+/// What is due of any double along an axis.
+pub fn due(axis: usize, double: Double) -> Trial {
+    match double.units() {
+        Some(n) => gauged(axis, double, n),
+        None => refused_along(axis, double),
+    }
+}
+
+fn refused_along(axis: usize, double: Double) -> Trial {
+    let name = format!("{double:?} along axis {axis}");
+    asked(&name, along(axis, double), 15, |_| ())
+}
+
 fn of_numbers() -> Vec<Trial> {
     let numbers = NUMBERS.iter();
     numbers
@@ -127,14 +140,10 @@ fn of_halves() -> Vec<Trial> {
 }
 
 fn of_refused() -> Vec<Trial> {
-    let mut all = Vec::new();
-    for &bits in REFUSED {
-        for axis in 0..3 {
-            let name = format!("{:?} along axis {axis}", Double(bits));
-            all.push(asked(&name, along(axis, Double(bits)), 15, |_| ()));
-        }
-    }
-    all
+    let refused = REFUSED.iter();
+    refused
+        .flat_map(|&bits| [0, 1, 2].map(|axis| refused_along(axis, Double(bits))))
+        .collect()
 }
 
 /// S from a station, refused with a number for what is changed besides.

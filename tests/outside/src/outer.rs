@@ -139,7 +139,7 @@ fn counter_full(call: &mut Call, rng: &mut Random) {
 /// Every end of questions 10 to 12, 14 and 15, just inside and just outside, and
 /// two questions at once.
 pub fn ends(call: &Call) -> Vec<Call> {
-    let changed = |change: &dyn Fn(&mut Call)| changed(call, change);
+    let changed = |change: &dyn Fn(&mut Call)| call.with(change);
     let seen = |view: View| Call::new(call.scene.to_vec(), view);
     let mut all = Vec::new();
     for axis in 0..3 {
@@ -176,12 +176,6 @@ pub fn ends(call: &Call) -> Vec<Call> {
     all
 }
 
-fn changed(call: &Call, change: &dyn Fn(&mut Call)) -> Call {
-    let mut other = call.clone();
-    change(&mut other);
-    other
-}
-
 /// Each part at its ends, and volumes of 0, next to 0 and as large as can be.
 fn ends_of_axes() -> impl Iterator<Item = Axes> {
     let parts = (0..9).flat_map(|k| [-101, -100, 100, 101].map(|n| mount::with_part(k, n)));
@@ -207,7 +201,7 @@ fn lengths_of_the_table(call: &Call) -> Vec<Call> {
         &|c| (c.patch_counts_len, c.picture_len) = (c.patch_counts_len + 1, 0),
         &|c| (c.patch_counts_len, c.scene) = (c.patch_counts_len + 1, c.scene[1..].into()),
     ];
-    others.map(|other| changed(call, other)).into()
+    others.map(|other| call.with(other)).into()
 }
 
 /// A no to 14 and another: only the one asked first may answer.
@@ -229,8 +223,8 @@ fn axes_and_another(call: &Call) -> Vec<Call> {
     let mut all = Vec::new();
     for axes in [mount::with_part(5, 101), flat] {
         let with = |other: &dyn Fn(&mut Call)| {
-            let turned = changed(call, &|c| c.view.axes = axes);
-            changed(&turned, other)
+            let turned = call.with(&|c| c.view.axes = axes);
+            turned.with(other)
         };
         all.extend(others.map(with));
     }

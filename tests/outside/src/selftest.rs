@@ -22,6 +22,7 @@ use outside::differential::{case, put, Case, Tally};
 use outside::double_check::doubles_hold;
 use outside::fault::Faulty;
 use outside::gate::{Gate, STRUCK};
+use outside::gauging::gauging_tells;
 use outside::generate::{FULL, SMALL};
 use outside::random::Random;
 use outside::rings::covered;
@@ -73,7 +74,7 @@ fn failing() -> usize {
         println!("{} {name}", if held { "holds" } else { "FAILS" });
         failed += usize::from(!held);
     }
-    failed += doubles_hold(SEED, 20_000);
+    failed += doubles_hold(SEED, 20_000) + gauging_tells();
     failed += hold_model();
     for checked in [alterations_show(), stations_find_all()] {
         failed += checked.unwrap_or_else(|why| {

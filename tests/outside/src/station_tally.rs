@@ -31,7 +31,8 @@ const SORTS: &[Sort] = &[
 /// Has the double before it or behind it another whole number?
 fn is_next_to_another(double: Double) -> bool {
     let of = |places| double.moved(places).whole();
-    double.units().is_some() && (of(1) != of(0) || of(-1) != of(0))
+    // The bits before those of a zero are none of a double beside it.
+    !double.is_zero() && double.units().is_some() && (of(1) != of(0) || of(-1) != of(0))
 }
 
 #[derive(Default)]

@@ -119,7 +119,9 @@ pub const RANGES: &[(&str, Turn)] = &[
     }),
     ("15: far doubles brought to the ends", |d| {
         each(d, |d| match d.is_finite() {
-            true => Some(d.units().unwrap_or(10_000)),
+            true => d
+                .units()
+                .or(Some(if d.is_negative() { -10_000 } else { 10_000 })),
             false => None,
         })
     }),

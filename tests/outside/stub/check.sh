@@ -53,7 +53,7 @@ must struck 1 '' Answer Gate Struck
 must blank 1 '' Answer Gate Picture Counts PatchCounts Unlit TouchedPicture \
     TouchedCounts TouchedPatchCounts TouchedUnlit TouchedCounter \
     FirstShowsClosest
-# Blank in both forms alike; in one alone only a call by its own name shows.
+# Blank is blank in both forms, so Forms must not be seen; deaf answers the two differently.
 grep -q ' differences: Forms$' "$work/report" && { echo 'blank: Forms seen'; exit 1; }
 must deaf 1 '' Answer Gate Picture Forms
 bill="--ringbill $work/ringbill"

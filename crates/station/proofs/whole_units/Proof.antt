@@ -1,6 +1,7 @@
 -- `whole_units` meets its contract: a NaN is told before its bits are read, and the bits tell the rest.
 use mathlib.Core.Path.{refl, sym, subst}
 use mathlib.Core.Bool.{true, false}
+use native.Mathlib.Omega.{arith}
 use lib.Dec.{T}
 use lib.Ieee.{binary64, fits}
 use borrow.Author.Tests.{le-leb, lt-leb}
@@ -19,7 +20,7 @@ float-to-bits-bits : tie.Need-float-to-bits-bits
 float-to-bits-bits c = no-nan _ (c .if1 .left)
 
 returns-2 : tie.Need-returns-2
-returns-2 c = refused (beyond-out _ (held (c .before .before .before)) (c .before .size-of .ensures) (c .if2 .taken)) refl
+returns-2 c = refused (beyond-out _ (held (c .before .before .before)) (c .before .size-of .ensures) (omega (arith, c .if2 .taken))) refl
 
 sub-t7 : tie.Need-sub-t7
 sub-t7 c = word-opposite-fits _ (c .before .if2 .left)
