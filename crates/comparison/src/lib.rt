@@ -2,10 +2,10 @@
 use station::Station;
 use survey::metres::ring_survey_metres;
 use survey::units::ring_survey;
-ghost use Rattle.model.specs.Vector.{vec};
 ghost use Rattle.station.specs.Machine.{stationOf};
-ghost use Rattle.contract.specs.Contract.{axesBy, cameraBy, lentOf};
+ghost use Rattle.contract.specs.Contract.{lentOf};
 ghost use Rattle.demands.specs.Demands.{ClosestSurveyed, PairSurveyed};
+ghost use Rattle.comparison.specs.Machine.{cameraOf};
 
 // the results of the two calls
 pub struct Results {
@@ -13,30 +13,34 @@ pub struct Results {
     pub second: u32,
 }
 
-// The survey call for the form that the station has. It has the exported calls' numbers, so that the pair is one of these calls.
+// A camera by the numbers that the exported calls take, so that a pair is one of these calls.
+pub struct CameraNumbers {
+    pub right_x: i16,
+    pub right_y: i16,
+    pub right_z: i16,
+    pub forward_x: i16,
+    pub forward_y: i16,
+    pub forward_z: i16,
+    pub up_x: i16,
+    pub up_y: i16,
+    pub up_z: i16,
+    pub width: u16,
+    pub height: u16,
+    pub lens: u16,
+}
+
+// The survey call for the form that the station has.
 fn survey_at(
     scene: &[u8],
     station: Station,
-    right_x: i16,
-    right_y: i16,
-    right_z: i16,
-    forward_x: i16,
-    forward_y: i16,
-    forward_z: i16,
-    up_x: i16,
-    up_y: i16,
-    up_z: i16,
-    width: u16,
-    height: u16,
-    lens: u16,
+    camera: CameraNumbers,
     picture: &mut [u16],
     counts: &mut [u32],
     patch_counts: &mut [u32],
     unlit: &mut [u16],
     counter: &mut u32,
 ) -> u32
-    ensures { λ r. ⌜ ClosestSurveyed (now (scene .entry)) (stationOf station)
-        (cameraBy (axesBy (vec «right_x» «right_y» «right_z») (vec «forward_x» «forward_y» «forward_z») (vec «up_x» «up_y» «up_z»)) width height lens)
+    ensures { λ r. ⌜ ClosestSurveyed (now (scene .entry)) (stationOf station) (cameraOf camera)
         (lentOf (now (picture .entry)) (now (counts .entry)) (now («patch_counts» .entry)) (now (unlit .entry)) (now (counter .entry)))
         (lentOf (now (picture .exit)) (now (counts .exit)) (now («patch_counts» .exit)) (now (unlit .exit)) (now (counter .exit))) r ⌝ }
 {
@@ -46,18 +50,18 @@ fn survey_at(
             x,
             y,
             z,
-            right_x,
-            right_y,
-            right_z,
-            forward_x,
-            forward_y,
-            forward_z,
-            up_x,
-            up_y,
-            up_z,
-            width,
-            height,
-            lens,
+            camera.right_x,
+            camera.right_y,
+            camera.right_z,
+            camera.forward_x,
+            camera.forward_y,
+            camera.forward_z,
+            camera.up_x,
+            camera.up_y,
+            camera.up_z,
+            camera.width,
+            camera.height,
+            camera.lens,
             picture,
             counts,
             patch_counts,
@@ -69,18 +73,18 @@ fn survey_at(
             m.x,
             m.y,
             m.z,
-            right_x,
-            right_y,
-            right_z,
-            forward_x,
-            forward_y,
-            forward_z,
-            up_x,
-            up_y,
-            up_z,
-            width,
-            height,
-            lens,
+            camera.right_x,
+            camera.right_y,
+            camera.right_z,
+            camera.forward_x,
+            camera.forward_y,
+            camera.forward_z,
+            camera.up_x,
+            camera.up_y,
+            camera.up_z,
+            camera.width,
+            camera.height,
+            camera.lens,
             picture,
             counts,
             patch_counts,
@@ -96,18 +100,7 @@ pub fn survey_pair(
     second: &[u8],
     station1: Station,
     station2: Station,
-    right_x: i16,
-    right_y: i16,
-    right_z: i16,
-    forward_x: i16,
-    forward_y: i16,
-    forward_z: i16,
-    up_x: i16,
-    up_y: i16,
-    up_z: i16,
-    width: u16,
-    height: u16,
-    lens: u16,
+    camera: CameraNumbers,
     picture1: &mut [u16],
     counts1: &mut [u32],
     patch_counts1: &mut [u32],
@@ -119,8 +112,7 @@ pub fn survey_pair(
     unlit2: &mut [u16],
     counter2: &mut u32,
 ) -> Results
-    ensures { λ r. ⌜ PairSurveyed (now (first .entry)) (now (second .entry)) (stationOf station1) (stationOf station2)
-        (cameraBy (axesBy (vec «right_x» «right_y» «right_z») (vec «forward_x» «forward_y» «forward_z») (vec «up_x» «up_y» «up_z»)) width height lens)
+    ensures { λ r. ⌜ PairSurveyed (now (first .entry)) (now (second .entry)) (stationOf station1) (stationOf station2) (cameraOf camera)
         (lentOf (now (picture1 .entry)) (now (counts1 .entry)) (now («patch_counts1» .entry)) (now (unlit1 .entry)) (now (counter1 .entry)))
         (lentOf (now (picture1 .exit)) (now (counts1 .exit)) (now («patch_counts1» .exit)) (now (unlit1 .exit)) (now (counter1 .exit)))
         (lentOf (now (picture2 .entry)) (now (counts2 .entry)) (now («patch_counts2» .entry)) (now (unlit2 .entry)) (now (counter2 .entry)))
@@ -130,18 +122,7 @@ pub fn survey_pair(
     let a = survey_at(
         first,
         station1,
-        right_x,
-        right_y,
-        right_z,
-        forward_x,
-        forward_y,
-        forward_z,
-        up_x,
-        up_y,
-        up_z,
-        width,
-        height,
-        lens,
+        camera,
         picture1,
         counts1,
         patch_counts1,
@@ -151,18 +132,7 @@ pub fn survey_pair(
     let b = survey_at(
         second,
         station2,
-        right_x,
-        right_y,
-        right_z,
-        forward_x,
-        forward_y,
-        forward_z,
-        up_x,
-        up_y,
-        up_z,
-        width,
-        height,
-        lens,
+        camera,
         picture2,
         counts2,
         patch_counts2,

@@ -7,7 +7,7 @@ use crate::gate::in_range;
 use crate::gauge::Gauge;
 use crate::outer::CALL;
 use crate::random::Random;
-use crate::station::Station::{self, Units};
+use crate::station::Station::Units;
 use crate::vector::Point;
 
 /// "The picture is that of the whole-number station.": a call in units, and two
@@ -22,13 +22,7 @@ pub fn forms_of(rng: &mut Random, mut call: Call) -> Forms {
         harm(&mut call, rng);
     }
     let stations = [Units(eye), station_of(rng, eye), station_of(rng, eye)];
-    stations.map(|station| stationed(&call, station))
-}
-
-fn stationed(call: &Call, station: Station) -> Call {
-    let mut other = call.clone();
-    other.view.station = station;
-    other
+    stations.map(|station| call.with(&|c| c.view.station = station))
 }
 
 /// Puts every other station in metres that can be.

@@ -1,33 +1,45 @@
 -- `survey_at` meets its contract: the station is of one form or the other, and the contract of the call for it gives the rest.
-use mathlib.Core.Path.{refl, sym, _∙_, ap}
+use mathlib.Core.Path.{_≡_, refl, sym, _∙_, ap}
 use borrow.Author.Needs.{needs}
 use Rattle.station.specs.Machine.{stationOf}
+use Rattle.format.proofs.Words.{words}
+use Rattle.contract.specs.Contract.{axesBy, cameraBy}
 use Rattle.contract.proofs.SameStation.{surveyed-from}
 use Rattle.demands.proofs.Demands.{closest-surveyed}
 use Rattle.survey.proofs.Handed.{same-units, same-camera}
+use Rattle.comparison.specs.Machine.{cameraOf}
 use Rattle.comparison.proofs.survey_at.Statement.{statement}
 use Rattle.comparison.proofs.survey_at.Tie as tie
 
+-- the camera that the call is handed, in words of 16 bits, is the same
+handed :
+    (c : tie.Start) → let n = c .args .camera in
+    cameraBy
+    (axesBy (words (n .«right_x») (n .«right_y») (n .«right_z»)) (words (n .«forward_x») (n .«forward_y») (n .«forward_z»)) (words (n .«up_x») (n .«up_y») (n .«up_z»)))
+    (n .width) (n .height) (n .lens)
+    ≡ cameraOf n
+handed c =
+    let g = c .good .1 .1 .0 in
+    same-camera refl (search (needs, g)) (search (needs, g)) (search (needs, g)) (search (needs, g)) (search (needs, g)) (search (needs, g)) (search (needs, g)) (search (needs, g)) (search (needs, g))
+
 returns : tie.Need-returns
 returns c =
-    let p = c .before .before .before .before .before .before .before .before in
-    let s = p .before .before .before .before .before .before .before in
-    let e = s .before .before .before .before .before .before .before .fits in
-    let k = p .before .before .before .before .before .before .known-told .given in
+    let call = c .before .before .before .before .before .before .before .before in
+    let told = call .before .before .before .before .before .before .before .before .before .before .before .before .before .before .before in
+    let station = told .before in
+    let k = told .known-told .given in
     closest-surveyed
-    (surveyed-from (same-units (search (needs, k .0)) (search (needs, k .1 .0)) (search (needs, k .1 .1 .0)) ∙ sym (ap stationOf (s .station .given .1)))
-    (same-camera refl (e .right-x) (e .right-y) (e .right-z) (e .forward-x) (e .forward-y) (e .forward-z) (e .up-x) (e .up-y) (e .up-z))
-    (p .ring-survey .ensures .surveyed))
+    (surveyed-from (same-units (search (needs, k .0)) (search (needs, k .1 .0)) (search (needs, k .1 .1 .0)) ∙ sym (ap stationOf (station .station .given .1)))
+    (handed (station .before .before .before .before .before .before .before))
+    (call .ring-survey .ensures .surveyed))
 
 returns-2 : tie.Need-returns-2
 returns-2 c =
-    let p = c .before .before .before .before .before .before .before .before in
-    let s = p .before .before .before .before .before .before .before in
-    let e = s .before .before .before .before .before .before .before .fits in
+    let call = c .before .before .before .before .before .before .before .before in
+    let station = call .before .before .before .before .before .before .before .before .before .before .before .before .before .before .before .before in
     closest-surveyed
-    (surveyed-from (sym (ap stationOf (s .station2 .given .1)))
-    (same-camera refl (e .right-x) (e .right-y) (e .right-z) (e .forward-x) (e .forward-y) (e .forward-z) (e .up-x) (e .up-y) (e .up-z))
-    (p .ring-survey-metres .ensures .surveyed))
+    (surveyed-from (sym (ap stationOf (station .station2 .given .1))) (handed (station .before .before .before .before .before .before .before))
+    (call .ring-survey-metres .ensures .surveyed))
 
 pub survey-at-spec : {M : Type 1} → statement M
 survey-at-spec =

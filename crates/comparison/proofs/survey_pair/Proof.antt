@@ -1,8 +1,5 @@
 -- `survey_pair` meets its contract: demand 3 and two cuttings follow from the contracts of its two calls.
-use mathlib.Core.Path.{refl}
 use borrow.Author.Needs.{needs}
-use Rattle.contract.proofs.SameStation.{surveyed-from}
-use Rattle.survey.proofs.Handed.{same-camera}
 use Rattle.demands.proofs.Demands.{pair-surveyed}
 use Rattle.comparison.proofs.survey_pair.Statement.{statement}
 use Rattle.comparison.proofs.survey_pair.Tie as tie
@@ -11,11 +8,7 @@ returns : tie.Need-returns
 returns c =
     let second = c .before .before .before .before .before .before .before .before in
     let first = second .before .before .before .before .before .before .before .before .before .before .before .before .before .before in
-    let e = first .before .before .before .before .before .before .before .before .before .before .before .before .before .before .before .before .fits in
-    let camera =
-    same-camera refl (e .right-x) (e .right-y) (e .right-z) (e .forward-x) (e .forward-y) (e .forward-z) (e .up-x) (e .up-y) (e .up-z) in
-    pair-surveyed (surveyed-from refl camera (first .survey-at .ensures .surveyed))
-    (surveyed-from refl camera (second .survey-at2 .ensures .surveyed))
+    pair-surveyed (first .survey-at .ensures .surveyed) (second .survey-at2 .ensures .surveyed)
 
 pub survey-pair-spec : {M : Type 1} → statement M
 survey-pair-spec =
