@@ -9,6 +9,7 @@ use mir.Syntax.{w16, w64}
 use mir.Val.{Fits}
 use borrow.Author.Tests.{le-leb, lt-leb, eq-eqb, ne-eqb}
 use Rattle.model.specs.Row.{rowLength}
+use Rattle.model.specs.Map.{rowWords}
 use Rattle.model.specs.Picture.{countEntries}
 use Rattle.model.specs.Questions.{within}
 
@@ -35,9 +36,10 @@ module _ (a b c d r : Bool) (first : r ≡ a) where
       pub fourth-decides : (u : Bool) → u ≡ d → r ≡ true → s ≡ true → t ≡ true → u ≡ (a && b && c && d)
       fourth-decides u fourth e f g = simp (← first, ← second, ← third, ← fourth, e, f, g)
 
-module _ (area height patches picture counts patchCounts unlit : ℕ) where
+module _ (area height patches picture counts patchCounts unlit lit : ℕ) where
   abbrev fit : Bool
-  fit = eqb picture area && eqb counts countEntries && eqb patchCounts patches && eqb unlit (height * rowLength)
+  fit =
+      eqb picture area && eqb counts countEntries && eqb patchCounts patches && eqb unlit (height * rowLength) && eqb lit (height * rowWords)
 
   pub picture-differs : (n : ℕ) → n ≡ area → (picture ≡ n → ⊥) → false ≡ fit
   picture-differs n e f = simp (ne-eqb picture area (λ p. f (p ∙ sym e)))
@@ -48,10 +50,13 @@ module _ (area height patches picture counts patchCounts unlit : ℕ) where
   pub patch-counts-differ : (patchCounts ≡ patches → ⊥) → false ≡ fit
   patch-counts-differ f = simp (ne-eqb patchCounts patches f, and-false)
 
-  pub unlit-decides :
-      (n : ℕ) → n ≡ area → picture ≡ n → counts ≡ 1025 → patchCounts ≡ patches → eqb unlit (height * 256) ≡ fit
-  unlit-decides n e p q b =
-      simp (eq-eqb picture area (p ∙ e), eq-eqb counts 1025 q, eq-eqb patchCounts patches b)
+  pub unlit-differs : (unlit ≡ height * 256 → ⊥) → false ≡ fit
+  unlit-differs f = simp (ne-eqb unlit (height * 256) f, and-false)
+
+  pub lit-decides :
+      (n : ℕ) → n ≡ area → picture ≡ n → counts ≡ 1025 → patchCounts ≡ patches → unlit ≡ height * 256 → eqb lit (height * 4) ≡ fit
+  lit-decides n e p q b u =
+      simp (eq-eqb picture area (p ∙ e), eq-eqb counts 1025 q, eq-eqb patchCounts patches b, eq-eqb unlit (height * 256) u)
 
 -- the product of two numbers of 16 bits has room in 64
 pub area-fits : {a b : ℕ} → Fits w16 a → Fits w16 b → Fits w64 (a * b)

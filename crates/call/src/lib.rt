@@ -66,8 +66,9 @@ pub fn lengths_fit(
     counts: usize,
     patch_counts: usize,
     unlit: usize,
+    lit: usize,
 ) -> bool
-    ensures { λ r. ⌜ r ≡ lengthsFit (cameraOf camera) patches (record { picture = picture; counts = counts; patchCounts = «patch_counts»; unlit = unlit }) ⌝ }
+    ensures { λ r. ⌜ r ≡ lengthsFit (cameraOf camera) patches (record { picture = picture; counts = counts; patchCounts = «patch_counts»; unlit = unlit; lit = lit }) ⌝ }
 {
     if picture != area(camera.width, camera.height) {
         return false;
@@ -78,7 +79,10 @@ pub fn lengths_fit(
     if patch_counts != patches {
         return false;
     }
-    unlit == (camera.height as usize) * 256
+    if unlit != (camera.height as usize) * 256 {
+        return false;
+    }
+    lit == (camera.height as usize) * 4
 }
 
 // question 12

@@ -38,11 +38,12 @@ fn survey_at(
     counts: &mut [u32],
     patch_counts: &mut [u32],
     unlit: &mut [u16],
+    lit: &mut [u64],
     counter: &mut u32,
 ) -> u32
     ensures { λ r. ⌜ ClosestSurveyed (now (scene .entry)) (stationOf station) (cameraOf camera)
-        (lentOf (now (picture .entry)) (now (counts .entry)) (now («patch_counts» .entry)) (now (unlit .entry)) (now (counter .entry)))
-        (lentOf (now (picture .exit)) (now (counts .exit)) (now («patch_counts» .exit)) (now (unlit .exit)) (now (counter .exit))) r ⌝ }
+        (lentOf (now (picture .entry)) (now (counts .entry)) (now («patch_counts» .entry)) (now (unlit .entry)) (now (lit .entry)) (now (counter .entry)))
+        (lentOf (now (picture .exit)) (now (counts .exit)) (now («patch_counts» .exit)) (now (unlit .exit)) (now (lit .exit)) (now (counter .exit))) r ⌝ }
 {
     match station {
         Station::Units(x, y, z) => ring_survey(
@@ -66,6 +67,7 @@ fn survey_at(
             counts,
             patch_counts,
             unlit,
+            lit,
             counter,
         ),
         Station::Metres(m) => ring_survey_metres(
@@ -89,6 +91,7 @@ fn survey_at(
             counts,
             patch_counts,
             unlit,
+            lit,
             counter,
         ),
     }
@@ -105,18 +108,20 @@ pub fn survey_pair(
     counts1: &mut [u32],
     patch_counts1: &mut [u32],
     unlit1: &mut [u16],
+    lit1: &mut [u64],
     counter1: &mut u32,
     picture2: &mut [u16],
     counts2: &mut [u32],
     patch_counts2: &mut [u32],
     unlit2: &mut [u16],
+    lit2: &mut [u64],
     counter2: &mut u32,
 ) -> Results
     ensures { λ r. ⌜ PairSurveyed (now (first .entry)) (now (second .entry)) (stationOf station1) (stationOf station2) (cameraOf camera)
-        (lentOf (now (picture1 .entry)) (now (counts1 .entry)) (now («patch_counts1» .entry)) (now (unlit1 .entry)) (now (counter1 .entry)))
-        (lentOf (now (picture1 .exit)) (now (counts1 .exit)) (now («patch_counts1» .exit)) (now (unlit1 .exit)) (now (counter1 .exit)))
-        (lentOf (now (picture2 .entry)) (now (counts2 .entry)) (now («patch_counts2» .entry)) (now (unlit2 .entry)) (now (counter2 .entry)))
-        (lentOf (now (picture2 .exit)) (now (counts2 .exit)) (now («patch_counts2» .exit)) (now (unlit2 .exit)) (now (counter2 .exit)))
+        (lentOf (now (picture1 .entry)) (now (counts1 .entry)) (now («patch_counts1» .entry)) (now (unlit1 .entry)) (now (lit1 .entry)) (now (counter1 .entry)))
+        (lentOf (now (picture1 .exit)) (now (counts1 .exit)) (now («patch_counts1» .exit)) (now (unlit1 .exit)) (now (lit1 .exit)) (now (counter1 .exit)))
+        (lentOf (now (picture2 .entry)) (now (counts2 .entry)) (now («patch_counts2» .entry)) (now (unlit2 .entry)) (now (lit2 .entry)) (now (counter2 .entry)))
+        (lentOf (now (picture2 .exit)) (now (counts2 .exit)) (now («patch_counts2» .exit)) (now (unlit2 .exit)) (now (lit2 .exit)) (now (counter2 .exit)))
         (r .first) (r .second) ⌝ }
 {
     let a = survey_at(
@@ -127,6 +132,7 @@ pub fn survey_pair(
         counts1,
         patch_counts1,
         unlit1,
+        lit1,
         counter1,
     );
     let b = survey_at(
@@ -137,6 +143,7 @@ pub fn survey_pair(
         counts2,
         patch_counts2,
         unlit2,
+        lit2,
         counter2,
     );
     Results {

@@ -7,7 +7,7 @@ use Rattle.model.specs.View.{Camera}
 use Rattle.model.specs.Station.{Station, units, eyeOf}
 use Rattle.model.specs.Lent.{Lent, Lengths}
 use Rattle.model.specs.Questions.{surveyAnswer}
-use Rattle.model.specs.Survey.{callPicture, callCounts, callPatchCells, callUnlit, callCounter}
+use Rattle.model.specs.Survey.{callPicture, callCounts, callPatchCells, callUnlit, callLit, callCounter}
 use Rattle.model.proofs.WholeStation.{answer-in-units}
 use Rattle.contract.specs.Contract.{gateCall, callOn, results, leftBy, Surveyed}
 
@@ -33,7 +33,7 @@ pub results-by-eye :
     (bytes : List ℕ) (s s′ : Station) (c : Camera) (lent : Lent) →
     eyeOf s ≡ eyeOf s′ →
     results (callOn bytes s c lent) ≡ results (callOn bytes s′ c lent)
-unfolding callPicture callCounts callPatchCells callUnlit callCounter
+unfolding callPicture callCounts callPatchCells callUnlit callLit callCounter
 results-by-eye bytes s s′ c lent e = λ i. results (callOn bytes (units (e i)) c lent)
 
 -- "The picture is that of the whole-number station", and so is all else: a call that is not answered by 15 is, in its result and in everything lent, a survey from the whole-number

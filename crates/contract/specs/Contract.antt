@@ -8,7 +8,7 @@ use Rattle.model.specs.Station.{Station}
 use Rattle.model.specs.Lent.{Lent, Lengths, lengthsOf}
 use Rattle.model.specs.Call.{Call}
 use Rattle.model.specs.Questions.{surveyAnswer}
-use Rattle.model.specs.Survey.{callPicture, callCounts, callPatchCells, callUnlit, callCounter}
+use Rattle.model.specs.Survey.{callPicture, callCounts, callPatchCells, callUnlit, callLit, callCounter}
 
 -- axes by their three vectors
 abbrev pub axesBy : Vec → Vec → Vec → Axes
@@ -18,13 +18,13 @@ axesBy r f u = record { right = r; forward = f; up = u }
 abbrev pub cameraBy : Axes → ℕ → ℕ → ℕ → Camera
 cameraBy a w h l = record { axes = a; window = record { width = w; height = h; lens = l } }
 
--- the four buffers and the counter
-abbrev pub lentOf : List ℕ → List ℕ → List ℕ → List ℕ → ℕ → Lent
-lentOf p n b u k = record { picture = p; counts = n; patchCounts = b; unlit = u; counter = k }
+-- the five buffers and the counter
+abbrev pub lentOf : List ℕ → List ℕ → List ℕ → List ℕ → List ℕ → ℕ → Lent
+lentOf p n b u m k = record { picture = p; counts = n; patchCounts = b; unlit = u; lit = m; counter = k }
 
--- the lengths of the four buffers
-abbrev pub lengthsBy : ℕ → ℕ → ℕ → ℕ → Lengths
-lengthsBy p n b u = record { picture = p; counts = n; patchCounts = b; unlit = u }
+-- the lengths of the five buffers
+abbrev pub lengthsBy : ℕ → ℕ → ℕ → ℕ → ℕ → Lengths
+lengthsBy p n b u m = record { picture = p; counts = n; patchCounts = b; unlit = u; lit = m }
 
 -- the call on a scene from a station with a camera, with buffers of these lengths and this counter
 abbrev pub gateCall : List ℕ → Station → Camera → Lengths → ℕ → Call
@@ -42,6 +42,7 @@ results c =
       counts = callCounts c;
       patchCounts = callPatchCells c;
       unlit = callUnlit c;
+      lit = callLit c;
       counter = callCounter c;
     }
 

@@ -16,7 +16,7 @@ use Rattle.format.specs.declared.patch.Patch.{Patch}
 use Rattle.format.specs.Layout.{LaidOut, patchNumber, cornerNumber}
 use Rattle.format.specs.Patch.{PatchIs, cornerOf, patchOf}
 use Rattle.model.specs.Bounds.{VecWithin}
-use Rattle.format.proofs.Tables.{length-table}
+use Rattle.model.proofs.Tables.{length-table}
 use Rattle.format.proofs.Decoded.{tablePatch, patch-table, patch-numbered, patch-corners}
 use Rattle.model.proofs.Loops.{IsEvery, every-entry}
 use Rattle.format.proofs.InRange.{corner-within}

@@ -1,13 +1,15 @@
 -- Demands 1, 2 and 3 and two cuttings, from the survey's contract alone.
 use mathlib.Core.Path.{_≡_, sym, _∙_, ap, subst, subst₂}
-use mathlib.Core.Bool.{Bool, not, cond}
+use mathlib.Core.Bool.{Bool, true, not, cond}
 use mathlib.Core.Logic.{_↔_}
 use mathlib.Core.List.{List, [], _∷_, map, sum}
 use Prim.Native.Nat.{ℕ, _+_, _*_, _≤_, _<_}
 use native.Mathlib.Nat.{zero-add, mul-comm}
+use native.Mathlib.Omega.{arith}
+use borrow.Author.Tests.{le-leb}
 use lib.Dec.{T, T-not, eqb}
 use lib.ListN.{length, getD, take, drop, length-map}
-use Rattle.model.specs.Lists.{every, range, occurrences}
+use Rattle.model.specs.Lists.{every, range, tally, occurrences}
 use Rattle.model.specs.Patch.{numbered}
 use Rattle.model.specs.Ray.{closest}
 use Rattle.model.specs.View.{Camera, View, viewWidth, viewHeight}
@@ -16,11 +18,12 @@ use Rattle.model.specs.Beside.{ShownBeside, cellLine}
 use Rattle.model.specs.Lent.{Lent}
 use Rattle.model.specs.Format.{decode}
 use Rattle.model.specs.Row.{rowOf, rowLength}
-use Rattle.model.specs.Picture.{cells, picture, counts, countEntries, unlitLists}
+use Rattle.model.specs.Map.{rowWords, rowBits, litColumn, mapRow, litAt, SameCells, wordsOf, insideMap, litCells, firstOf, firstUnlit}
+use Rattle.model.specs.Picture.{cells, picture, counts, countEntries, unlitLists, litMap}
 use Rattle.model.specs.Accepted.{AcceptedScene}
 use Rattle.model.specs.Questions.{Question, answer, sceneQuestions, callQuestions, questions, surveyAnswer}
 use Rattle.model.specs.Booking.{cellsWhere}
-use Rattle.model.specs.Survey.{callPicture, callCounts, callPatchCells, callUnlit}
+use Rattle.model.specs.Survey.{callPicture, callCounts, callPatchCells, callUnlit, callLit}
 use Rattle.model.specs.Removal.{kept, TakenAway}
 use Rattle.model.proofs.Tests.{both}
 use Rattle.model.proofs.Ranges.{range-length, rows-part, rows-length, in-range}
@@ -34,14 +37,17 @@ use Rattle.model.proofs.Pictures.{picture-length, picture-at, picture-total}
 use Rattle.model.proofs.Booked.{booked-some, booked-once, booked-panel}
 use Rattle.model.proofs.PanelSums.{patch-entries, patch-entry, panel-sum}
 use Rattle.model.proofs.Removal.{pictures-counts, cell-differs, cell-shows}
+use Rattle.model.proofs.LitMap.{map-length, map-bit, map-congr, map-tally, map-first}
+use Rattle.model.proofs.CallLimits.{view-bounded}
 use Rattle.segments.proofs.Rows.{row-length, row-congr}
+use Rattle.segments.proofs.Mapped.{same-of-set}
 use Rattle.contract.proofs.Refusal.{left-old}
 use Rattle.contract.proofs.SameStation.{results-by-eye}
 use Rattle.model.proofs.PanelNumbers.{panel-bounded}
 use Rattle.contract.specs.Contract.{callOn, results, leftBy, Surveyed}
 use Rattle.coverage.specs.Coverage.{SameCover}
 use Rattle.coverage.proofs.Agreement.{same-cells}
-use Rattle.demands.specs.Demands.{patchesIn, cell, patchHas, RefusesRightly, ClosestPanels, ClosestSurveyed, ChosenTakenAway, DemandThree, SameSurvey, TwoCuttings, PairSurveyed}
+use Rattle.demands.specs.Demands.{patchesIn, listOf, cell, patchHas, RefusesRightly, ClosestPanels, ClosestSurveyed, ChosenTakenAway, DemandThree, SameSurvey, TwoCuttings, PairSurveyed}
 
 -- an accepted call leaves the results
 pub accepted-leaves :
@@ -106,16 +112,54 @@ module _ (bytes : List ℕ) (s : Station) (c : Camera) (before : Lent) (accepted
   abbrev cellRow : ℕ → List ℕ
   cellRow j = rowOf (viewWidth v) (λ (i : ℕ). eqb (closest (v .eye) (cellLine (v .camera) i j) (patchesIn bytes)) 0)
 
+  -- the columns of row j that show no panel
+  abbrev noneAt : ℕ → ℕ → Bool
+  noneAt j i = eqb (cell v (callPicture (callOn bytes s c before)) i j) 0
+
   unlit-row :
       (j : ℕ) → j < viewHeight v →
-      take rowLength (drop (j * rowLength) (callUnlit (callOn bytes s c before)))
-      ≡ rowOf (viewWidth v) (λ (i : ℕ). eqb (cell v (callPicture (callOn bytes s c before)) i j) 0)
+      listOf (callUnlit (callOn bytes s c before)) j ≡ rowOf (viewWidth v) (noneAt j)
   unfolding callUnlit unlitLists callPicture
   unlit-row j h =
       rows-part rowLength cellRow (λ k. row-length (viewWidth v) _) 0 (viewHeight v) j h
       ∙ ap cellRow (zero-add j)
       ∙ row-congr (viewWidth v) _ _
       (λ i k. ap (λ (n : ℕ). eqb n 0) (sym (at i j k h)))
+
+  -- ---- the map
+
+  abbrev mapOf : ℕ → List ℕ
+  mapOf j = mapRow (viewWidth v) (λ (i : ℕ). eqb (closest (v .eye) (cellLine (v .camera) i j) (patchesIn bytes)) 0)
+
+  map-count : length (callLit (callOn bytes s c before)) ≡ viewHeight v * rowWords
+  unfolding callLit litMap
+  map-count = rows-length rowWords mapOf (λ k. map-length (viewWidth v) _) 0 (viewHeight v) ∙ mul-comm rowWords (viewHeight v)
+
+  narrow : viewWidth v ≤ rowBits
+  narrow = view-bounded v (accepted .view) .narrow
+
+  module _ (j : ℕ) (h : j < viewHeight v) where
+    map-row : wordsOf (callLit (callOn bytes s c before)) j ≡ mapRow (viewWidth v) (noneAt j)
+    unfolding callLit litMap callPicture
+    map-row =
+        ap (λ (n : ℕ). take rowWords (drop n (litMap (viewWidth v) (viewHeight v) (λ (i j : ℕ). closest (v .eye) (cellLine (v .camera) i j) (patchesIn bytes))))) (mul-comm rowWords j)
+        ∙ rows-part rowWords mapOf (λ k. map-length (viewWidth v) _) 0 (viewHeight v) j h
+        ∙ ap mapOf (zero-add j)
+        ∙ map-congr (viewWidth v) _ _ (λ i k. ap (λ (n : ℕ). eqb n 0) (sym (at i j k h)))
+
+    map-same : SameCells (viewWidth v) (listOf (callUnlit (callOn bytes s c before)) j) (wordsOf (callLit (callOn bytes s c before)) j)
+    map-same = rw (unlit-row j h, map-row) (same-of-set (viewWidth v) narrow (noneAt j))
+
+    map-inside : insideMap (callLit (callOn bytes s c before)) j ≡ true
+    map-inside = le-leb (rowWords * (j + 1)) (length (callLit (callOn bytes s c before))) (omega (arith, map-count))
+
+    lit-in-row : litCells (callLit (callOn bytes s c before)) j ≡ tally (λ (i : ℕ). not (noneAt j i)) (range 0 (viewWidth v))
+    unfolding litCells
+    lit-in-row = rw (map-inside, map-row) (map-tally (viewWidth v) narrow (noneAt j))
+
+    first-in-row : firstUnlit (callLit (callOn bytes s c before)) (viewWidth v) j ≡ firstOf (noneAt j) 0 (viewWidth v)
+    unfolding firstUnlit
+    first-in-row = rw (map-inside, map-row) (map-first (viewWidth v) narrow (noneAt j))
 
   -- the cells of patch k, and its entry in the table; and such a number where the patch is of panel n
   abbrev cellsOf : ℕ → ℕ
@@ -144,7 +188,7 @@ module _ (bytes : List ℕ) (s : Station) (c : Camera) (before : Lent) (accepted
       (sym (entry k (rw zero-add at (in-range 0 (length (patchesIn bytes)) k .0 m .1)))))
 
   results-closest : ClosestPanels bytes v (results (callOn bytes s c before))
-  unfolding callPicture callCounts callPatchCells callUnlit unlitLists counts
+  unfolding callPicture callCounts callPatchCells callUnlit callLit unlitLists counts
   results-closest =
       record {
         cells =
@@ -173,6 +217,11 @@ module _ (bytes : List ℕ) (s : Station) (c : Camera) (before : Lent) (accepted
         panelSum = λ n one h. counts-at (callPicture (callOn bytes s c before)) n h ∙ entries-sum n one;
         rows = unlit-row;
         rowCount = rows-length rowLength cellRow (λ k. row-length (viewWidth v) _) 0 (viewHeight v) ∙ mul-comm rowLength (viewHeight v);
+        lit = λ i j h k. ap (λ (words : List ℕ). litAt words i) (map-row j k) ∙ map-bit (viewWidth v) (noneAt j) i h;
+        wordCount = map-count;
+        same = map-same;
+        litInRow = lit-in-row;
+        firstInRow = first-in-row;
       }
 
 module _
@@ -216,9 +265,9 @@ module _
     (second-accepted : AcceptedScene secondBytes)
     (same : SameCover (patchesIn firstBytes) (patchesIn secondBytes))
   where
-    -- all three go by what the cells show
+    -- all four go by what the cells show
     same-survey : SameSurvey (results (callOn firstBytes s c before₁)) (results (callOn secondBytes s c before₂))
-    unfolding callPicture callCounts callUnlit picture
+    unfolding callPicture callCounts callUnlit callLit picture
     same-survey =
         let v = viewAt s c in
         let shown =
@@ -227,6 +276,7 @@ module _
           pictures = ap (cells (viewWidth v) (viewHeight v)) shown;
           panelCounts = ap (λ (f : ℕ → ℕ → ℕ). counts (cells (viewWidth v) (viewHeight v) f)) shown;
           unlitLists = ap (unlitLists (viewWidth v) (viewHeight v)) shown;
+          litMaps = ap (litMap (viewWidth v) (viewHeight v)) shown;
         }
 
 -- Demand 2.

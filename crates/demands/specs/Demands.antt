@@ -1,12 +1,12 @@
 -- Demands 1 to 3, and two cuttings of one ring (document 02, F-5), as statements about calls.
 use mathlib.Core.Path.{_≡_}
-use mathlib.Core.Bool.{Bool, cond}
+use mathlib.Core.Bool.{Bool, not, cond}
 use mathlib.Core.Logic.{_↔_}
 use mathlib.Core.List.{List, map, sum}
 use Prim.Native.Nat.{ℕ, _+_, _*_, _≤_, _<_}
 use lib.Dec.{T, eqb}
 use lib.ListN.{length, getD, take, drop}
-use Rattle.model.specs.Lists.{every, range, occurrences}
+use Rattle.model.specs.Lists.{every, range, tally, occurrences}
 use Rattle.model.specs.Patch.{Patch, numbered}
 use Rattle.model.specs.View.{Camera, View, viewWidth, viewHeight}
 use Rattle.model.specs.Station.{Station, eyeOf, viewAt}
@@ -14,6 +14,7 @@ use Rattle.model.specs.Beside.{ShownBeside, HasBeside, cellLine}
 use Rattle.model.specs.Lent.{Lent}
 use Rattle.model.specs.Format.{decode, patchTable}
 use Rattle.model.specs.Row.{rowOf, rowLength}
+use Rattle.model.specs.Map.{rowWords, rowBits, litColumn, litAt, SameCells, wordsOf, litCells, firstOf, firstUnlit}
 use Rattle.model.specs.Picture.{countEntries}
 use Rattle.model.specs.Booking.{hasCell, cellsWhere}
 use Rattle.model.specs.Call.{Call}
@@ -25,6 +26,10 @@ use Rattle.coverage.specs.Coverage.{SameCover}
 -- the patches of a scene
 abbrev pub patchesIn : List ℕ → List Patch
 patchesIn bytes = patchTable (decode bytes)
+
+-- row j's part of the unlit lists
+abbrev pub listOf : List ℕ → ℕ → List ℕ
+listOf unlit j = take rowLength (drop (j * rowLength) unlit)
 
 -- cell (i, j) of a view's picture
 abbrev pub cell : View → List ℕ → ℕ → ℕ → ℕ
@@ -48,7 +53,8 @@ pub record RefusesRightly (bytes : List ℕ) (s : Station) (c : Camera) (before 
 -- rows of the cells that hold 0. Document 02, F-2: "A further lent table (u32, one entry a patch) receives each patch's cells. A panel's count is the sum over its
 -- patches." No cell is booked to two patches, the patch that has a cell is of the panel that the cell shows, and each cell that shows a panel is some patch's. Whose it is: "Where two patches
 -- of one panel overlap in a plane, the earlier in the list has the cell." F-3: what is met and what is closest is read by the lines just beside the cell's sight line, and one
--- number alone is what they show.
+-- number alone is what they show. F-8: "bit i mod 64 of word i / 64 set when column i is lit. Columns beyond the width stay clear." Map and lists describe the same cells, and the two answers on a
+-- row are those of its cells.
 pub record ClosestPanels (bytes : List ℕ) (v : View) (after : Lent) : Type 0 where
   pub cells :
       (i j : ℕ) → i < viewWidth v → j < viewHeight v →
@@ -82,9 +88,19 @@ pub record ClosestPanels (bytes : List ℕ) (v : View) (after : Lent) : Type 0 w
       (range 0 (length (patchesIn bytes))))
   pub rows :
       (j : ℕ) → j < viewHeight v →
-      take rowLength (drop (j * rowLength) (after .unlit))
-      ≡ rowOf (viewWidth v) (λ (i : ℕ). eqb (cell v (after .picture) i j) 0)
+      listOf (after .unlit) j ≡ rowOf (viewWidth v) (λ (i : ℕ). eqb (cell v (after .picture) i j) 0)
   pub rowCount : length (after .unlit) ≡ viewHeight v * rowLength
+  pub lit :
+      (i j : ℕ) → i < rowBits → j < viewHeight v →
+      litAt (wordsOf (after .lit) j) i ≡ litColumn (viewWidth v) (λ (k : ℕ). eqb (cell v (after .picture) k j) 0) i
+  pub wordCount : length (after .lit) ≡ viewHeight v * rowWords
+  pub same : (j : ℕ) → j < viewHeight v → SameCells (viewWidth v) (listOf (after .unlit) j) (wordsOf (after .lit) j)
+  pub litInRow :
+      (j : ℕ) → j < viewHeight v →
+      litCells (after .lit) j ≡ tally (λ (i : ℕ). not (eqb (cell v (after .picture) i j) 0)) (range 0 (viewWidth v))
+  pub firstInRow :
+      (j : ℕ) → j < viewHeight v →
+      firstUnlit (after .lit) (viewWidth v) j ≡ firstOf (λ (i : ℕ). eqb (cell v (after .picture) i j) 0) 0 (viewWidth v)
 
 -- All that the survey call promises: its equations, and demand 2 of every accepted call.
 pub record ClosestSurveyed (bytes : List ℕ) (s : Station) (c : Camera) (before after : Lent) (result : ℕ) : Type 0 where
@@ -118,12 +134,13 @@ DemandThree firstBytes secondBytes s₁ s₂ c first second firstResult secondRe
     TakenAway chosen (patchesIn firstBytes) (patchesIn secondBytes) →
     ChosenTakenAway firstBytes chosen (viewAt s₁ c) first second
 
--- Document 02, F-5, of two accepted calls with one view: "their pictures and panel counts must agree". The unlit lists go by the picture, so they agree too. "Patch
+-- Document 02, F-5, of two accepted calls with one view: "their pictures and panel counts must agree". The unlit lists and the lit map go by the picture, so they agree too. "Patch
 -- counts may differ": nothing is said of them, nor of the counters, which may have been different before.
 pub record SameSurvey (first second : Lent) : Type 0 where
   pub pictures : first .picture ≡ second .picture
   pub panelCounts : first .counts ≡ second .counts
   pub unlitLists : first .unlit ≡ second .unlit
+  pub litMaps : first .lit ≡ second .lit
 
 -- F-5: "Take two accepted scenes where each panel covers the same points of space, its pieces' edges and corners counted in, whatever its pieces. .. From every
 -- accepted view their pictures and panel counts must agree, by the joint rule of F-3." The two calls, with one camera, stand beside it below, and their stations have one eye; the

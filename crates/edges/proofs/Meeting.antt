@@ -25,7 +25,7 @@ use Rattle.geometry.specs.declared.EdgeFunction.{EdgeFunction}
 use Rattle.geometry.specs.Machine.{vecOf}
 use Rattle.geometry.specs.Raster.{rayAt, lineAt, countsIn, seenBy, FunctionBounded}
 use Rattle.geometry.proofs.CountsIn.{weighted-start}
-use Rattle.format.proofs.Tables.{length-table}
+use Rattle.model.proofs.Tables.{length-table}
 use Rattle.tables.specs.Functions.{functionAt, functionsIn}
 use Rattle.spans.specs.Row.{numberIn, allAbove}
 use Rattle.edges.specs.declared.Sight.{Sight}

@@ -20,7 +20,7 @@ use Rattle.model.specs.Patch.{Patch, round, firstEdge, edges}
 use Rattle.model.specs.Ray.{eyeProduct, edgeVector}
 use Rattle.geometry.specs.declared.Vector.{Vector}
 use Rattle.geometry.specs.Machine.{vecOf, planeOf, NumberIs}
-use Rattle.format.proofs.Tables.{table-at}
+use Rattle.model.proofs.Tables.{table-at}
 use Rattle.edges.specs.Edges.{EyeSign, orientedEdges, nextCorner}
 use Rattle.edges.proofs.Orientation.{sign-within}
 

@@ -23,7 +23,7 @@ use Rattle.format.specs.declared.layout.Layout.{Layout}
 use Rattle.format.specs.declared.records.Run as machine
 use Rattle.format.specs.Machine.{runOf}
 use Rattle.format.specs.Layout.{patchNumber, cornerNumber}
-use Rattle.format.proofs.Tables.{length-table, same-table}
+use Rattle.model.proofs.Tables.{length-table, same-table}
 use Rattle.model.proofs.Runs.{runEnd, runs-in-turn}
 use Rattle.checked.specs.Checked.{Checked, CornersAre}
 use Rattle.checked.proofs.Corners.{corner-is}

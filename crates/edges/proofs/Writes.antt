@@ -15,7 +15,7 @@ use Rattle.geometry.specs.declared.Raster.{Raster}
 use Rattle.geometry.specs.declared.EdgeFunction.{EdgeFunction}
 use Rattle.geometry.specs.Machine.{vecOf}
 use Rattle.geometry.specs.Raster.{seenBy, FunctionIs}
-use Rattle.format.proofs.Tables.{same-table}
+use Rattle.model.proofs.Tables.{same-table}
 use Rattle.tables.specs.Stored.{Stored}
 use Rattle.tables.specs.Functions.{functionAt}
 use Rattle.edges.specs.declared.Sight.{Sight}

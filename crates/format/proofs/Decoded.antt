@@ -9,7 +9,7 @@ use Rattle.model.specs.Patch.{Patch}
 use Rattle.model.specs.Format.{NodeRecord, PatchRecord, decode, inRun, patchOf, patchTable, patchNumbered}
 use Rattle.format.specs.declared.layout.Layout.{Layout}
 use Rattle.format.specs.Layout.{LaidOut, Inside, nodeNumber, patchNumber, cornerNumber}
-use Rattle.format.proofs.Tables.{length-table, table-at, run-of-table}
+use Rattle.model.proofs.Tables.{length-table, table-at, run-of-table}
 
 -- the patch of a record, its corners read from the corner table
 abbrev pub tablePatch : List ℕ → Layout → PatchRecord → Patch

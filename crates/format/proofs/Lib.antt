@@ -1,5 +1,4 @@
 -- Laws of the byte format.
-pub mod Tables
 pub mod Decoded
 mod Made
 pub mod Sections

@@ -19,7 +19,7 @@ use Rattle.format.specs.Layout.{LaidOut, RunsInside, Inside, cornersStar
 use Rattle.format.specs.Patch.{CoordinatesFrom, PatchIs, patchFrom, cornerOf}
 use Rattle.format.proofs.Made.{vec-made}
 use Rattle.model.specs.Lists.{range}
-use Rattle.format.proofs.Tables.{same-table}
+use Rattle.model.proofs.Tables.{same-table}
 use Rattle.format.proofs.Decoded.{tablePatch, patch-numbered, patch-corners}
 
 -- while an axis is read: the first k places are filled

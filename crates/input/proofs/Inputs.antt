@@ -36,8 +36,8 @@ rest n xs = ap (λ (k : ℕ). take k (drop n xs)) (sym (length-drop n xs)) ∙ t
 
 -- a survey with the numbers that stand in the input is the one that the input asks for
 pub surveyed-input :
-    (input : List ℕ) {bytes picture counts booked unlit : List ℕ} {eye : Vec} {w h l r : ℕ} {after : Lent} →
-    Surveyed bytes (units eye) (cameraBy levelAxes w h l) (lentOf picture counts booked unlit 0) after r →
+    (input : List ℕ) {bytes picture counts booked unlit lit : List ℕ} {eye : Vec} {w h l r : ℕ} {after : Lent} →
+    Surveyed bytes (units eye) (cameraBy levelAxes w h l) (lentOf picture counts booked unlit lit 0) after r →
     bytes ≡ drop 12 input →
     eye ≡ vec (i16At input 0) (i16At input 2) (i16At input 4) →
     w ≡ u16At input 6 →
@@ -46,18 +46,19 @@ pub surveyed-input :
     length picture ≡ min (w * h) 32768 →
     (sceneAnswer bytes ≡ 0 → length booked ≡ length (decode bytes .patches)) →
     length unlit ≡ min (h * 256) 32768 →
+    length lit ≡ min (h * 4) 512 →
     (r ≡ surveyAnswer (inputCall input (length counts))) × (after .counts ≡ inputCounts input counts)
 unfolding inputCall inputCounts callCounts callPicture
-surveyed-input input {bytes} {picture} {counts} {booked} {unlit} {eye} {w} {h} {l} s scene eyes width height lens cells told rows =
-    let lent : ℕ → ℕ → ℕ → Call = lending bytes eye w h l (length counts) in
-    let call : Call = lent (length picture) (length booked) (length unlit) in
+surveyed-input input {bytes} {picture} {counts} {booked} {unlit} {lit} {eye} {w} {h} {l} s scene eyes width height lens cells told rows words =
+    let lent : ℕ → ℕ → ℕ → ℕ → Call = lending bytes eye w h l (length counts) in
+    let call : Call = lent (length picture) (length booked) (length unlit) (length lit) in
     let same : asked bytes eye w h l (length counts) ≡ inputCall input (length counts) =
     λ i. asked (scene i) (eyes i) (width i) (height i) (lens i) (length counts) in
     let answered : surveyAnswer call ≡ surveyAnswer (asked bytes eye w h l (length counts)) =
-    (λ i. surveyAnswer (lent (cells i) (length booked) (rows i))) ∙ capped-answer bytes eye w h l (length counts) (length booked) told in (
+    (λ i. surveyAnswer (lent (cells i) (length booked) (rows i) (words i))) ∙ capped-answer bytes eye w h l (length counts) (length booked) told in (
       s .answered ∙ answered ∙ ap surveyAnswer same,
       ap (λ (x : Lent). x .counts) (s .left)
-          ∙ counts-left (surveyAnswer call) (results call) (lentOf picture counts booked unlit 0)
+          ∙ counts-left (surveyAnswer call) (results call) (lentOf picture counts booked unlit lit 0)
           ∙ ap (λ (n : ℕ). countsBy n (callCounts call) counts) answered
           ∙ ap (λ (c : Call). countsBy (surveyAnswer c) (callCounts c) counts) same,
     )

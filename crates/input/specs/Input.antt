@@ -7,19 +7,20 @@ use Rattle.model.specs.View.{levelAxes}
 use Rattle.model.specs.Station.{units}
 use Rattle.model.specs.Format.{u16At, i16At, decode}
 use Rattle.model.specs.Row.{rowLength}
+use Rattle.model.specs.Map.{rowWords}
 use Rattle.model.specs.Call.{Call}
 use Rattle.model.specs.Questions.{surveyAnswer}
 use Rattle.model.specs.Survey.{callCounts}
 use Rattle.contract.specs.Contract.{cameraBy, lengthsBy, gateCall}
 
--- Document 02, F-1, of the old view: "`ringbill` keeps it". The picture, the table of the patches' cells and the unlit lists are as long as question 11 asks. The
+-- Document 02, F-1, of the old view: "`ringbill` keeps it". The picture, the table of the patches' cells, the unlit lists and the lit map are as long as question 11 asks. The
 -- station counter is 0.
 unfoldable pub inputCall : List ℕ → ℕ → Call
 inputCall input entries =
     gateCall (drop 12 input)
     (units (vec (i16At input 0) (i16At input 2) (i16At input 4)))
     (cameraBy levelAxes (u16At input 6) (u16At input 8) (u16At input 10))
-    (lengthsBy (u16At input 6 * u16At input 8) entries (length (decode (drop 12 input) .patches)) (u16At input 8 * rowLength))
+    (lengthsBy (u16At input 6 * u16At input 8) entries (length (decode (drop 12 input) .patches)) (u16At input 8 * rowLength) (u16At input 8 * rowWords))
     0
 
 -- the new counts where the answer is 0, and the old ones where it is a refusal

@@ -55,6 +55,13 @@ fn table() -> [u32; 1024]
     [0; 1024]
 }
 
+// Room for the lit map of the most rows.
+fn map() -> [u64; 512]
+    ensures { λ r. ⌜ 512 ≡ length r ⌝ }
+{
+    [0; 512]
+}
+
 // The survey of an input of an eye, a window and a scene, seen by a level camera, with the station counter at 0: the answer, and the counts.
 pub fn survey_input(input: &[u8], counts: &mut [u32]) -> u32
     requires { ⌜ 12 ≤ length (now input) ⌝ }
@@ -67,10 +74,12 @@ pub fn survey_input(input: &[u8], counts: &mut [u32]) -> u32
     let mut picture = buffer();
     let mut patch_counts = table();
     let mut unlit = buffer();
+    let mut lit = map();
     let mut counter = 0u32;
     let cells = capped(area(width, height), 32768);
     let patches = patches_told(&input[12..]);
     let rows = capped(area(height, 256), 32768);
+    let words = capped(area(height, 4), 512);
     survey::units::ring_survey(
         &input[12..],
         i16_at(input, 0),
@@ -92,6 +101,7 @@ pub fn survey_input(input: &[u8], counts: &mut [u32]) -> u32
         counts,
         &mut patch_counts[..patches],
         &mut unlit[..rows],
+        &mut lit[..words],
         &mut counter,
     )
 }

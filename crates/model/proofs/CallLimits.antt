@@ -9,6 +9,7 @@ use Rattle.model.specs.Vector.{dot, cross}
 use Rattle.model.specs.View.{Axes, Camera, View, viewWidth, viewHeight}
 use Rattle.model.specs.Lent.{Lengths}
 use Rattle.model.specs.Row.{rowLength}
+use Rattle.model.specs.Map.{rowWords}
 use Rattle.model.specs.Picture.{countEntries}
 use Rattle.model.specs.Questions.{within, partsUpTo, pointInRange, viewInRange, axesProper, lengthsFit}
 use Rattle.model.proofs.Tests.{both}
@@ -73,6 +74,7 @@ pub record LengthsRight (a : Camera) (patches : ℕ) (l : Lengths) : Type 0 wher
   pub entries : l .counts ≡ countEntries
   pub booked : l .patchCounts ≡ patches
   pub rows : l .unlit ≡ a .window .height * rowLength
+  pub words : l .lit ≡ a .window .height * rowWords
 
 pub lengths-right : (a : Camera) (patches : ℕ) (l : Lengths) → T (lengthsFit a patches l) → LengthsRight a patches l
 unfolding lengthsFit
@@ -81,7 +83,9 @@ lengths-right a patches l t =
     let c : Bool = eqb (l .picture) (w .width * w .height) in
     let n : Bool = eqb (l .counts) countEntries in
     let b : Bool = eqb (l .patchCounts) patches in
-    let p = both (c && n && b) (eqb (l .unlit) (w .height * rowLength)) .0 t in
+    let u : Bool = eqb (l .unlit) (w .height * rowLength) in
+    let m = both (c && n && b && u) (eqb (l .lit) (w .height * rowWords)) .0 t in
+    let p = both (c && n && b) u .0 (m .0) in
     let q = both (c && n) b .0 (p .0) in
     let r = both c n .0 (q .0) in
     record {
@@ -89,4 +93,5 @@ lengths-right a patches l t =
       entries = eqb→eq (l .counts) countEntries (r .1);
       booked = eqb→eq (l .patchCounts) patches (q .1);
       rows = eqb→eq (l .unlit) (w .height * rowLength) (p .1);
+      words = eqb→eq (l .lit) (w .height * rowWords) (m .1);
     }

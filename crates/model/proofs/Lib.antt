@@ -36,9 +36,13 @@ pub mod FirstMet
 pub mod Visibility
 -- pictures, counts, and chosen panels taken away
 pub mod Ranges
+pub mod Tables
 pub mod Runs
 pub mod Totals
 pub mod Cells
+-- the lit map
+pub mod Bits
+pub mod LitMap
 pub mod Counts
 pub mod Pictures
 pub mod Kept

@@ -167,8 +167,8 @@ axesLimits =
 abbrev fourByThree : Camera
 fourByThree = record { axes = levelAxes; window = record { width = 4; height = 3; lens = 4 } }
 
-abbrev lengths : ℕ → ℕ → ℕ → ℕ → Lengths
-lengths p n b u = record { picture = p; counts = n; patchCounts = b; unlit = u }
+abbrev lengths : ℕ → ℕ → ℕ → ℕ → ℕ → Lengths
+lengths p n b u m = record { picture = p; counts = n; patchCounts = b; unlit = u; lit = m }
 
 abbrev callLimits : List Limit
 callLimits =
@@ -177,12 +177,13 @@ callLimits =
     ∷ limit (λ n. viewInRange (callView (fittingCall [] origin n 4 4))) (1 ∷ 256 ∷ []) (0 ∷ 257 ∷ [])
     ∷ limit (λ n. viewInRange (callView (fittingCall [] origin 4 n 4))) (1 ∷ 128 ∷ []) (0 ∷ 129 ∷ [])
     ∷ limit (λ n. viewInRange (callView (fittingCall [] origin 4 4 n))) (1 ∷ 4096 ∷ []) (0 ∷ 4097 ∷ [])
-    ∷ limit (λ n. lengthsFit fourByThree 5 (lengths n 1025 5 768)) (12 ∷ []) (11 ∷ 13 ∷ [])
-    ∷ limit (λ n. lengthsFit fourByThree 5 (lengths 12 n 5 768)) (1025 ∷ []) (1024 ∷ 1026 ∷ [])
-    ∷ limit (λ n. lengthsFit fourByThree 5 (lengths 12 1025 n 768)) (5 ∷ []) (4 ∷ 6 ∷ [])
+    ∷ limit (λ n. lengthsFit fourByThree 5 (lengths n 1025 5 768 12)) (12 ∷ []) (11 ∷ 13 ∷ [])
+    ∷ limit (λ n. lengthsFit fourByThree 5 (lengths 12 n 5 768 12)) (1025 ∷ []) (1024 ∷ 1026 ∷ [])
+    ∷ limit (λ n. lengthsFit fourByThree 5 (lengths 12 1025 n 768 12)) (5 ∷ []) (4 ∷ 6 ∷ [])
     -- a scene without patches has a table without entries
-    ∷ limit (λ n. lengthsFit fourByThree 0 (lengths 12 1025 n 768)) (0 ∷ []) (1 ∷ [])
-    ∷ limit (λ n. lengthsFit fourByThree 5 (lengths 12 1025 5 n)) (768 ∷ []) (767 ∷ 769 ∷ [])
+    ∷ limit (λ n. lengthsFit fourByThree 0 (lengths 12 1025 n 768 12)) (0 ∷ []) (1 ∷ [])
+    ∷ limit (λ n. lengthsFit fourByThree 5 (lengths 12 1025 5 n 12)) (768 ∷ []) (767 ∷ 769 ∷ [])
+    ∷ limit (λ n. lengthsFit fourByThree 5 (lengths 12 1025 5 768 n)) (12 ∷ []) (11 ∷ 13 ∷ [])
     ∷ limit counterBelowEnd (0 ∷ 4294967294 ∷ []) (4294967295 ∷ [])
     ∷ []
 

@@ -163,7 +163,7 @@ stationCall s a bytes w h l =
       scene = bytes;
       station = s;
       camera = record { axes = a; window = record { width = w; height = h; lens = l } };
-      lengths = record { picture = w * h; counts = 1025; patchCounts = length (decode bytes .patches); unlit = h * 256 };
+      lengths = record { picture = w * h; counts = 1025; patchCounts = length (decode bytes .patches); unlit = h * 256; lit = h * 4 };
       counter = 0;
     }
 

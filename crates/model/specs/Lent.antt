@@ -9,6 +9,7 @@ pub record Lent : Type 0 where
   pub counts : List ℕ
   pub patchCounts : List ℕ
   pub unlit : List ℕ
+  pub lit : List ℕ
   pub counter : ℕ
 
 -- the lengths of the lent buffers
@@ -17,6 +18,7 @@ pub record Lengths : Type 0 where
   pub counts : ℕ
   pub patchCounts : ℕ
   pub unlit : ℕ
+  pub lit : ℕ
 
 -- those of what is lent
 abbrev pub lengthsOf : Lent → Lengths
@@ -26,4 +28,5 @@ lengthsOf l =
       counts = length (l .counts);
       patchCounts = length (l .patchCounts);
       unlit = length (l .unlit);
+      lit = length (l .lit);
     }

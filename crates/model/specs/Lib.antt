@@ -13,6 +13,7 @@ pub mod Beside
 pub mod Lent
 pub mod Call
 pub mod Row
+pub mod Map
 pub mod Picture
 pub mod Questions
 pub mod Accepted

@@ -1,4 +1,4 @@
--- The picture, the counts, the unlit lists and the counter that an accepted call leaves, from the closest panels alone: for a width, a height and any direction of each cell.
+-- The picture, the counts, the unlit lists, the lit map and the counter that an accepted call leaves, from the closest panels alone: for a width, a height and any direction of each cell.
 use mathlib.Core.List.{List, map, flatten}
 use Prim.Native.Nat.{ℕ, _+_}
 use lib.Dec.{eqb}
@@ -8,6 +8,7 @@ use Rattle.model.specs.Patch.{Patch}
 use Rattle.model.specs.Ray.{closest}
 use Rattle.model.specs.Format.{highestPanel}
 use Rattle.model.specs.Row.{rowOf}
+use Rattle.model.specs.Map.{mapRow}
 
 -- all cells' values, row after row from the top, each from the left: cell (i, j) stands at j × width + i
 unfoldable pub cells : ℕ → ℕ → (ℕ → ℕ → ℕ) → List ℕ
@@ -33,6 +34,11 @@ counts cellValues = map (λ (n : ℕ). occurrences n cellValues) (range 0 countE
 unfoldable pub unlitLists : ℕ → ℕ → (ℕ → ℕ → ℕ) → List ℕ
 unlitLists width height value =
     flatten (map (λ (j : ℕ). rowOf width (λ (i : ℕ). eqb (value i j) 0)) (range 0 height))
+
+-- the lit map: for each row the words of its cells that do not hold 0
+unfoldable pub litMap : ℕ → ℕ → (ℕ → ℕ → ℕ) → List ℕ
+litMap width height value =
+    flatten (map (λ (j : ℕ). mapRow width (λ (i : ℕ). eqb (value i j) 0)) (range 0 height))
 
 -- "It rises by one with each accepted picture."
 abbrev pub nextCounter : ℕ → ℕ

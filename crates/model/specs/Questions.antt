@@ -17,6 +17,7 @@ use Rattle.model.specs.Station.{Station, units, metres, wholeUnits}
 use Rattle.model.specs.Lent.{Lengths}
 use Rattle.model.specs.Call.{Call, callView}
 use Rattle.model.specs.Row.{rowLength}
+use Rattle.model.specs.Map.{rowWords}
 use Rattle.model.specs.Picture.{countEntries}
 
 -- a question has its number and its test
@@ -211,13 +212,14 @@ axesProper a =
     && ltZ (pos 0) (dot (a .right) (cross (a .forward) (a .up)))
 
 -- 11. "Has the picture (u16) width × height cells, the counts (u32) 1,025, the unlit lists (u16) height × 256?" Document 02, F-2: "A further lent table (u32, one
--- entry a patch)"; "Question 11 covers the new table's length." `patches` is the scene's patch count; the scene has passed 1 to 9 by then.
+-- entry a patch)"; "Question 11 covers the new table's length." F-8: "Question 11 covers the map's length." `patches` is the scene's patch count; the scene has passed 1 to 9 by then.
 unfoldable pub lengthsFit : Camera → ℕ → Lengths → Bool
 lengthsFit c patches l =
     eqb (l .picture) (c .window .width * c .window .height)
     && eqb (l .counts) countEntries
     && eqb (l .patchCounts) patches
     && eqb (l .unlit) (c .window .height * rowLength)
+    && eqb (l .lit) (c .window .height * rowWords)
 
 -- 12. "Is the station counter below 4,294,967,295?"
 unfoldable pub counterBelowEnd : ℕ → Bool

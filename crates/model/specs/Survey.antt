@@ -3,7 +3,7 @@ use mathlib.Core.List.{List}
 use Prim.Native.Nat.{ℕ}
 use Rattle.model.specs.Patch.{Patch}
 use Rattle.model.specs.Format.{decode, patchTable}
-use Rattle.model.specs.Picture.{picture, cellPanel, counts, unlitLists, nextCounter}
+use Rattle.model.specs.Picture.{picture, cellPanel, counts, unlitLists, litMap, nextCounter}
 use Rattle.model.specs.Booking.{patchCells}
 use Rattle.model.specs.Station.{eyeOf}
 use Rattle.model.specs.Call.{Call, callLine}
@@ -25,6 +25,10 @@ callPatchCells c =
 unfoldable pub callUnlit : Call → List ℕ
 callUnlit c =
     unlitLists (c .camera .window .width) (c .camera .window .height) (cellPanel (eyeOf (c .station)) (callLine c) (callPatches c))
+
+unfoldable pub callLit : Call → List ℕ
+callLit c =
+    litMap (c .camera .window .width) (c .camera .window .height) (cellPanel (eyeOf (c .station)) (callLine c) (callPatches c))
 
 unfoldable pub callCounter : Call → ℕ
 callCounter c = nextCounter (c .counter)

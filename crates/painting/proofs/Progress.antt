@@ -25,30 +25,32 @@ use Rattle.placing.proofs.RowsBooked.{all-zero, book-start}
 use Rattle.readiness.proofs.ReadyWalk.{ready-none}
 
 pub record Progress
-    (bytes : List ℕ) (l : Layout) (s : Sight) (order : List ℕ) (edges edges′ : List ℤ) (rows rows′ picture picture′ unlit unlit′ booked booked′ : List ℕ) (ready from : ℕ) : Type 0 where
+    (bytes : List ℕ) (l : Layout) (s : Sight) (order : List ℕ) (edges edges′ : List ℤ) (rows rows′ picture picture′ unlit unlit′ lit lit′ booked booked′ : List ℕ) (ready from : ℕ) : Type 0 where
   pub long-edges : length edges′ ≡ length edges
   pub long-rows : length rows′ ≡ length rows
   pub same-cells : length picture′ ≡ length picture
   pub same-unlit : length unlit′ ≡ length unlit
+  pub same-lit : length lit′ ≡ length lit
   pub same-entries : length booked′ ≡ length booked
   pub ready-is : ReadyUpTo bytes l s order edges′ rows′ ready
   pub rows-are :
-      RowsUpTo (vecOf (s .eye)) (lineAt (s .raster)) (walkOf bytes order) (s .raster .width) (s .raster .height) picture′ unlit′ from
+      RowsUpTo (vecOf (s .eye)) (lineAt (s .raster)) (walkOf bytes order) (s .raster .width) (s .raster .height) picture′ unlit′ lit′ from
   pub low : AtMost booked′ (256 * from)
   pub booked-are : BookedUpTo (vecOf (s .eye)) (lineAt (s .raster)) (patchNumbered (decode bytes)) order (s .raster .width) booked′ from
 
-module _ {bytes : List ℕ} {l : Layout} {s : Sight} {order : List ℕ} {edges : List ℤ} {rows picture unlit booked : List ℕ} where
+module _ {bytes : List ℕ} {l : Layout} {s : Sight} {order : List ℕ} {edges : List ℤ} {rows picture unlit lit booked : List ℕ} where
   pub progress-start :
-      (n : ℕ) → booked ≡ replicate n 0 → Progress bytes l s order edges edges rows rows picture picture unlit unlit booked booked 0 0
+      (n : ℕ) → booked ≡ replicate n 0 → Progress bytes l s order edges edges rows rows picture picture unlit unlit lit lit booked booked 0 0
   progress-start n e =
       record {
         long-edges = refl;
         long-rows = refl;
         same-cells = refl;
         same-unlit = refl;
+        same-lit = refl;
         same-entries = refl;
         ready-is = ready-none bytes l s order edges rows;
-        rows-are = rows-start picture unlit;
+        rows-are = rows-start picture unlit lit;
         low = λ k h. omega (arith, ap (λ (l : List ℕ). getD l k 0) e ∙ all-zero n k);
         booked-are =
             subst (λ (l : List ℕ). BookedUpTo (vecOf (s .eye)) (lineAt (s .raster)) (patchNumbered (decode bytes)) order (s .raster .width) l 0) (sym e)
@@ -56,26 +58,27 @@ module _ {bytes : List ℕ} {l : Layout} {s : Sight} {order : List ℕ} {edges :
       }
 
   module _
-      {edges′ : List ℤ} {rows′ picture′ unlit′ booked′ : List ℕ} {ready from : ℕ}
-      (p : Progress bytes l s order edges edges′ rows rows′ picture picture′ unlit unlit′ booked booked′ ready from)
+      {edges′ : List ℤ} {rows′ picture′ unlit′ lit′ booked′ : List ℕ} {ready from : ℕ}
+      (p : Progress bytes l s order edges edges′ rows rows′ picture picture′ unlit unlit′ lit lit′ booked booked′ ready from)
     where
       -- a band is painted, and more patches are made ready
       pub progress-goes :
-          {edges″ : List ℤ} {rows″ picture″ unlit″ booked″ : List ℕ} {to row more : ℕ} →
-          BandPainted bytes (take ready order) (record { sight = s; from = from; to = to; whole = eqb ready (length order) }) picture′ unlit′ picture″ unlit″ row →
+          {edges″ : List ℤ} {rows″ picture″ unlit″ lit″ booked″ : List ℕ} {to row more : ℕ} →
+          BandPainted bytes (take ready order) (record { sight = s; from = from; to = to; whole = eqb ready (length order) }) picture′ unlit′ lit′ picture″ unlit″ lit″ row →
           BandBooked bytes (take ready order) (record { sight = s; from = from; to = to; whole = eqb ready (length order) }) booked′ booked″ row →
-          length picture″ ≡ length picture′ → length unlit″ ≡ length unlit′ → length booked″ ≡ length booked′ →
+          length picture″ ≡ length picture′ → length unlit″ ≡ length unlit′ → length lit″ ≡ length lit′ → length booked″ ≡ length booked′ →
           ReadyUpTo bytes l s order edges″ rows″ more → length edges″ ≡ length edges′ → length rows″ ≡ length rows′ →
-          Progress bytes l s order edges edges″ rows rows″ picture picture″ unlit unlit″ booked booked″ more row
-      progress-goes {picture″ = picture″} {unlit″} {booked″} {row = row} band counted a b e now c d =
+          Progress bytes l s order edges edges″ rows rows″ picture picture″ unlit unlit″ lit lit″ booked booked″ more row
+      progress-goes {picture″ = picture″} {unlit″} {lit″} {booked″} {row = row} band counted a b m e now c d =
           record {
             long-edges = c ∙ p .long-edges;
             long-rows = d ∙ p .long-rows;
             same-cells = a ∙ p .same-cells;
             same-unlit = b ∙ p .same-unlit;
+            same-lit = m ∙ p .same-lit;
             same-entries = e ∙ p .same-entries;
             ready-is = now;
-            rows-are = subst (Rows picture″ unlit″ row) whole (band .rows rest none (subst (Rows picture′ unlit′ from) (sym whole) (p .rows-are)));
+            rows-are = subst (Rows picture″ unlit″ lit″ row) whole (band .rows rest none (subst (Rows picture′ unlit′ lit′ from) (sym whole) (p .rows-are)));
             low = counted .low;
             booked-are = subst (Cells booked″ row) whole (counted .rows rest none (subst (Cells booked′ from) (sym whole) (p .booked-are)));
           }
@@ -89,16 +92,16 @@ module _ {bytes : List ℕ} {l : Layout} {s : Sight} {order : List ℕ} {edges :
           none : eqb ready (length order) ≡ true → rest ≡ []
           none t = drop-of-length-le order {i = ready} (omega (arith, eqb-true ready (length order) t))
 
-          Rows : List ℕ → List ℕ → ℕ → List ℕ → Type 0
-          Rows cells lists j ns = RowsUpTo (vecOf (s .eye)) (lineAt (s .raster)) (walkOf bytes ns) (s .raster .width) (s .raster .height) cells lists j
+          Rows : List ℕ → List ℕ → List ℕ → ℕ → List ℕ → Type 0
+          Rows cells lists words j ns = RowsUpTo (vecOf (s .eye)) (lineAt (s .raster)) (walkOf bytes ns) (s .raster .width) (s .raster .height) cells lists words j
 
           Cells : List ℕ → ℕ → List ℕ → Type 0
           Cells table j ns = BookedUpTo (vecOf (s .eye)) (lineAt (s .raster)) (patchNumbered (decode bytes)) ns (s .raster .width) table j
 
       pub progress-end :
-          s .raster .height ≤ from → Framed (s .raster .width) (s .raster .height) picture unlit →
-          RowsPainted (vecOf (s .eye)) (lineAt (s .raster)) (walkOf bytes order) (s .raster .width) (s .raster .height) picture′ unlit′
-      progress-end h framed = rows-end (p .rows-are) h (still-framed (p .same-cells) (p .same-unlit) framed)
+          s .raster .height ≤ from → Framed (s .raster .width) (s .raster .height) picture unlit lit →
+          RowsPainted (vecOf (s .eye)) (lineAt (s .raster)) (walkOf bytes order) (s .raster .width) (s .raster .height) picture′ unlit′ lit′
+      progress-end h framed = rows-end (p .rows-are) h (still-framed (p .same-cells) (p .same-unlit) (p .same-lit) framed)
 
       pub booked-end :
           s .raster .height ≤ from → BookedUpTo (vecOf (s .eye)) (lineAt (s .raster)) (patchNumbered (decode bytes)) order (s .raster .width) booked′ (s .raster .height)
@@ -108,8 +111,8 @@ module _ {bytes : List ℕ} {l : Layout} {s : Sight} {order : List ℕ} {edges :
 
 -- each round paints a row or makes a patch ready
 pub progress-less :
-    {bytes part : List ℕ} {s : Sight} {from to all ready row more height : ℕ} {picture unlit picture′ unlit′ : List ℕ} →
-    BandPainted bytes part (record { sight = s; from = from; to = to; whole = eqb ready all }) picture unlit picture′ unlit′ row →
+    {bytes part : List ℕ} {s : Sight} {from to all ready row more height : ℕ} {picture unlit lit picture′ unlit′ lit′ : List ℕ} →
+    BandPainted bytes part (record { sight = s; from = from; to = to; whole = eqb ready all }) picture unlit lit picture′ unlit′ lit′ row →
     from < to → to ≤ height → ready ≤ all → (ready ≤ more) × (more ≤ all) → (ltb row to ≡ true → ready < all → ready < more) →
     (height - row) + (all - more) < (height - from) + (all - ready)
 progress-less {from = from} {to} {all} {ready} {row} {more} {height} band h k l (a, b) grows =

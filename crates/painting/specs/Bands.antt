@@ -18,11 +18,11 @@ use Rattle.readiness.specs.Ready.{Paintable, Room, Drawn, Reached}
 
 -- what painting a band's rows asks
 pub record BandAsked
-    (bytes : List ℕ) (l : Layout) (edges : List ℤ) (rows order : List ℕ) (band : Band) (picture unlit booked : List ℕ) : Type 0 where
+    (bytes : List ℕ) (l : Layout) (edges : List ℤ) (rows order : List ℕ) (band : Band) (picture unlit lit booked : List ℕ) : Type 0 where
   pub drawn : Drawn bytes l (band .sight) edges rows order
   pub reached : Reached bytes (band .sight) rows order
   pub few : length order ≤ 1024
-  pub framed : Framed (band .sight .raster .width) (band .sight .raster .height) picture unlit
+  pub framed : Framed (band .sight .raster .width) (band .sight .raster .height) picture unlit lit
   pub ordered : band .from ≤ band .to
   pub inside : band .to ≤ band .sight .raster .height
   pub entries : length booked ≡ l .patches
@@ -30,25 +30,25 @@ pub record BandAsked
 
 -- what painting a whole picture asks
 pub record PictureAsked
-    (bytes : List ℕ) (l : Layout) (s : Sight) (order : List ℕ) (edges : List ℤ) (rows picture unlit booked : List ℕ) : Type 0 where
+    (bytes : List ℕ) (l : Layout) (s : Sight) (order : List ℕ) (edges : List ℤ) (rows picture unlit lit booked : List ℕ) : Type 0 where
   pub paintable : Paintable bytes l s order
   pub room : Room l edges rows
-  pub framed : Framed (s .raster .width) (s .raster .height) picture unlit
+  pub framed : Framed (s .raster .width) (s .raster .height) picture unlit lit
   pub entries : length booked ≡ l .patches
 
 -- The rows of a band are painted up to before row r with the part of a walk that is ready, `order`: all of them where that is the whole walk. Where it is
 -- not, `rest` is what is left of the walk: each row before r is full, so that the rest cannot be seen in it. Row r itself may be in the making.
 pub record BandPainted
-    (bytes order : List ℕ) (band : Band) (picture unlit picture′ unlit′ : List ℕ) (r : ℕ) : Type 0 where
+    (bytes order : List ℕ) (band : Band) (picture unlit lit picture′ unlit′ lit′ : List ℕ) (r : ℕ) : Type 0 where
   pub above : band .from ≤ r
   pub below : r ≤ band .to
   pub all : band .whole ≡ true → r ≡ band .to
   pub rows :
       (rest : List ℕ) → (band .whole ≡ true → rest ≡ []) →
       RowsUpTo (vecOf (band .sight .eye)) (lineAt (band .sight .raster)) (walkOf bytes (order ++ rest)) (band .sight .raster .width) (band .sight .raster .height)
-      picture unlit (band .from) →
+      picture unlit lit (band .from) →
       RowsUpTo (vecOf (band .sight .eye)) (lineAt (band .sight .raster)) (walkOf bytes (order ++ rest)) (band .sight .raster .width) (band .sight .raster .height)
-      picture′ unlit′ r
+      picture′ unlit′ lit′ r
 
 -- the cells of just these rows are booked, row r not yet
 pub record BandBooked (bytes order : List ℕ) (band : Band) (booked booked′ : List ℕ) (r : ℕ) : Type 0 where

@@ -1,4 +1,4 @@
-// The picture and the unlit lists, painted row after row, from the top.
+// The picture, the unlit lists and the lit map, painted row after row, from the top.
 use edges::Sight;
 use format::layout::Layout;
 use placing::booking::book_row;
@@ -49,11 +49,12 @@ fn paint_band(
     rows: &[u16],
     picture: &mut [u16],
     unlit: &mut [u16],
+    lit: &mut [u64],
     booked: &mut [u32],
 ) -> u16
-    requires { ⌜ BandAsked (now bytes) l (now edges) (now rows) (now order) band (now picture) (now unlit) (now booked) ⌝ }
-    ensures painted { λ r. ⌜ BandPainted (now (bytes .entry)) (now (order .entry)) band (now (picture .entry)) (now (unlit .entry))
-        (now (picture .exit)) (now (unlit .exit)) r ⌝ }
+    requires { ⌜ BandAsked (now bytes) l (now edges) (now rows) (now order) band (now picture) (now unlit) (now lit) (now booked) ⌝ }
+    ensures painted { λ r. ⌜ BandPainted (now (bytes .entry)) (now (order .entry)) band (now (picture .entry)) (now (unlit .entry)) (now (lit .entry))
+        (now (picture .exit)) (now (unlit .exit)) (now (lit .exit)) r ⌝ }
     ensures counted { λ r. ⌜ BandBooked (now (bytes .entry)) (now (order .entry)) band (now (booked .entry)) (now (booked .exit)) r ⌝ }
 {
     let sight = band.sight;
@@ -75,6 +76,7 @@ fn paint_band(
             j,
             picture,
             unlit,
+            lit,
             &mut lits,
         );
         if waits(whole, done.full) {
@@ -108,11 +110,12 @@ pub fn paint_rows(
     rows: &mut [u16],
     picture: &mut [u16],
     unlit: &mut [u16],
+    lit: &mut [u64],
     booked: &mut [u32],
 )
-    requires { ⌜ PictureAsked (now bytes) l sight (now order) (now edges) (now rows) (now picture) (now unlit) (now booked) ⌝ }
+    requires { ⌜ PictureAsked (now bytes) l sight (now order) (now edges) (now rows) (now picture) (now unlit) (now lit) (now booked) ⌝ }
     ensures painted { λ r. ⌜ RowsPainted (vecOf (sight .eye)) (lineAt (sight .raster)) (walkOf (now (bytes .entry)) (now (order .entry)))
-        (sight .raster .width) (sight .raster .height) (now (picture .exit)) (now (unlit .exit)) ⌝ }
+        (sight .raster .width) (sight .raster .height) (now (picture .exit)) (now (unlit .exit)) (now (lit .exit)) ⌝ }
     ensures counted { λ r. ⌜ BookedUpTo (vecOf (sight .eye)) (lineAt (sight .raster)) (patchNumbered (decode (now (bytes .entry)))) (now (order .entry))
         (sight .raster .width) (now (booked .exit)) (sight .raster .height) ⌝ }
 {
@@ -139,6 +142,7 @@ pub fn paint_rows(
             rows,
             picture,
             unlit,
+            lit,
             booked,
         );
         let more = wanted(ready, all, row < to);

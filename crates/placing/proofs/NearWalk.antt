@@ -17,10 +17,12 @@ use Rattle.model.specs.Ray.{met, panelOf, firstMet}
 use Rattle.model.specs.Booking.{firstIs}
 use Rattle.model.specs.Format.{decode, patchNumbered}
 use Rattle.model.specs.Row.{rowLength}
+use Rattle.model.specs.Map.{rowWords}
 use Rattle.geometry.specs.Machine.{vecOf}
 use Rattle.geometry.specs.Raster.{lineAt}
 use Rattle.format.specs.declared.layout.Layout.{Layout}
-use Rattle.format.proofs.Tables.{same-table}
+use Rattle.model.proofs.Tables.{same-table}
+use Rattle.model.proofs.LitMap.{map-congr}
 use Rattle.segments.proofs.Rows.{row-congr}
 use Rattle.segments.proofs.Tallies.{tally-congr}
 use Rattle.selection.specs.Selection.{spanAt, reached, reaching, passing, Selected}
@@ -151,11 +153,11 @@ module _ {rows order near : List ℕ} {from to n : ℕ} (s : Selected rows from 
 
       -- a row painted with the patches that reach it is painted with all
       pub near-done :
-          {width : ℕ} {picture unlit picture′ unlit′ : List ℕ} {full : Bool} →
-          RowDone eye ray (walkOf bytes (take n near)) width j picture unlit picture′ unlit′ full →
-          RowDone eye ray (walkOf bytes order) width j picture unlit picture′ unlit′ full
+          {width : ℕ} {picture unlit lit picture′ unlit′ lit′ : List ℕ} {full : Bool} →
+          RowDone eye ray (walkOf bytes (take n near)) width j picture unlit lit picture′ unlit′ lit′ full →
+          RowDone eye ray (walkOf bytes order) width j picture unlit lit picture′ unlit′ lit′ full
       unfolding shownAfter
-      near-done {width} {picture} {unlit} done =
+      near-done {width} {picture} {unlit} {lit} done =
           record {
             placed =
                 record {
@@ -166,6 +168,8 @@ module _ {rows order near : List ℕ} {from to n : ℕ} (s : Selected rows from 
                       (λ i b. ap panelOf (first-same (0 + i))));
                   row-is =
                       done .placed .row-is ∙ ap (λ (row : List ℕ). withRow rowLength j row unlit) (row-congr width _ _ (λ i b. unlit-same i));
+                  words-are =
+                      done .placed .words-are ∙ ap (λ (words : List ℕ). withRow rowWords j words lit) (map-congr width _ _ (λ i b. unlit-same i));
                 };
             full-says = λ t i b. sym (unlit-same i) ∙ done .full-says t i b;
           }

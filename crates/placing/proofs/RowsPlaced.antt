@@ -1,4 +1,4 @@
--- The rows of a picture and of the unlit lists, put in their places one after the other.
+-- The rows of a picture, of the unlit lists and of the lit map, put in their places one after the other.
 use mathlib.Core.Path.{_≡_, refl, sym, ap, ap₂, subst, _∙_}
 use mathlib.Core.Bool.{Bool}
 use mathlib.Core.List.{List, _++_, map, flatten, append-nil, append-assoc}
@@ -14,11 +14,13 @@ use Rattle.model.specs.Lists.{range}
 use Rattle.model.specs.Vector.{Vec}
 use Rattle.model.specs.Patch.{Patch}
 use Rattle.model.specs.Row.{rowLength}
-use Rattle.format.proofs.Tables.{length-table}
+use Rattle.model.specs.Map.{rowWords}
+use Rattle.model.proofs.Tables.{length-table}
+use Rattle.model.proofs.LitMap.{map-length}
 use Rattle.segments.proofs.Rows.{row-length}
 use Rattle.segments.proofs.Full.{first-length}
 use Rattle.scanline.specs.Shown.{unlitAfter, RowPainted, RowLit}
-use Rattle.placing.specs.Framing.{RowsPainted, Framed, withRow, RowPlaced, RowDone, cellsOf, unlitOf, RowsUpTo}
+use Rattle.placing.specs.Framing.{RowsPainted, Framed, withRow, RowPlaced, RowDone, cellsOf, unlitOf, wordsIn, RowsUpTo}
 use Rattle.scanline.proofs.Columns.{each-lit}
 use Rattle.scanline.proofs.WalkPainted.{as-long}
 use Rattle.scanline.proofs.Counted.{lit-as-long}
@@ -31,24 +33,28 @@ put-back start width list row =
     let e : start + width - start ≡ width = omega arith in
     rw (e, drop-drop width start list)
 
-module _ {width height j : ℕ} {picture unlit : List ℕ} (framed : Framed width height picture unlit) (h : j < height) where
+module _ {width height j : ℕ} {picture unlit lit : List ℕ} (framed : Framed width height picture unlit lit) (h : j < height) where
   pub cells-fit : j * width + width ≤ length picture
   cells-fit = omega (arith, framed .cells, mul-le-mul-right width h)
 
   pub row-fits : j * rowLength + rowLength ≤ length unlit
   row-fits = omega (arith, framed .rows)
 
+  pub words-fit : j * rowWords + rowWords ≤ length lit
+  words-fit = omega (arith, framed .words)
+
   part-long : length (take (j * width + width - j * width) (drop (j * width) picture)) ≡ width
   part-long = simp (length-take, length-drop) (omega (arith, cells-fit))
 
   pub row-done :
-      {eye : Vec} {ray : ℕ → Vec} {walk : List Patch} {cells row numbers : List ℕ} {full : Bool} →
-      RowPainted eye ray walk (length (take (j * width + width - j * width) (drop (j * width) picture))) cells row →
-      numbers ≡ row → full ≡ eqb (getD row 1 0) 0 →
-      RowDone eye ray walk width j picture unlit
+      {eye : Vec} {ray : ℕ → Vec} {walk : List Patch} {cells row words numbers map-words : List ℕ} {full : Bool} →
+      RowPainted eye ray walk (length (take (j * width + width - j * width) (drop (j * width) picture))) cells row words →
+      numbers ≡ row → map-words ≡ words → full ≡ eqb (getD row 1 0) 0 →
+      RowDone eye ray walk width j picture unlit lit
       (putMid (j * width) (j * width + width - j * width) picture cells)
-      (putMid (j * rowLength) (j * rowLength + rowLength - j * rowLength) unlit numbers) full
-  row-done {eye} {ray} {walk} {cells} {row} {numbers} painted f g =
+      (putMid (j * rowLength) (j * rowLength + rowLength - j * rowLength) unlit numbers)
+      (putMid (j * rowWords) (j * rowWords + rowWords - j * rowWords) lit map-words) full
+  row-done {eye} {ray} {walk} {cells} {row} {words} {numbers} {map-words} painted f m g =
       record {
         placed =
             record {
@@ -56,13 +62,15 @@ module _ {width height j : ℕ} {picture unlit : List ℕ} (framed : Framed widt
                   put-back (j * width) width picture cells ∙ ap (λ (l : List ℕ). withRow width j l picture) (right .cells-are);
               row-is =
                   put-back (j * rowLength) rowLength unlit numbers ∙ ap (λ (l : List ℕ). withRow rowLength j l unlit) (f ∙ right .row-is);
+              words-are =
+                  put-back (j * rowWords) rowWords lit map-words ∙ ap (λ (l : List ℕ). withRow rowWords j l lit) (m ∙ right .words-are);
             };
         full-says = λ t.
             each-lit width (unlitAfter eye ray walk)
             (sym (first-length width (framed .narrow) (unlitAfter eye ray walk)) ∙ ap (λ (l : List ℕ). eqb (getD l 1 0) 0) (sym (right .row-is)) ∙ sym g ∙ t);
       }
     where
-      right : RowPainted eye ray walk width cells row
+      right : RowPainted eye ray walk width cells row words
       right = as-long part-long painted
 
   pub row-lit :
@@ -74,9 +82,11 @@ module _ {width height j : ℕ} {picture unlit : List ℕ} (framed : Framed widt
 -- ---- all rows
 
 pub still-framed :
-    {width height : ℕ} {picture unlit picture′ unlit′ : List ℕ} → length picture′ ≡ length picture → length unlit′ ≡ length unlit →
-    Framed width height picture unlit → Framed width height picture′ unlit′
-still-framed e f framed = record { narrow = framed .narrow; low = framed .low; cells = e ∙ framed .cells; rows = f ∙ framed .rows }
+    {width height : ℕ} {picture unlit lit picture′ unlit′ lit′ : List ℕ} →
+    length picture′ ≡ length picture → length unlit′ ≡ length unlit → length lit′ ≡ length lit →
+    Framed width height picture unlit lit → Framed width height picture′ unlit′ lit′
+still-framed e f g framed =
+    record { narrow = framed .narrow; low = framed .low; cells = e ∙ framed .cells; rows = f ∙ framed .rows; words = g ∙ framed .words }
 
 last-row : (row : ℕ → List ℕ) (a n : ℕ) → flatten (map row (range a (suc n))) ≡ flatten (map row (range a n)) ++ row (a + n)
 unfolding flatten
@@ -104,17 +114,18 @@ module _ (width j : ℕ) (row list : List ℕ) (room : j * width + width ≤ len
       (length-append (take (j * width) list) row ∙ ap₂ _+_ front e ∙ sym (rw (add-one j) n))
 
 module _ {eye : Vec} {ray : ℕ → ℕ → Vec} {walk : List Patch} {width height : ℕ} where
-  pub rows-start : (picture unlit : List ℕ) → RowsUpTo eye ray walk width height picture unlit 0
+  pub rows-start : (picture unlit lit : List ℕ) → RowsUpTo eye ray walk width height picture unlit lit 0
   unfolding flatten
-  rows-start picture unlit = record { bound = omega arith; picture-is = rw (zero-mul width); unlit-is = refl }
+  rows-start picture unlit lit = record { bound = omega arith; picture-is = rw (zero-mul width); unlit-is = refl; lit-is = refl }
 
   module _
-      {picture unlit : List ℕ} {j : ℕ} (inv : RowsUpTo eye ray walk width height picture unlit j) (framed : Framed width height picture unlit) (h : j < height)
+      {picture unlit lit : List ℕ} {j : ℕ} (inv : RowsUpTo eye ray walk width height picture unlit lit j)
+      (framed : Framed width height picture unlit lit) (h : j < height)
     where
       -- row j is painted
       pub rows-go :
-          {picture′ unlit′ : List ℕ} → RowPlaced eye (λ (i : ℕ). ray i j) walk width j picture unlit picture′ unlit′ →
-          RowsUpTo eye ray walk width height picture′ unlit′ (j + 1)
+          {picture′ unlit′ lit′ : List ℕ} → RowPlaced eye (λ (i : ℕ). ray i j) walk width j picture unlit lit picture′ unlit′ lit′ →
+          RowsUpTo eye ray walk width height picture′ unlit′ lit′ (j + 1)
       rows-go placed =
           record {
             bound = omega arith;
@@ -128,6 +139,11 @@ module _ {eye : Vec} {ray : ℕ → ℕ → Vec} {walk : List Patch} {width heig
                 ∙ through-row rowLength j (unlitOf eye ray walk width j) unlit (row-fits framed h) (row-length width _)
                 ∙ ap (_++ unlitOf eye ray walk width j) (inv .unlit-is)
                 ∙ next (unlitOf eye ray walk width);
+            lit-is =
+                ap (take ((j + 1) * rowWords)) (placed .words-are)
+                ∙ through-row rowWords j (wordsIn eye ray walk width j) lit (words-fit framed h) (map-length width _)
+                ∙ ap (_++ wordsIn eye ray walk width j) (inv .lit-is)
+                ∙ next (wordsIn eye ray walk width);
           }
         where
           next : (row : ℕ → List ℕ) → flatten (map row (range 0 j)) ++ row j ≡ flatten (map row (range 0 (j + 1)))
@@ -135,8 +151,9 @@ module _ {eye : Vec} {ray : ℕ → ℕ → Vec} {walk : List Patch} {width heig
 
       -- row j is in the making, by whatever walk
       pub rows-stay :
-          {other : List Patch} {picture′ unlit′ : List ℕ} → RowPlaced eye (λ (i : ℕ). ray i j) other width j picture unlit picture′ unlit′ →
-          RowsUpTo eye ray walk width height picture′ unlit′ j
+          {other : List Patch} {picture′ unlit′ lit′ : List ℕ} →
+          RowPlaced eye (λ (i : ℕ). ray i j) other width j picture unlit lit picture′ unlit′ lit′ →
+          RowsUpTo eye ray walk width height picture′ unlit′ lit′ j
       rows-stay {other} placed =
           record {
             bound = inv .bound;
@@ -144,15 +161,18 @@ module _ {eye : Vec} {ray : ℕ → ℕ → Vec} {walk : List Patch} {width heig
                 ap (take (j * width)) (placed .cells-are) ∙ before-row width j (cellsOf eye ray other width j) picture (cells-fit framed h) ∙ inv .picture-is;
             unlit-is =
                 ap (take (j * rowLength)) (placed .row-is) ∙ before-row rowLength j (unlitOf eye ray other width j) unlit (row-fits framed h) ∙ inv .unlit-is;
+            lit-is =
+                ap (take (j * rowWords)) (placed .words-are) ∙ before-row rowWords j (wordsIn eye ray other width j) lit (words-fit framed h) ∙ inv .lit-is;
           }
 
   pub rows-end :
-      {picture unlit : List ℕ} {j : ℕ} → RowsUpTo eye ray walk width height picture unlit j → height ≤ j → Framed width height picture unlit →
-      RowsPainted eye ray walk width height picture unlit
-  rows-end {picture} {unlit} {j} inv h framed =
+      {picture unlit lit : List ℕ} {j : ℕ} → RowsUpTo eye ray walk width height picture unlit lit j → height ≤ j →
+      Framed width height picture unlit lit → RowsPainted eye ray walk width height picture unlit lit
+  rows-end {picture} {unlit} {lit} {j} inv h framed =
       let e : j ≡ height = omega (arith, inv .bound) in
-      let right = subst (RowsUpTo eye ray walk width height picture unlit) e inv in
+      let right = subst (RowsUpTo eye ray walk width height picture unlit lit) e inv in
       record {
         picture-is = sym (take-all (height * width) picture (omega (arith, framed .cells, mul-comm width height))) ∙ right .picture-is;
         unlit-is = sym (take-all (height * rowLength) unlit (omega (arith, framed .rows))) ∙ right .unlit-is;
+        lit-is = sym (take-all (height * rowWords) lit (omega (arith, framed .words))) ∙ right .lit-is;
       }

@@ -1,4 +1,4 @@
-// A row of the picture, painted in its places, in the picture and in the unlit lists, and booked.
+// A row of the picture, painted in its places, in the picture, in the unlit lists and in the lit map, and booked.
 pub mod booking;
 
 use edges::Sight;
@@ -26,6 +26,16 @@ fn put_row(row: [u16; 256], place: &mut [u16])
     }
 }
 
+fn put_words(words: [u64; 4], place: &mut [u64])
+    requires { ⌜ length (now place) ≡ 4 ⌝ }
+    ensures { λ r. ⌜ now (place .exit) ≡ words ⌝ }
+{
+    place[0] = words[0];
+    place[1] = words[1];
+    place[2] = words[2];
+    place[3] = words[3];
+}
+
 // What painting a row in its places reports.
 pub struct Placed {
     // True only where the row is full: its first unlit segment has length 0. Where it is false nothing is said.
@@ -34,7 +44,7 @@ pub struct Placed {
     pub laid: usize,
 }
 
-// Paints row j, in its place in the picture and in the unlit lists, and writes down what each patch laid newly lit.
+// Paints row j, in its place in the picture, in the unlit lists and in the lit map, and writes down what each patch laid newly lit.
 pub fn place_row(
     bytes: &[u8],
     l: Layout,
@@ -44,11 +54,13 @@ pub fn place_row(
     j: u16,
     picture: &mut [u16],
     unlit: &mut [u16],
+    lit: &mut [u64],
     lits: &mut [u16],
 ) -> Placed
-    requires { ⌜ RowAsked (now bytes) l sight (now edges) (now order) (now picture) (now unlit) (now lits) j ⌝ }
+    requires { ⌜ RowAsked (now bytes) l sight (now edges) (now order) (now picture) (now unlit) (now lit) (now lits) j ⌝ }
     ensures done { λ r. ⌜ RowDone (vecOf (sight .eye)) (λ (i : ℕ). lineAt (sight .raster) i j) (walkOf (now (bytes .entry)) (now (order .entry)))
-        (sight .raster .width) j (now (picture .entry)) (now (unlit .entry)) (now (picture .exit)) (now (unlit .exit)) (r .full) ⌝ }
+        (sight .raster .width) j (now (picture .entry)) (now (unlit .entry)) (now (lit .entry))
+        (now (picture .exit)) (now (unlit .exit)) (now (lit .exit)) (r .full) ⌝ }
     ensures counted { λ r. ⌜ RowLit (vecOf (sight .eye)) (λ (i : ℕ). lineAt (sight .raster) i j) (patchNumbered (decode (now (bytes .entry)))) (now (order .entry))
         (sight .raster .width) (now (lits .exit)) (r .laid) ⌝ }
 {
@@ -69,6 +81,10 @@ pub fn place_row(
     let first = (j as usize) * 256;
     let last = first + 256;
     put_row(row, &mut unlit[first..last]);
+    let words = painted.words;
+    let from = (j as usize) * 4;
+    let to = from + 4;
+    put_words(words, &mut lit[from..to]);
     Placed {
         full: row[1] == 0,
         laid: painted.laid,

@@ -18,7 +18,7 @@ use Rattle.geometry.specs.Machine.{vecOf, planeOf, Bounded, VectorIs, NumberIs}
 use Rattle.geometry.proofs.Results.{number-by, vector-by}
 use Rattle.format.specs.declared.patch.Patch.{Patch}
 use Rattle.format.specs.Patch.{cornerOf, patchOf}
-use Rattle.format.proofs.Tables.{length-table, table-at}
+use Rattle.model.proofs.Tables.{length-table, table-at}
 use Rattle.polygons.specs.Bounds.{PatchBounded}
 use Rattle.projection.specs.Projected.{wrap}
 use Rattle.polygons.specs.Tests.{turnsAtEdge, patchProper}

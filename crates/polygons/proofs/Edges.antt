@@ -9,7 +9,7 @@ use lib.Seq.{take-all}
 use Rattle.model.specs.Lists.{range}
 use Rattle.model.specs.Vector.{Vec}
 use Rattle.model.specs.Patch.{Edge, round, firstEdge}
-use Rattle.format.proofs.Tables.{length-table, run-of-table, same-table}
+use Rattle.model.proofs.Tables.{length-table, run-of-table, same-table}
 use Rattle.projection.specs.Projected.{wrap}
 use Rattle.projection.proofs.ReadRound.{wrap-low, wrap-high}
 

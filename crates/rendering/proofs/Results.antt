@@ -14,7 +14,8 @@ use Rattle.model.specs.Ray.{closest}
 use Rattle.model.specs.Tree.{order}
 use Rattle.model.specs.Format.{Scene, decode, patchTable, patchOf, patchNumbered, numberTree}
 use Rattle.model.specs.Row.{rowOf}
-use Rattle.model.specs.Picture.{cells, picture, cellPanel, unlitLists}
+use Rattle.model.specs.Map.{mapRow}
+use Rattle.model.specs.Picture.{cells, picture, cellPanel, unlitLists, litMap}
 use Rattle.model.specs.Booking.{cellsWhere, patchCells}
 use Rattle.model.specs.Accepted.{AcceptedScene}
 use Rattle.walk.proofs.Seen.{accepted, of-walk, first-met-closest}
@@ -51,8 +52,8 @@ module _ (bytes : List ℕ) (h : AcceptedScene bytes) (eye : Vec) where
 
 -- The painted rows of an accepted scene are its closest panels.
 module _
-    {bytes : List ℕ} (h : AcceptedScene bytes) (eye : Vec) (ray : ℕ → ℕ → Vec) {width height : ℕ} {picture′ unlit′ : List ℕ}
-    (painted : RowsPainted eye ray (walked bytes eye) width height picture′ unlit′)
+    {bytes : List ℕ} (h : AcceptedScene bytes) (eye : Vec) (ray : ℕ → ℕ → Vec) {width height : ℕ} {picture′ unlit′ lit′ : List ℕ}
+    (painted : RowsPainted eye ray (walked bytes eye) width height picture′ unlit′ lit′)
   where
     pub painted-picture : picture′ ≡ picture eye width height ray (patchTable (decode bytes))
     unfolding picture cells
@@ -68,6 +69,14 @@ module _
         painted .unlit-is
         ∙ ap
         (λ (f : ℕ → ℕ → Bool). flatten (map (λ (j : ℕ). rowOf width (f j)) (range 0 height)))
+        (fun-ext (λ j. fun-ext (λ i. unlit-closest bytes h eye (λ (k : ℕ). ray k j) i)))
+
+    pub painted-lit : lit′ ≡ litMap width height (cellPanel eye ray (patchTable (decode bytes)))
+    unfolding litMap
+    painted-lit =
+        painted .lit-is
+        ∙ ap
+        (λ (f : ℕ → ℕ → Bool). flatten (map (λ (j : ℕ). mapRow width (f j)) (range 0 height)))
         (fun-ext (λ j. fun-ext (λ i. unlit-closest bytes h eye (λ (k : ℕ). ray k j) i)))
 
 -- The cells booked to the first patch met are those of the patch that has them.

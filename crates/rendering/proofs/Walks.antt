@@ -35,19 +35,19 @@ use Rattle.placing.specs.Booked.{BookedUpTo}
 use Rattle.camera.specs.Rays.{RaysOf}
 use Rattle.camera.proofs.Rays.{line-is}
 use Rattle.rendering.specs.Painted.{Painted}
-use Rattle.rendering.proofs.Results.{walked, painted-picture, painted-unlit, painted-booked}
+use Rattle.rendering.proofs.Results.{walked, painted-picture, painted-unlit, painted-lit, painted-booked}
 
 pub walkable : {bytes : List ℕ} {l : Layout} → AcceptedScene bytes → LaidOut bytes l → Checked bytes l
 walkable h laid = checked laid (true-of (h .coordinates)) (true-of (h .children)) (true-of (h .runs))
 
 -- rows painted along the lines of a raster with a camera's rays are painted along the lines that the camera's cells are read along
 as-seen :
-    {eye : Vec} {walk : List Patch} {a : Camera} {r : Raster} {cells unlit : List ℕ} → RaysOf a r →
-    RowsPainted eye (lineAt r) walk (r .width) (r .height) cells unlit →
-    RowsPainted eye (cellLine a) walk (a .window .width) (a .window .height) cells unlit
-as-seen {eye} {walk} {a} {r} {cells} {unlit} rays seen =
-    subst (λ (d : ℕ → ℕ → Vec). RowsPainted eye d walk (a .window .width) (a .window .height) cells unlit) (λ t i j. line-is a rays i j t)
-    (subst₂ (λ (w h : ℕ). RowsPainted eye (lineAt r) walk w h cells unlit) (rays .columns) (rays .rows) seen)
+    {eye : Vec} {walk : List Patch} {a : Camera} {r : Raster} {cells unlit lit : List ℕ} → RaysOf a r →
+    RowsPainted eye (lineAt r) walk (r .width) (r .height) cells unlit lit →
+    RowsPainted eye (cellLine a) walk (a .window .width) (a .window .height) cells unlit lit
+as-seen {eye} {walk} {a} {r} {cells} {unlit} {lit} rays seen =
+    subst (λ (d : ℕ → ℕ → Vec). RowsPainted eye d walk (a .window .width) (a .window .height) cells unlit lit) (λ t i j. line-is a rays i j t)
+    (subst₂ (λ (w h : ℕ). RowsPainted eye (lineAt r) walk w h cells unlit lit) (rays .columns) (rays .rows) seen)
 
 as-booked :
     {eye : Vec} {patch : ℕ → Patch} {order : List ℕ} {a : Camera} {r : Raster} {booked : List ℕ} → RaysOf a r →
@@ -58,10 +58,10 @@ as-booked {eye} {patch} {order} {a} {r} {booked} rays counted =
     (subst₂ (λ (w h : ℕ). BookedUpTo eye (lineAt r) patch order w booked h) (rays .columns) (rays .rows) counted)
 
 pub raster-framed :
-    {a : Camera} {r : Raster} {picture unlit : List ℕ} → RaysOf a r → Framed (a .window .width) (a .window .height) picture unlit →
-    Framed (r .width) (r .height) picture unlit
-raster-framed {picture = picture} {unlit} rays framed =
-    subst₂ (λ (w h : ℕ). Framed w h picture unlit) (sym (rays .columns)) (sym (rays .rows)) framed
+    {a : Camera} {r : Raster} {picture unlit lit : List ℕ} → RaysOf a r → Framed (a .window .width) (a .window .height) picture unlit lit →
+    Framed (r .width) (r .height) picture unlit lit
+raster-framed {picture = picture} {unlit} {lit} rays framed =
+    subst₂ (λ (w h : ℕ). Framed w h picture unlit lit) (sym (rays .columns)) (sym (rays .rows)) framed
 
 module _ {bytes : List ℕ} {l : Layout} {eye : Vec} {before after : List ℕ} {n : ℕ}
     (h : AcceptedScene bytes)
@@ -105,13 +105,13 @@ module _ {bytes : List ℕ} {l : Layout} {eye : Vec} {before after : List ℕ} {
 
     -- what the rows show, and the cells booked, are the result
     pub painted-all :
-        {a : Camera} {r : Raster} {cells unlit booked : List ℕ} → RaysOf a r → length booked ≡ length (decode bytes .patches) →
-        RowsPainted eye (lineAt r) (walkOf bytes (take n after)) (r .width) (r .height) cells unlit →
+        {a : Camera} {r : Raster} {cells unlit lit booked : List ℕ} → RaysOf a r → length booked ≡ length (decode bytes .patches) →
+        RowsPainted eye (lineAt r) (walkOf bytes (take n after)) (r .width) (r .height) cells unlit lit →
         BookedUpTo eye (lineAt r) (patchNumbered (decode bytes)) (take n after) (r .width) booked (r .height) →
-        Painted bytes (record { eye = eye; camera = a }) cells unlit booked
-    painted-all {a} {r} {cells} {unlit} {booked} rays e seen counted =
-        let p : RowsPainted eye (cellLine a) (walked bytes eye) (a .window .width) (a .window .height) cells unlit =
-        subst (λ (o : List ℕ). RowsPainted eye (cellLine a) (walkOf bytes o) (a .window .width) (a .window .height) cells unlit)
+        Painted bytes (record { eye = eye; camera = a }) cells unlit lit booked
+    painted-all {a} {r} {cells} {unlit} {lit} {booked} rays e seen counted =
+        let p : RowsPainted eye (cellLine a) (walked bytes eye) (a .window .width) (a .window .height) cells unlit lit =
+        subst (λ (o : List ℕ). RowsPainted eye (cellLine a) (walkOf bytes o) (a .window .width) (a .window .height) cells unlit lit)
         walk-front (as-seen rays seen) in
         let b : BookedUpTo eye (cellLine a) (patchNumbered (decode bytes)) (order eye (numberTree (decode bytes))) (a .window .width) booked (a .window .height) =
         subst (λ (o : List ℕ). BookedUpTo eye (cellLine a) (patchNumbered (decode bytes)) o (a .window .width) booked (a .window .height))
@@ -119,5 +119,6 @@ module _ {bytes : List ℕ} {l : Layout} {eye : Vec} {before after : List ℕ} {
         record {
           cells-are = painted-picture h eye (cellLine a) p;
           unlit-are = painted-unlit h eye (cellLine a) p;
+          lit-are = painted-lit h eye (cellLine a) p;
           booked-are = painted-booked h eye (cellLine a) e b;
         }

@@ -6,7 +6,7 @@ use lib.ListN.{length}
 use Rattle.model.specs.View.{View, viewWidth, viewHeight}
 use Rattle.model.specs.Beside.{cellLine}
 use Rattle.model.specs.Format.{decode, patchTable}
-use Rattle.model.specs.Picture.{picture, cellPanel, unlitLists}
+use Rattle.model.specs.Picture.{picture, cellPanel, unlitLists, litMap}
 use Rattle.model.specs.Booking.{patchCells}
 use Rattle.model.specs.Accepted.{AcceptedScene}
 use Rattle.geometry.specs.declared.Vector.{Vector}
@@ -16,18 +16,20 @@ use Rattle.camera.specs.Machine.{CameraBounded}
 use Rattle.placing.specs.Framing.{Framed}
 
 -- a scene that passed the questions, an eye and a camera in range, buffers of the window's size, and a table with one entry a patch
-pub record PaintingAsked (bytes : List ℕ) (eye : Vector) (camera : Camera) (picture unlit booked : List ℕ) : Type 0 where
+pub record PaintingAsked (bytes : List ℕ) (eye : Vector) (camera : Camera) (picture unlit lit booked : List ℕ) : Type 0 where
   pub accepted : AcceptedScene bytes
   pub near : Bounded 10000 eye
   pub aimed : CameraBounded camera
-  pub framed : Framed (camera .width) (camera .height) picture unlit
+  pub framed : Framed (camera .width) (camera .height) picture unlit lit
   pub entries : length booked ≡ length (decode bytes .patches)
 
--- the picture and the unlit lists of a view, from the closest panels, and the cells of each patch
-pub record Painted (bytes : List ℕ) (v : View) (cells unlit booked : List ℕ) : Type 0 where
+-- the picture, the unlit lists and the lit map of a view, from the closest panels, and the cells of each patch
+pub record Painted (bytes : List ℕ) (v : View) (cells unlit lit booked : List ℕ) : Type 0 where
   pub cells-are :
       cells ≡ picture (v .eye) (viewWidth v) (viewHeight v) (cellLine (v .camera)) (patchTable (decode bytes))
   pub unlit-are :
       unlit ≡ unlitLists (viewWidth v) (viewHeight v) (cellPanel (v .eye) (cellLine (v .camera)) (patchTable (decode bytes)))
+  pub lit-are :
+      lit ≡ litMap (viewWidth v) (viewHeight v) (cellPanel (v .eye) (cellLine (v .camera)) (patchTable (decode bytes)))
   pub booked-are :
       booked ≡ patchCells (v .eye) (viewWidth v) (viewHeight v) (cellLine (v .camera)) (patchTable (decode bytes))

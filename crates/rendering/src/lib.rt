@@ -1,4 +1,4 @@
-// The picture, the unlit lists and the patches' cells of an accepted scene, as a camera at an eye sees it.
+// The picture, the unlit lists, the lit map and the patches' cells of an accepted scene, as a camera at an eye sees it.
 use camera::Camera;
 use camera::camera_raster;
 use edges::Sight;
@@ -16,10 +16,11 @@ pub fn paint(
     camera: Camera,
     picture: &mut [u16],
     unlit: &mut [u16],
+    lit: &mut [u64],
     booked: &mut [u32],
 )
-    requires { ⌜ PaintingAsked (now scene) eye camera (now picture) (now unlit) (now booked) ⌝ }
-    ensures { λ r. ⌜ Painted (now (scene .entry)) (viewOf eye camera) (now (picture .exit)) (now (unlit .exit)) (now (booked .exit)) ⌝ }
+    requires { ⌜ PaintingAsked (now scene) eye camera (now picture) (now unlit) (now lit) (now booked) ⌝ }
+    ensures { λ r. ⌜ Painted (now (scene .entry)) (viewOf eye camera) (now (picture .exit)) (now (unlit .exit)) (now (lit .exit)) (now (booked .exit)) ⌝ }
 {
     let l = read_layout(scene);
     let mut order = [0u16; 1024];
@@ -39,6 +40,7 @@ pub fn paint(
         &mut rows,
         picture,
         unlit,
+        lit,
         booked,
     );
 }

@@ -1,4 +1,4 @@
--- For callers: rows stay rows; and the spans that are laid on a fresh one.
+-- For callers: rows and their words stay such; and the spans that are laid on a fresh one.
 use mathlib.Core.Path.{_≡_, sym, ap, _∙_}
 use mathlib.Core.Bool.{Bool, true}
 use mathlib.Core.List.{List, [], _∷_, _++_}
@@ -6,8 +6,10 @@ use Prim.Native.Nat.{ℕ, suc, _≤_}
 use native.Mathlib.Omega.{arith}
 use lib.ListN.{length}
 use Rattle.model.specs.Row.{rowOf, afterSpan}
-use Rattle.rows.specs.Span.{Row, Lays, Reports}
+use Rattle.model.specs.Map.{mapRow}
+use Rattle.rows.specs.Span.{Row, Words, Lays, Reports}
 use Rattle.segments.specs.Looks.{Columns, fresh, afterSpans, mostLooks}
+use Rattle.segments.proofs.Mapped.{fresh-map}
 use Rattle.segments.proofs.Painting.{painted-length}
 use Rattle.segments.proofs.Looking.{looks-bounded, after-next}
 
@@ -23,6 +25,19 @@ row-laid {first} {last} {panel} {row} {cells} {row′} {cells′} r lays =
     let l = lays (r .unlit) (r .row-is) in
     let e : length cells ≡ length cells′ = sym (ap length (l .cells-are) ∙ painted-length _ panel cells) in
     record { fits = rw e at (r .fits); unlit = afterSpan (r .unlit) first last; row-is = l .row-is ∙ rw e }
+
+-- and so with the words: those of a fresh row are four zeros
+pub words-fresh : {width : ℕ} → Words width (0 ∷ 0 ∷ 0 ∷ 0 ∷ [])
+words-fresh {width} = record { unlit = λ (i : ℕ). true; words-are = fresh-map width }
+
+pub words-laid :
+    {first last panel : ℕ} {row words cells row′ words′ cells′ : List ℕ} → Row (length cells) row → Words (length cells) words →
+    ((unlit : ℕ → Bool) → row ≡ rowOf (length cells) unlit → Lays unlit first last panel cells row′ cells′) →
+    ((unlit : ℕ → Bool) → words ≡ mapRow (length cells) unlit → words′ ≡ mapRow (length cells) (afterSpan unlit first last)) →
+    Words (length cells′) words′
+words-laid {first} {last} {panel} {row} {words} {cells} {row′} {words′} {cells′} r w lays lights =
+    let e : length cells ≡ length cells′ = sym (ap length (lays (r .unlit) (r .row-is) .cells-are) ∙ painted-length _ panel cells) in
+    record { unlit = afterSpan (w .unlit) first last; words-are = lights (w .unlit) (w .words-are) ∙ rw e }
 
 -- ---- spans laid one after the other on a fresh row: `before` are those laid so far
 

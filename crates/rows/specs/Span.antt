@@ -6,6 +6,7 @@ use Prim.Native.Nat.{ℕ, _≤_}
 use lib.ListN.{length}
 use Rattle.model.specs.Lists.{range, tally}
 use Rattle.model.specs.Row.{rowOf, afterSpan}
+use Rattle.model.specs.Map.{mapRow}
 use Rattle.segments.specs.Columns.{inSpan, painted, allLit}
 use Rattle.segments.specs.Looks.{looks}
 
@@ -14,6 +15,11 @@ pub record Row (width : ℕ) (row : List ℕ) : Type 0 where
   pub fits : width ≤ 256
   pub unlit : ℕ → Bool
   pub row-is : row ≡ rowOf width unlit
+
+-- the words are those of the lit map of such a row
+pub record Words (width : ℕ) (words : List ℕ) : Type 0 where
+  pub unlit : ℕ → Bool
+  pub words-are : words ≡ mapRow width unlit
 
 -- what laying a span leaves, where the row at entry is that of the set `unlit`: the row without the span's columns, and
 -- the panel in the cells that were unlit and lie in the span

@@ -1,14 +1,16 @@
-// A row of unlit segments: built, painted over by spans of columns, handed out.
+// A row of unlit segments and its words of the lit map: built, painted over by spans of columns, handed out.
 mod laying;
 
 use laying::sweep;
+use litmap::light;
 use pairs::used_part;
 ghost use mathlib.Core.Path.{_≡_};
 ghost use mathlib.Core.Bool.{Bool, true};
 ghost use Prim.Native.Nat.{ℕ};
 ghost use lib.ListN.{length};
-ghost use Rattle.model.specs.Row.{rowOf, usedPart};
-ghost use Rattle.rows.specs.Span.{Row, Lays, Reports};
+ghost use Rattle.model.specs.Row.{rowOf, usedPart, afterSpan};
+ghost use Rattle.model.specs.Map.{mapRow, SameCells};
+ghost use Rattle.rows.specs.Span.{Row, Words, Lays, Reports};
 
 // What laying a span reports.
 pub struct Laid {
@@ -20,7 +22,7 @@ pub struct Laid {
     pub looked: u16,
 }
 
-// A row whose columns are all unlit.
+// A row whose columns are all unlit. Its words of the lit map are four zeros.
 pub fn fresh(width: u16) -> [u16; 256]
     ensures { λ r. ⌜ r ≡ rowOf width (λ i. true) ⌝ }
 {
@@ -30,16 +32,29 @@ pub fn fresh(width: u16) -> [u16; 256]
 }
 
 // Lays the span of the columns `first` to `last` on a row, in place, and paints the panel into those that were unlit.
-// `cells` is the row's part of the picture; its length is the width, and the span may end beyond it. With `last` below
-// `first` the span is empty: it is not laid and looks at no segment. The row must be one that `fresh` or this function left: its callers hold no other, and a
-// test of it would cost as much as the work.
-pub fn lay(row: &mut [u16; 256], cells: &mut [u16], first: u16, last: u16, panel: u16) -> Laid
+// `cells` is the row's part of the picture; its length is the width, and the span may end beyond it. `words` are those of the row in the lit map, in which the span is lit. With `last` below
+// `first` the span is empty: it is not laid and looks at no segment. The row and the words must be ones that a fresh row has or this function left: its callers hold no others, and a
+// test of them would cost as much as the work.
+pub fn lay(
+    row: &mut [u16; 256],
+    words: &mut [u64; 4],
+    cells: &mut [u16],
+    first: u16,
+    last: u16,
+    panel: u16,
+) -> Laid
     requires { ⌜ Row (length (now cells)) (now row) ⌝ }
+    requires { ⌜ Words (length (now cells)) (now words) ⌝ }
     ensures laid { λ r. ⌜ ((unlit : ℕ → Bool) → now (row .entry) ≡ rowOf (length (now (cells .entry))) unlit →
         Lays unlit first last panel (now (cells .entry)) (now (row .exit)) (now (cells .exit))) ⌝ }
     ensures reported { λ r. ⌜ ((unlit : ℕ → Bool) → now (row .entry) ≡ rowOf (length (now (cells .entry))) unlit →
         Reports unlit first last (length (now (cells .entry))) (r .full) (r .lit) (r .looked)) ⌝ }
+    ensures mapped { λ r. ⌜ ((unlit : ℕ → Bool) → now (words .entry) ≡ mapRow (length (now (cells .entry))) unlit →
+        now (words .exit) ≡ mapRow (length (now (cells .entry))) (afterSpan unlit first last)) ⌝ }
+    ensures same { λ r. ⌜ (SameCells (length (now (cells .entry))) (now (row .entry)) (now (words .entry)) →
+        SameCells (length (now (cells .entry))) (now (row .exit)) (now (words .exit))) ⌝ }
 {
+    light(words, cells.len(), first, last);
     if first <= last {
         let swept = sweep(row, cells, first, last, panel);
         let count = row[1];

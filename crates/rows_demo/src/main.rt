@@ -1,30 +1,43 @@
 // Lays a span on a row of 16 columns whose segments are columns 4 to 11 and 14 to 15: in each of the eight positions against the first of them, then up to a column that is lit and on such columns alone,
 // at the row's end and beyond it, wholly beyond it, and without a column; and then one over all of the row, and one on the row that is full. Writes after each its number, what laying it reported (the segments looked at, the
-// cells newly lit, 1 where no column is unlit any more), the row's used pairs, and its cells: 1 beside the segments, 2 in the span.
+// cells newly lit, 1 where no column is unlit any more), the row's used pairs, its words of the lit map, and its cells: 1 beside the segments, 2 in the span.
 use row_lines::lay_and_write;
 ghost use mathlib.Core.Path.{_≡_};
+ghost use mathlib.Core.List.{[], _∷_};
 ghost use lib.ListN.{length};
-ghost use Rattle.rows.specs.Span.{Row};
+ghost use Rattle.rows.specs.Span.{Row, Words};
 
-// The row with its two segments.
-fn two_segments(cells: &mut [u16]) -> [u16; 256]
+// The row with its two segments, and its words, which are lent as a fresh row has them.
+fn two_segments(words: &mut [u64; 4], cells: &mut [u16]) -> [u16; 256]
     requires { ⌜ length (now cells) ≡ 16 ⌝ }
+    requires { ⌜ now words ≡ 0 ∷ 0 ∷ 0 ∷ 0 ∷ [] ⌝ }
     ensures { λ r. ⌜ Row (length (now (cells .exit))) r ⌝ }
+    ensures { λ r. ⌜ Words (length (now (cells .exit))) (now (words .exit)) ⌝ }
 {
     let mut row = rows::fresh(16);
-    rows::lay(&mut row, cells, 0, 3, 1);
-    rows::lay(&mut row, cells, 12, 13, 1);
+    rows::lay(&mut row, words, cells, 0, 3, 1);
+    rows::lay(&mut row, words, cells, 12, 13, 1);
     row
 }
 
 // A span of panel 2.
-fn lay_over(number: u32, row: &mut [u16; 256], cells: &mut [u16], first: u16, last: u16)
+fn lay_over(
+    number: u32,
+    row: &mut [u16; 256],
+    words: &mut [u64; 4],
+    cells: &mut [u16],
+    first: u16,
+    last: u16,
+)
     requires { ⌜ Row (length (now cells)) (now row) ⌝ }
+    requires { ⌜ Words (length (now cells)) (now words) ⌝ }
     ensures { λ r. ⌜ Row (length (now (cells .exit))) (now (row .exit)) ⌝ }
+    ensures { λ r. ⌜ Words (length (now (cells .exit))) (now (words .exit)) ⌝ }
 {
     lay_and_write(
         number,
         row,
+        words,
         cells,
         first,
         last,
@@ -35,8 +48,9 @@ fn lay_over(number: u32, row: &mut [u16; 256], cells: &mut [u16], first: u16, la
 
 fn show(number: u32, first: u16, last: u16) {
     let mut cells = [0u16; 16];
-    let mut row = two_segments(&mut cells);
-    lay_over(number, &mut row, &mut cells, first, last);
+    let mut words = [0u64; 4];
+    let mut row = two_segments(&mut words, &mut cells);
+    lay_over(number, &mut row, &mut words, &mut cells, first, last);
 }
 
 fn main() {
@@ -55,7 +69,8 @@ fn main() {
     show(13, 16, 65535);
     show(14, 9, 8);
     let mut cells = [0u16; 16];
-    let mut row = two_segments(&mut cells);
-    lay_over(15, &mut row, &mut cells, 0, 15);
-    lay_over(16, &mut row, &mut cells, 3, 5);
+    let mut words = [0u64; 4];
+    let mut row = two_segments(&mut words, &mut cells);
+    lay_over(15, &mut row, &mut words, &mut cells, 0, 15);
+    lay_over(16, &mut row, &mut words, &mut cells, 3, 5);
 }

@@ -1,5 +1,5 @@
 // Lays the spans that stand on standard input on a fresh row, in order, the n-th with panel n. Writes after each its number, what laying it reported (the segments looked at, the cells
-// newly lit, 1 where no column is unlit any more), the row's used pairs and its cells. The input holds the row's width and then each span's first and last column, in numbers of two bytes,
+// newly lit, 1 where no column is unlit any more), the row's used pairs, its words of the lit map and its cells. The input holds the row's width and then each span's first and last column, in numbers of two bytes,
 // the low byte first. At most 4,096 spans are laid, none on a row wider than 256, and a last one that is not whole is left out.
 use console::Got;
 use console::read_all;
@@ -18,6 +18,7 @@ fn lay_spans(spans: &[u8], cells: &mut [u16])
     requires { ⌜ length (now cells) ≤ 256 ⌝ }
 {
     let mut row = rows::fresh(cells.len() as u16);
+    let mut words = [0u64; 4];
     let mut number: u16 = 0;
     let mut at = 0;
     while 4 <= spans.len() - at {
@@ -27,6 +28,7 @@ fn lay_spans(spans: &[u8], cells: &mut [u16])
         lay_and_write(
             number as u32,
             &mut row,
+            &mut words,
             cells,
             first,
             last,

@@ -17,8 +17,8 @@ use Rattle.scanline.proofs.WalkPainted.{PaintedUpTo, walk-goes, walk-li
 
 -- the first k patches of the walk are painted, and what each newly lit stands in the list
 pub record CountedUpTo
-    (eye : Vec) (ray : ℕ → Vec) (patch : ℕ → Patch) (order : List ℕ) (width : ℕ) (cells row lits₀ lits : List ℕ) (k : ℕ) : Type 0 where
-  pub painted : PaintedUpTo eye ray patch order width cells row k
+    (eye : Vec) (ray : ℕ → Vec) (patch : ℕ → Patch) (order : List ℕ) (width : ℕ) (cells row words lits₀ lits : List ℕ) (k : ℕ) : Type 0 where
+  pub painted : PaintedUpTo eye ray patch order width cells row words k
   pub same : length lits ≡ length lits₀
   pub lit :
       (m : ℕ) → m < k → getD lits m 0 ≡ newlyLit eye ray width (map patch (take m order)) (patch (getD order m 0))
@@ -29,22 +29,22 @@ pub lit-as-long :
 lit-as-long {eye} {ray} {patch} {order} {lits} {laid = laid} e h = subst (λ (n : ℕ). RowLit eye ray patch order n lits laid) e h
 
 pub count-starts :
-    {eye : Vec} {ray : ℕ → Vec} {patch : ℕ → Patch} {order : List ℕ} {width : ℕ} {cells row lits : List ℕ} →
-    PaintedUpTo eye ray patch order width cells row 0 → CountedUpTo eye ray patch order width cells row lits lits 0
+    {eye : Vec} {ray : ℕ → Vec} {patch : ℕ → Patch} {order : List ℕ} {width : ℕ} {cells row words lits : List ℕ} →
+    PaintedUpTo eye ray patch order width cells row words 0 → CountedUpTo eye ray patch order width cells row words lits lits 0
 count-starts p = record { painted = p; same = refl; lit = λ m h. absurd (omega arith) }
 
 module _
-    {eye : Vec} {ray : ℕ → Vec} {patch : ℕ → Patch} {order : List ℕ} {width : ℕ} {cells row lits₀ lits : List ℕ} {k : ℕ}
-    (inv : CountedUpTo eye ray patch order width cells row lits₀ lits k)
+    {eye : Vec} {ray : ℕ → Vec} {patch : ℕ → Patch} {order : List ℕ} {width : ℕ} {cells row words lits₀ lits : List ℕ} {k : ℕ}
+    (inv : CountedUpTo eye ray patch order width cells row words lits₀ lits k)
   where
     pub count-ends : length order ≤ k → RowLit eye ray patch order width lits k
     count-ends h = record { most = inv .painted .bound; each = inv .lit; full = λ l. absurd (omega arith) }
 
     module _
-        {cells′ row′ : List ℕ} {r : Lighting} (room : length order ≤ length lits₀) (h : k < length order)
-        (laid : PatchLaid eye ray (patch (getD order k 0)) row cells row′ cells′ r)
+        {cells′ row′ words′ : List ℕ} {r : Lighting} (room : length order ≤ length lits₀) (h : k < length order)
+        (laid : PatchLaid eye ray (patch (getD order k 0)) row words cells row′ words′ cells′ r)
       where
-        pub count-goes : CountedUpTo eye ray patch order width cells′ row′ lits₀ (set lits k (r .lit)) (k + 1)
+        pub count-goes : CountedUpTo eye ray patch order width cells′ row′ words′ lits₀ (set lits k (r .lit)) (k + 1)
         count-goes =
             record {
               painted = walk-goes (inv .painted) h laid;

@@ -38,15 +38,15 @@ module _
 
     -- what laying its span leaves is what laying the patch leaves, if the span was sought among all unlit columns
     pub patch-laid :
-        (j : ℕ) {row cells row′ cells′ : List ℕ} {found : Lighting} {hull r : Span} →
+        (j : ℕ) {row words cells row′ words′ cells′ : List ℕ} {found : Lighting} {hull r : Span} →
         UnlitHull (length cells) row hull →
         RowSpan (functionsIn table (p .corners .first) (p .corners .count)) j hull r →
-        ColumnsLaid (covers r) (p .panel) row cells row′ cells′ found →
-        PatchLaid (vecOf (s .eye)) (λ (i : ℕ). lineAt (s .raster) i j) (patchNumbered (decode bytes) k) row cells row′ cells′ found
-    patch-laid j {row} {cells} {row′} {cells′} {found} {hull} {r} u h laid =
+        ColumnsLaid (covers r) (p .panel) row words cells row′ words′ cells′ found →
+        PatchLaid (vecOf (s .eye)) (λ (i : ℕ). lineAt (s .raster) i j) (patchNumbered (decode bytes) k) row words cells row′ words′ cells′ found
+    patch-laid j {row} {words} {cells} {row′} {words′} {cells′} {found} {hull} {r} u h laid =
         subst
         (λ (n : ℕ).
-        ColumnsLaid (λ (i : ℕ). met (vecOf (s .eye)) (lineAt (s .raster) i j) (patchNumbered (decode bytes) k)) n row cells row′ cells′ found)
+        ColumnsLaid (λ (i : ℕ). met (vecOf (s .eye)) (lineAt (s .raster) i j) (patchNumbered (decode bytes) k)) n row words cells row′ words′ cells′ found)
         (is .panel-is) (columns-congr columns laid)
       where
         columns :

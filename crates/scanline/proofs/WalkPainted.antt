@@ -11,30 +11,33 @@ use Rattle.model.specs.Vector.{Vec}
 use Rattle.model.specs.Patch.{Patch}
 use Rattle.model.specs.Ray.{met}
 use Rattle.model.specs.Row.{rowOf}
-use Rattle.format.proofs.Tables.{length-table, table-at, same-table}
-use Rattle.rows.specs.Span.{Row}
+use Rattle.model.specs.Map.{mapRow}
+use Rattle.model.proofs.Tables.{length-table, table-at, same-table}
 use Rattle.scanline.specs.declared.Lighting.{Lighting}
+use Rattle.model.proofs.LitMap.{map-congr}
 use Rattle.segments.proofs.Rows.{row-congr}
+use Rattle.segments.proofs.Mapped.{fresh-map}
 use Rattle.segments.proofs.Painting.{painted-length, painted-at}
 use Rattle.scanline.specs.Shown.{shownAfter, unlitAfter, RowPainted, newlyLit}
-use Rattle.scanline.specs.Laying.{ColumnsPainted, PatchLaid}
+use Rattle.scanline.specs.Laying.{UnderWork, ColumnsPainted, PatchLaid}
 use Rattle.scanline.proofs.Clearing.{zero-table}
 use Rattle.scanline.proofs.FirstShown.{unlit-first, shown-first, unlit-next, shown-next, unlit-stays, shown-stays}
 
 module _ (eye : Vec) (ray : ℕ → Vec) (width : ℕ) where
-  none-painted : {cells row : List ℕ} → cells ≡ replicate width 0 → row ≡ rowOf width (λ (i : ℕ). true) → RowPainted eye ray [] width cells row
+  none-painted : {cells row : List ℕ} → cells ≡ replicate width 0 → row ≡ rowOf width (λ (i : ℕ). true) → RowPainted eye ray [] width cells row (replicate 4 0)
   none-painted e f =
       record {
         cells-are =
             e ∙ sym (zero-table 0 width) ∙ same-table (λ (k : ℕ). 0) (shownAfter eye ray []) 0 0 width (λ k h. sym (shown-first eye ray (0 + k)));
         row-is = f ∙ row-congr width _ _ (λ i h. sym (unlit-first eye ray i));
+        words-are = fresh-map width ∙ map-congr width _ _ (λ i h. sym (unlit-first eye ray i));
       }
 
-  module _ (done : List Patch) (p : Patch) {cells row cells′ row′ : List ℕ} {full : Bool} {lit : ℕ} where
+  module _ (done : List Patch) (p : Patch) {cells row words cells′ row′ words′ : List ℕ} {full : Bool} {lit : ℕ} where
     one-more :
-        ColumnsPainted (λ (i : ℕ). met eye (ray i) p) (p .panel) (unlitAfter eye ray done) cells row′ cells′ full lit →
-        RowPainted eye ray done width cells row → length cells ≡ width →
-        RowPainted eye ray (done ++ p ∷ []) width cells′ row′
+        ColumnsPainted (λ (i : ℕ). met eye (ray i) p) (p .panel) (unlitAfter eye ray done) cells row′ words′ cells′ full lit →
+        RowPainted eye ray done width cells row words → length cells ≡ width →
+        RowPainted eye ray (done ++ p ∷ []) width cells′ row′ words′
     one-more next so-far e =
         record {
           cells-are =
@@ -51,12 +54,15 @@ module _ (eye : Vec) (ray : ℕ → Vec) (width : ℕ) where
           row-is =
               next .row-is
               ∙ rw e (row-congr width _ _ (λ i h. sym (unlit-next eye ray done p i)));
+          words-are =
+              next .words-are
+              ∙ rw e (map-congr width _ _ (λ i h. sym (unlit-next eye ray done p i)));
         }
 
   -- a full row is what the whole walk leaves
   stays :
-      (done rest : List Patch) {cells row : List ℕ} → ((i : ℕ) → i < width → unlitAfter eye ray done i ≡ false) →
-      RowPainted eye ray done width cells row → RowPainted eye ray (done ++ rest) width cells row
+      (done rest : List Patch) {cells row words : List ℕ} → ((i : ℕ) → i < width → unlitAfter eye ray done i ≡ false) →
+      RowPainted eye ray done width cells row words → RowPainted eye ray (done ++ rest) width cells row words
   stays done rest full so-far =
       record {
         cells-are =
@@ -66,19 +72,22 @@ module _ (eye : Vec) (ray : ℕ → Vec) (width : ℕ) where
         row-is =
             so-far .row-is
             ∙ row-congr width _ _ (λ i h. full i h ∙ sym (unlit-stays eye ray done rest i (full i h)));
+        words-are =
+            so-far .words-are
+            ∙ map-congr width _ _ (λ i h. full i h ∙ sym (unlit-stays eye ray done rest i (full i h)));
       }
 
 -- the first k patches of the walk are painted
 pub record PaintedUpTo
-    (eye : Vec) (ray : ℕ → Vec) (patch : ℕ → Patch) (order : List ℕ) (width : ℕ) (cells row : List ℕ) (k : ℕ) : Type 0 where
+    (eye : Vec) (ray : ℕ → Vec) (patch : ℕ → Patch) (order : List ℕ) (width : ℕ) (cells row words : List ℕ) (k : ℕ) : Type 0 where
   pub bound : k ≤ length order
   pub long : length cells ≡ width
-  pub so-far : RowPainted eye ray (map patch (take k order)) width cells row
+  pub so-far : RowPainted eye ray (map patch (take k order)) width cells row words
 
 pub walk-starts :
     {eye : Vec} {ray : ℕ → Vec} {patch : ℕ → Patch} {order cells row : List ℕ} {width : ℕ} →
     length cells ≡ width → cells ≡ replicate width 0 → row ≡ rowOf (length cells) (λ (i : ℕ). true) →
-    PaintedUpTo eye ray patch order (length cells) cells row 0
+    PaintedUpTo eye ray patch order (length cells) cells row (replicate 4 0) 0
 walk-starts {eye} {ray} {cells = cells} e f g =
     record {
       bound = omega arith;
@@ -87,33 +96,38 @@ walk-starts {eye} {ray} {cells = cells} e f g =
     }
 
 pub as-long :
-    {eye : Vec} {ray : ℕ → Vec} {walk : List Patch} {width width′ : ℕ} {cells row : List ℕ} →
-    width ≡ width′ → RowPainted eye ray walk width cells row → RowPainted eye ray walk width′ cells row
-as-long {eye} {ray} {walk} {cells = cells} {row} e h = subst (λ (n : ℕ). RowPainted eye ray walk n cells row) e h
+    {eye : Vec} {ray : ℕ → Vec} {walk : List Patch} {width width′ : ℕ} {cells row words : List ℕ} →
+    width ≡ width′ → RowPainted eye ray walk width cells row words → RowPainted eye ray walk width′ cells row words
+as-long {eye} {ray} {walk} {cells = cells} {row} {words} e h = subst (λ (n : ℕ). RowPainted eye ray walk n cells row words) e h
 
 module _ {eye : Vec} {ray : ℕ → Vec} {patch : ℕ → Patch} {order : List ℕ} {width : ℕ} where
-  module _ {cells row : List ℕ} {k : ℕ} (inv : PaintedUpTo eye ray patch order width cells row k) where
-    -- the row under work is that of a set of columns
-    pub row-of-set : width ≤ 256 → Row (length cells) row
+  module _ {cells row words : List ℕ} {k : ℕ} (inv : PaintedUpTo eye ray patch order width cells row words k) where
+    -- the row under work and its words are those of a set of columns
+    pub row-of-set : width ≤ 256 → UnderWork (length cells) row words
     row-of-set h =
-        record { fits = omega (arith, inv .long); unlit = unlitAfter eye ray (map patch (take k order)); row-is = rw (inv .long) (inv .so-far .row-is) }
+        record {
+          fits = omega (arith, inv .long);
+          unlit = unlitAfter eye ray (map patch (take k order));
+          row-is = rw (inv .long) (inv .so-far .row-is);
+          words-are = rw (inv .long) (inv .so-far .words-are);
+        }
 
-    pub walk-ends : length order ≤ k → RowPainted eye ray (map patch order) width cells row
+    pub walk-ends : length order ≤ k → RowPainted eye ray (map patch order) width cells row words
     walk-ends h = rw (take-all k order h) at (inv .so-far)
 
     module _
-        {cells′ row′ : List ℕ} {r : Lighting} (h : k < length order)
-        (laid : PatchLaid eye ray (patch (getD order k 0)) row cells row′ cells′ r)
+        {cells′ row′ words′ : List ℕ} {r : Lighting} (h : k < length order)
+        (laid : PatchLaid eye ray (patch (getD order k 0)) row words cells row′ words′ cells′ r)
       where
         taken : map patch (take k order) ++ patch (getD order k 0) ∷ [] ≡ map patch (take (k + 1) order)
         taken =
             rw (add-one k, take-suc order k 0 h) (sym (map-append patch (take k order) (getD order k 0 ∷ [])))
 
         next : ColumnsPainted (λ (i : ℕ). met eye (ray i) (patch (getD order k 0))) (patch (getD order k 0) .panel)
-            (unlitAfter eye ray (map patch (take k order))) cells row′ cells′ (r .full) (r .lit)
-        next = laid .laid (unlitAfter eye ray (map patch (take k order))) (rw (inv .long) (inv .so-far .row-is))
+            (unlitAfter eye ray (map patch (take k order))) cells row′ words′ cells′ (r .full) (r .lit)
+        next = laid .laid (unlitAfter eye ray (map patch (take k order))) (rw (inv .long) (inv .so-far .row-is)) (rw (inv .long) (inv .so-far .words-are))
 
-        pub walk-goes : PaintedUpTo eye ray patch order width cells′ row′ (k + 1)
+        pub walk-goes : PaintedUpTo eye ray patch order width cells′ row′ words′ (k + 1)
         walk-goes =
             record {
               bound = omega arith;
@@ -133,8 +147,8 @@ module _ {eye : Vec} {ray : ℕ → Vec} {patch : ℕ → Patch} {order : List �
             ∙ unlit-next eye ray (map patch (take k order)) (patch (getD order k 0)) i
             ∙ next .full-says t i (omega (arith, inv .long))
 
-        pub walk-full : r .full ≡ true → RowPainted eye ray (map patch order) width cells′ row′
+        pub walk-full : r .full ≡ true → RowPainted eye ray (map patch order) width cells′ row′ words′
         walk-full t =
-            subst (λ (ps : List Patch). RowPainted eye ray ps width cells′ row′)
+            subst (λ (ps : List Patch). RowPainted eye ray ps width cells′ row′ words′)
             (sym (map-append patch (take (k + 1) order) (drop (k + 1) order)) ∙ ap (map patch) (take-append-drop (k + 1) order))
             (stays eye ray width (map patch (take (k + 1) order)) (map patch (drop (k + 1) order)) (full-lit t) (walk-goes .so-far))

@@ -11,11 +11,11 @@ use Rattle.model.specs.Patch.{Patch}
 use Rattle.model.specs.Ray.{met}
 use Rattle.model.specs.Format.{decode, patchNumbered}
 use Rattle.model.specs.Row.{rowOf}
+use Rattle.model.specs.Map.{mapRow}
 use Rattle.format.specs.declared.layout.Layout.{Layout}
 use Rattle.format.specs.Layout.{patchNumber}
 use Rattle.checked.specs.Checked.{Checked}
 use Rattle.segments.specs.Columns.{painted}
-use Rattle.rows.specs.Span.{Row}
 use Rattle.scanline.specs.declared.Lighting.{Lighting}
 use Rattle.spans.specs.declared.Span.{Span}
 use Rattle.spans.specs.Span.{covers}
@@ -32,13 +32,20 @@ pub record Drawable (bytes : List ℕ) (l : Layout) (s : Sight) (table : List �
   pub checked : Checked bytes l
   pub each : (k : ℕ) → k < length order → PatchDrawable bytes l s table (getD order k 0)
 
+-- a row under work and its words of the lit map, both of one set of unlit columns
+pub record UnderWork (width : ℕ) (row words : List ℕ) : Type 0 where
+  pub fits : width ≤ 256
+  pub unlit : ℕ → Bool
+  pub row-is : row ≡ rowOf width unlit
+  pub words-are : words ≡ mapRow width unlit
+
 -- what laying patch k in row j asks
 pub record PatchAsked
-    (bytes : List ℕ) (l : Layout) (s : Sight) (table : List ℤ) (k j : ℕ) (row cells : List ℕ) : Type 0 where
+    (bytes : List ℕ) (l : Layout) (s : Sight) (table : List ℤ) (k j : ℕ) (row words cells : List ℕ) : Type 0 where
   pub scene : Checked bytes l
   pub drawable : PatchDrawable bytes l s table k
   pub below : j ≤ 1024
-  pub under-work : Row (length cells) row
+  pub under-work : UnderWork (length cells) row words
 
 -- what painting row j asks: the edge functions of the walk's patches, and a place for what each newly lights
 pub record RowAsked (bytes : List ℕ) (l : Layout) (s : Sight) (table : List ℤ) (order : List ℕ) (j : ℕ) (cells lits : List ℕ) : Type 0 where
@@ -59,17 +66,20 @@ walkOf bytes order = map (patchNumbered (decode bytes)) order
 -- A row whose unlit columns were those of the set `unlit`, with a set of columns painted over: those that were unlit are lit now, and show the panel. Where `full` is
 -- true no column is unlit any more; where it is false nothing is said. `lit` is how many columns were newly lit.
 pub record ColumnsPainted
-    (columns : ℕ → Bool) (panel : ℕ) (unlit : ℕ → Bool) (cells row′ cells′ : List ℕ) (full : Bool) (lit : ℕ) : Type 0 where
+    (columns : ℕ → Bool) (panel : ℕ) (unlit : ℕ → Bool) (cells row′ words′ cells′ : List ℕ) (full : Bool) (lit : ℕ) : Type 0 where
   pub row-is : row′ ≡ rowOf (length cells) (λ (i : ℕ). unlit i && not (columns i))
+  pub words-are : words′ ≡ mapRow (length cells) (λ (i : ℕ). unlit i && not (columns i))
   pub cells-are : cells′ ≡ painted (λ (i : ℕ). unlit i && columns i) panel cells
   pub full-says : full ≡ true → (i : ℕ) → i < length cells → (unlit i && not (columns i)) ≡ false
   pub lit-is : lit ≡ tally (λ (i : ℕ). unlit i && columns i) (range 0 (length cells))
 
--- the same, whichever columns the row at entry says were unlit
-pub record ColumnsLaid (columns : ℕ → Bool) (panel : ℕ) (row cells row′ cells′ : List ℕ) (r : Lighting) : Type 0 where
+-- the same, whichever columns the row and the words at entry say were unlit
+pub record ColumnsLaid (columns : ℕ → Bool) (panel : ℕ) (row words cells row′ words′ cells′ : List ℕ) (r : Lighting) : Type 0 where
   pub laid :
-      (unlit : ℕ → Bool) → row ≡ rowOf (length cells) unlit → ColumnsPainted columns panel unlit cells row′ cells′ (r .full) (r .lit)
+      (unlit : ℕ → Bool) → row ≡ rowOf (length cells) unlit → words ≡ mapRow (length cells) unlit →
+      ColumnsPainted columns panel unlit cells row′ words′ cells′ (r .full) (r .lit)
 
 -- the same for a patch: the columns are those whose lines meet it
-abbrev pub PatchLaid : Vec → (ℕ → Vec) → Patch → List ℕ → List ℕ → List ℕ → List ℕ → Lighting → Type 0
-PatchLaid eye ray p row cells row′ cells′ r = ColumnsLaid (λ (i : ℕ). met eye (ray i) p) (p .panel) row cells row′ cells′ r
+abbrev pub PatchLaid : Vec → (ℕ → Vec) → Patch → List ℕ → List ℕ → List ℕ → List ℕ → List ℕ → List ℕ → Lighting → Type 0
+PatchLaid eye ray p row words cells row′ words′ cells′ r =
+    ColumnsLaid (λ (i : ℕ). met eye (ray i) p) (p .panel) row words cells row′ words′ cells′ r

@@ -9,6 +9,7 @@ use Rattle.model.specs.Vector.{Vec}
 use Rattle.model.specs.Patch.{Patch}
 use Rattle.model.specs.Ray.{met, panelOf, firstMet}
 use Rattle.model.specs.Row.{rowOf}
+use Rattle.model.specs.Map.{mapRow}
 
 -- the panel that column i shows after some patches are painted: the first of them that is met, or 0
 unfoldable pub shownAfter : Vec → (ℕ → Vec) → List Patch → ℕ → ℕ
@@ -18,10 +19,11 @@ shownAfter eye ray painted i = panelOf (firstMet eye (ray i) painted)
 unfoldable pub unlitAfter : Vec → (ℕ → Vec) → List Patch → ℕ → Bool
 unlitAfter eye ray painted i = not (any (met eye (ray i)) painted)
 
--- a row's cells and its unlit segments after a walk is painted
-pub record RowPainted (eye : Vec) (ray : ℕ → Vec) (walk : List Patch) (width : ℕ) (cells row : List ℕ) : Type 0 where
+-- a row's cells, its unlit segments and its words of the lit map after a walk is painted
+pub record RowPainted (eye : Vec) (ray : ℕ → Vec) (walk : List Patch) (width : ℕ) (cells row words : List ℕ) : Type 0 where
   pub cells-are : cells ≡ map (shownAfter eye ray walk) (range 0 width)
   pub row-is : row ≡ rowOf width (unlitAfter eye ray walk)
+  pub words-are : words ≡ mapRow width (unlitAfter eye ray walk)
 
 -- how many columns a patch newly lights after some are painted: those whose lines meet it and none of these
 unfoldable pub newlyLit : Vec → (ℕ → Vec) → ℕ → List Patch → Patch → ℕ

@@ -13,7 +13,7 @@ ghost use Rattle.geometry.specs.Raster.{lineAt};
 ghost use Rattle.spans.specs.Span.{covers};
 ghost use Rattle.rows.specs.Span.{Row};
 ghost use Rattle.scanline.specs.Shown.{RowPainted, RowLit};
-ghost use Rattle.scanline.specs.Laying.{PatchAsked, RowAsked, walkOf, UnlitHull, ColumnsLaid, PatchLaid};
+ghost use Rattle.scanline.specs.Laying.{UnderWork, PatchAsked, RowAsked, walkOf, UnlitHull, ColumnsLaid, PatchLaid};
 
 // What laying a patch says of the row.
 struct Lighting {
@@ -39,10 +39,16 @@ fn unlit_hull(row: &[u16; 256], width: usize) -> Span
 }
 
 // Lays a span on a row, unless it is empty, and says how many cells it newly lit, and that the row is full only where it is.
-fn lay_span(span: Span, panel: u16, row: &mut [u16; 256], cells: &mut [u16]) -> Lighting
-    requires { ⌜ (span .end ≤ length (now cells)) × Row (length (now cells)) (now row) ⌝ }
-    ensures { λ r. ⌜ ColumnsLaid (covers span) panel (now (row .entry)) (now (cells .entry))
-        (now (row .exit)) (now (cells .exit)) r ⌝ }
+fn lay_span(
+    span: Span,
+    panel: u16,
+    row: &mut [u16; 256],
+    words: &mut [u64; 4],
+    cells: &mut [u16],
+) -> Lighting
+    requires { ⌜ (span .end ≤ length (now cells)) × UnderWork (length (now cells)) (now row) (now words) ⌝ }
+    ensures { λ r. ⌜ ColumnsLaid (covers span) panel (now (row .entry)) (now (words .entry)) (now (cells .entry))
+        (now (row .exit)) (now (words .exit)) (now (cells .exit)) r ⌝ }
 {
     let first = span.first;
     let end = span.end;
@@ -52,7 +58,7 @@ fn lay_span(span: Span, panel: u16, row: &mut [u16; 256], cells: &mut [u16]) -> 
             lit: 0,
         };
     }
-    let laid = rows::lay(row, cells, first as u16, (end - 1) as u16, panel);
+    let laid = rows::lay(row, words, cells, first as u16, (end - 1) as u16, panel);
     Lighting {
         full: laid.full,
         lit: laid.lit,
@@ -70,17 +76,18 @@ fn lay_patch(
     table: &[i64],
     j: usize,
     row: &mut [u16; 256],
+    words: &mut [u64; 4],
     cells: &mut [u16],
 ) -> Lighting
-    requires { ⌜ PatchAsked (now bytes) l sight (now table) k j (now row) (now cells) ⌝ }
+    requires { ⌜ PatchAsked (now bytes) l sight (now table) k j (now row) (now words) (now cells) ⌝ }
     ensures { λ r. ⌜ PatchLaid (vecOf (sight .eye)) (λ (i : ℕ). lineAt (sight .raster) i j) (patchNumbered (decode (now (bytes .entry))) k)
-        (now (row .entry)) (now (cells .entry)) (now (row .exit)) (now (cells .exit)) r ⌝ }
+        (now (row .entry)) (now (words .entry)) (now (cells .entry)) (now (row .exit)) (now (words .exit)) (now (cells .exit)) r ⌝ }
 {
     let p = patch_record(bytes, l, k);
     let run = p.corners;
     let hull = unlit_hull(row, cells.len());
     let span = row_span(table, run.first, run.count, j, hull);
-    lay_span(span, p.panel, row, cells)
+    lay_span(span, p.panel, row, words, cells)
 }
 
 fn clear(cells: &mut [u16])
@@ -93,13 +100,14 @@ fn clear(cells: &mut [u16])
     }
 }
 
-// A painted row: its unlit segments, and how many patches of the walk were laid.
+// A painted row: its unlit segments, its words of the lit map, and how many patches of the walk were laid.
 pub struct Painted {
     pub row: [u16; 256],
+    pub words: [u64; 4],
     pub laid: usize,
 }
 
-// Paints row j: its cells, the unlit segments that it returns, and for each patch laid how many cells it newly lit, in its place of the walk. Once the row is full the
+// Paints row j: its cells, the unlit segments and the words of the lit map that it returns, and for each patch laid how many cells it newly lit, in its place of the walk. Once the row is full the
 // rest of the walk cannot be seen in it.
 pub fn paint_row(
     bytes: &[u8],
@@ -113,21 +121,22 @@ pub fn paint_row(
 ) -> Painted
     requires { ⌜ RowAsked (now bytes) l sight (now table) (now order) j (now cells) (now lits) ⌝ }
     ensures painted { λ r. ⌜ RowPainted (vecOf (sight .eye)) (λ (i : ℕ). lineAt (sight .raster) i j) (walkOf (now (bytes .entry)) (now (order .entry)))
-        (length (now (cells .entry))) (now (cells .exit)) (r .row) ⌝ }
+        (length (now (cells .entry))) (now (cells .exit)) (r .row) (r .words) ⌝ }
     ensures counted { λ r. ⌜ RowLit (vecOf (sight .eye)) (λ (i : ℕ). lineAt (sight .raster) i j) (patchNumbered (decode (now (bytes .entry)))) (now (order .entry))
         (length (now (cells .entry))) (now (lits .exit)) (r .laid) ⌝ }
 {
     clear(cells);
     let mut row = rows::fresh(cells.len() as u16);
+    let mut words = [0u64; 4];
     let mut k = 0;
     while k < order.len() {
         let n = order[k] as usize;
-        let laid = lay_patch(bytes, l, n, sight, table, j, &mut row, cells);
+        let laid = lay_patch(bytes, l, n, sight, table, j, &mut row, &mut words, cells);
         lits[k] = laid.lit;
         k += 1;
         if laid.full {
-            return Painted { row, laid: k };
+            return Painted { row, words, laid: k };
         }
     }
-    Painted { row, laid: k }
+    Painted { row, words, laid: k }
 }

@@ -13,7 +13,7 @@ use Rattle.model.specs.Format.{Run, NodeRecord, PatchRecord, Scene, u16At, node
 use Rattle.model.specs.Questions.{within, runsFollow, patchRunsFollow, cornerRunsFollow, runsProper}
 use Rattle.format.specs.declared.layout.Layout.{Layout}
 use Rattle.format.specs.Layout.{LaidOut, Inside, RunsInside, nodeNumber, patchNumber, cornerNumber}
-use Rattle.format.proofs.Tables.{length-table, same-table}
+use Rattle.model.proofs.Tables.{length-table, same-table}
 use Rattle.format.proofs.Decoded.{patch-count, corner-count, patch-table, patch-corners}
 use Rattle.scene.specs.Tests.{runAt, cornersFollow, allCounted}
 use Rattle.model.proofs.Tests.{is-true, both-true}

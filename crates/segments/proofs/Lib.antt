@@ -5,6 +5,7 @@ pub mod Tests
 pub mod Segments
 pub mod Sets
 pub mod Rows
+pub mod Mapped
 pub mod Cut
 pub mod Remains
 pub mod Painting

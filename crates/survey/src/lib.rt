@@ -1,4 +1,5 @@
-// The survey call and its gate, for a console in C: from a station in units, and from one in metres.
+// The calls for a console in C: the survey and its gate, from a station in units and from one in metres, and the two questions on a row of the lit map.
 mod axes;
+pub mod map;
 pub mod metres;
 pub mod units;

@@ -43,11 +43,12 @@ pub extern "C" fn ring_gate_metres(
     counts_len: usize,
     patch_counts_len: usize,
     unlit_len: usize,
+    lit_len: usize,
     counter: u32,
 ) -> u32
     ensures { λ r. ⌜ r ≡ surveyAnswer (gateCall (now (scene .entry)) (metres «eye_x» «eye_y» «eye_z»)
         (cameraBy (axesBy (vec «right_x» «right_y» «right_z») (vec «forward_x» «forward_y» «forward_z») (vec «up_x» «up_y» «up_z»)) width height lens)
-        (lengthsBy «picture_len» «counts_len» «patch_counts_len» «unlit_len») counter) ⌝ }
+        (lengthsBy «picture_len» «counts_len» «patch_counts_len» «unlit_len» «lit_len») counter) ⌝ }
 {
     let station = in_metres(eye_x, eye_y, eye_z);
     let axes = axes_by(
@@ -75,6 +76,7 @@ pub extern "C" fn ring_gate_metres(
         counts_len,
         patch_counts_len,
         unlit_len,
+        lit_len,
         counter,
     )
 }
@@ -102,12 +104,13 @@ pub extern "C" fn ring_survey_metres(
     counts: &mut [u32],
     patch_counts: &mut [u32],
     unlit: &mut [u16],
+    lit: &mut [u64],
     counter: &mut u32,
 ) -> u32
     ensures { λ r. ⌜ ClosestSurveyed (now (scene .entry)) (metres «eye_x» «eye_y» «eye_z»)
         (cameraBy (axesBy (vec «right_x» «right_y» «right_z») (vec «forward_x» «forward_y» «forward_z») (vec «up_x» «up_y» «up_z»)) width height lens)
-        (lentOf (now (picture .entry)) (now (counts .entry)) (now («patch_counts» .entry)) (now (unlit .entry)) (now (counter .entry)))
-        (lentOf (now (picture .exit)) (now (counts .exit)) (now («patch_counts» .exit)) (now (unlit .exit)) (now (counter .exit))) r ⌝ }
+        (lentOf (now (picture .entry)) (now (counts .entry)) (now («patch_counts» .entry)) (now (unlit .entry)) (now (lit .entry)) (now (counter .entry)))
+        (lentOf (now (picture .exit)) (now (counts .exit)) (now («patch_counts» .exit)) (now (unlit .exit)) (now (lit .exit)) (now (counter .exit))) r ⌝ }
 {
     let station = in_metres(eye_x, eye_y, eye_z);
     let axes = axes_by(
@@ -135,6 +138,7 @@ pub extern "C" fn ring_survey_metres(
         counts,
         patch_counts,
         unlit,
+        lit,
         counter,
     )
 }

@@ -15,7 +15,7 @@ use Rattle.model.specs.Call.{Call}
 use Rattle.model.specs.Format.{decode, patchTable}
 use Rattle.model.specs.Picture.{counts, countEntries}
 use Rattle.model.specs.Questions.{pointInRange, counterBelowEnd, surveyAnswer}
-use Rattle.model.specs.Survey.{callPicture, callCounts, callPatchCells, callUnlit, callCounter}
+use Rattle.model.specs.Survey.{callPicture, callCounts, callPatchCells, callUnlit, callLit, callCounter}
 use Rattle.model.proofs.Answers.{AcceptedCall, accepted-call}
 use Rattle.model.proofs.CallLimits.{ViewBounded, view-bounded, AxesBounded, axes-bounded, LengthsRight, lengths-right}
 use Rattle.model.proofs.Pictures.{picture-length, picture-counted}
@@ -69,7 +69,7 @@ module _
         same-eye = located .eye-is (yes .station)
 
         -- what painting asks
-        pub paintable : PaintingAsked bytes (l .eye) camera (before .picture) (before .unlit) (before .patchCounts)
+        pub paintable : PaintingAsked bytes (l .eye) camera (before .picture) (before .unlit) (before .lit) (before .patchCounts)
         paintable =
             record {
               accepted = yes .scene;
@@ -84,19 +84,26 @@ module _
                     lens-within = record { within = view .lens-most };
                   };
               framed =
-                  record { narrow = view .narrow; low = omega (arith, view .low); cells = fitting .cells; rows = fitting .rows };
+                  record {
+                    narrow = view .narrow;
+                    low = omega (arith, view .low);
+                    cells = fitting .cells;
+                    rows = fitting .rows;
+                    words = fitting .words;
+                  };
               entries = fitting .booked;
             }
 
-        pub painted-from : {cells unlit booked : List ℕ} → Painted bytes (viewOf (l .eye) camera) cells unlit booked → Painted bytes v cells unlit booked
-        painted-from {cells} {unlit} {booked} h =
-            subst (λ (e : Vec). Painted bytes (record { eye = e; camera = cameraOf camera }) cells unlit booked) same-eye h
+        pub painted-from :
+            {cells unlit lit booked : List ℕ} → Painted bytes (viewOf (l .eye) camera) cells unlit lit booked → Painted bytes v cells unlit lit booked
+        painted-from {cells} {unlit} {lit} {booked} h =
+            subst (λ (e : Vec). Painted bytes (record { eye = e; camera = cameraOf camera }) cells unlit lit booked) same-eye h
 
       pub counter-rises : before .counter + 1 < 4294967296
       unfolding counterBelowEnd
       counter-rises = let h : before .counter < 4294967295 = ltb→lt (before .counter) 4294967295 (yes .counter) in omega arith
 
-      module _ {cells unlit booked : List ℕ} (painted : Painted bytes v cells unlit booked) where
+      module _ {cells unlit lit booked : List ℕ} (painted : Painted bytes v cells unlit lit booked) where
         -- what counting asks
         pub countable : Countable cells (before .counts)
         countable =
@@ -113,12 +120,12 @@ module _
             }
 
         -- an accepted call leaves its results
-        pub accepted : {totals : List ℕ} {k : ℕ} → totals ≡ counts cells → k ≡ before .counter + 1 → Surveyed bytes s (cameraOf camera) before (lentOf cells totals booked unlit k) 0
-        unfolding callPicture callCounts callPatchCells callUnlit callCounter
+        pub accepted : {totals : List ℕ} {k : ℕ} → totals ≡ counts cells → k ≡ before .counter + 1 → Surveyed bytes s (cameraOf camera) before (lentOf cells totals booked unlit lit k) 0
+        unfolding callPicture callCounts callPatchCells callUnlit callLit callCounter
         accepted {totals} {k} t e =
             record {
               answered = sym done ∙ answer;
               left =
-                  (λ i. lentOf (painted .cells-are i) ((t ∙ ap counts (painted .cells-are)) i) (painted .booked-are i) (painted .unlit-are i) (e i))
+                  (λ i. lentOf (painted .cells-are i) ((t ∙ ap counts (painted .cells-are)) i) (painted .booked-are i) (painted .unlit-are i) (painted .lit-are i) (e i))
                   ∙ ap (λ (m : ℕ). leftBy m (results call) before) (sym done ∙ answer);
             }

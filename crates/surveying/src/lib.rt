@@ -25,9 +25,10 @@ pub fn survey_answer(
     counts_len: usize,
     patch_counts_len: usize,
     unlit_len: usize,
+    lit_len: usize,
     counter: u32,
 ) -> u32
-    ensures { λ r. ⌜ r ≡ surveyAnswer (gateCall (now (scene .entry)) (stationOf station) (cameraOf camera) (lengthsBy «picture_len» «counts_len» «patch_counts_len» «unlit_len») counter) ⌝ }
+    ensures { λ r. ⌜ r ≡ surveyAnswer (gateCall (now (scene .entry)) (stationOf station) (cameraOf camera) (lengthsBy «picture_len» «counts_len» «patch_counts_len» «unlit_len» «lit_len») counter) ⌝ }
 {
     let answer = scene_answer(scene);
     if answer != 0 {
@@ -51,6 +52,7 @@ pub fn survey_answer(
         counts_len,
         patch_counts_len,
         unlit_len,
+        lit_len,
     ) {
         return 11;
     }
@@ -69,11 +71,12 @@ pub fn survey_from(
     counts: &mut [u32],
     patch_counts: &mut [u32],
     unlit: &mut [u16],
+    lit: &mut [u64],
     counter: &mut u32,
 ) -> u32
     ensures { λ r. ⌜ Surveyed (now (scene .entry)) (stationOf station) (cameraOf camera)
-        (lentOf (now (picture .entry)) (now (counts .entry)) (now («patch_counts» .entry)) (now (unlit .entry)) (now (counter .entry)))
-        (lentOf (now (picture .exit)) (now (counts .exit)) (now («patch_counts» .exit)) (now (unlit .exit)) (now (counter .exit))) r ⌝ }
+        (lentOf (now (picture .entry)) (now (counts .entry)) (now («patch_counts» .entry)) (now (unlit .entry)) (now (lit .entry)) (now (counter .entry)))
+        (lentOf (now (picture .exit)) (now (counts .exit)) (now («patch_counts» .exit)) (now (unlit .exit)) (now (lit .exit)) (now (counter .exit))) r ⌝ }
 {
     let before = *counter;
     let verdict = survey_answer(
@@ -84,13 +87,14 @@ pub fn survey_from(
         counts.len(),
         patch_counts.len(),
         unlit.len(),
+        lit.len(),
         before,
     );
     if verdict != 0 {
         return verdict;
     }
     let located = locate(station);
-    paint(scene, located.eye, camera, picture, unlit, patch_counts);
+    paint(scene, located.eye, camera, picture, unlit, lit, patch_counts);
     count_cells(picture, counts);
     *counter = before + 1;
     0

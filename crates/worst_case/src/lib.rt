@@ -39,12 +39,13 @@ pub fn worst_looks(n: u32) -> u64
 {
     let mut cells = [0u16; 256];
     let mut row = rows::fresh(256);
+    let mut words = [0u64; 4];
     let mut looked: u64 = 0;
     let mut k: usize = 0;
     while k < n as usize {
         k += 1;
         let span = worst_span(k);
-        let laid = rows::lay(&mut row, &mut cells, span.first, span.last, 1);
+        let laid = rows::lay(&mut row, &mut words, &mut cells, span.first, span.last, 1);
         looked += laid.looked as u64;
     }
     looked

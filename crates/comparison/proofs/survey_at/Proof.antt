@@ -24,21 +24,21 @@ handed c =
 
 returns : tie.Need-returns
 returns c =
-    let call = c .before .before .before .before .before .before .before .before in
-    let told = call .before .before .before .before .before .before .before .before .before .before .before .before .before .before .before in
+    let call = c .before .before .before .before .before .before .before .before .before .before in
+    let told = call .before .before .before .before .before .before .before .before .before .before .before .before .before .before .before .before in
     let station = told .before in
     let k = told .known-told .given in
     closest-surveyed
     (surveyed-from (same-units (search (needs, k .0)) (search (needs, k .1 .0)) (search (needs, k .1 .1 .0)) ∙ sym (ap stationOf (station .station .given .1)))
-    (handed (station .before .before .before .before .before .before .before))
+    (handed (station .before .before .before .before .before .before .before .before))
     (call .ring-survey .ensures .surveyed))
 
 returns-2 : tie.Need-returns-2
 returns-2 c =
-    let call = c .before .before .before .before .before .before .before .before in
-    let station = call .before .before .before .before .before .before .before .before .before .before .before .before .before .before .before .before in
+    let call = c .before .before .before .before .before .before .before .before .before .before in
+    let station = call .before .before .before .before .before .before .before .before .before .before .before .before .before .before .before .before .before in
     closest-surveyed
-    (surveyed-from (sym (ap stationOf (station .station2 .given .1))) (handed (station .before .before .before .before .before .before .before))
+    (surveyed-from (sym (ap stationOf (station .station2 .given .1))) (handed (station .before .before .before .before .before .before .before .before))
     (call .ring-survey-metres .ensures .surveyed))
 
 pub survey-at-spec : {M : Type 1} → statement M
@@ -53,7 +53,9 @@ survey-at-spec =
     (λ c. search needs)
     (λ c. search needs)
     (λ c. search needs)
+    (λ c. search needs)
     returns
+    (λ c. search needs)
     (λ c. search needs)
     (λ c. search needs)
     (λ c. search needs)

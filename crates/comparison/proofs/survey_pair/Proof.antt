@@ -6,9 +6,9 @@ use Rattle.comparison.proofs.survey_pair.Tie as tie
 
 returns : tie.Need-returns
 returns c =
-    let second = c .before .before .before .before .before .before .before .before in
-    let first = second .before .before .before .before .before .before .before .before .before .before .before .before .before .before in
-    pair-surveyed (first .survey-at .ensures .surveyed) (second .survey-at2 .ensures .surveyed)
+    let second = c .before .before .before .before .before .before .before .before .before .before in
+    let first = second .before .before .before .before .before .before .before .before .before .before .before .before .before .before .before .before in
+    pair-surveyed (first .before .survey-at .ensures .surveyed) (second .survey-at2 .ensures .surveyed)
 
 pub survey-pair-spec : {M : Type 1} → statement M
 survey-pair-spec =
@@ -16,6 +16,8 @@ survey-pair-spec =
     (tie.spec
     (λ c κs. search needs)
     (λ c κs. search needs)
+    (λ c. search needs)
+    (λ c. search needs)
     (λ c. search needs)
     (λ c. search needs)
     (λ c. search needs)

@@ -12,12 +12,14 @@ use Rattle.input.proofs.survey_input.Tie as tie
 
 returns : tie.Need-returns
 returns c =
-    let survey = c .before .before .before .before .before in
-    let eye = survey .before .before .before .before .before .before in
-    let rows = eye .before .before .before .before in
+    let survey = c .before .before .before .before .before .before in
+    let eye = survey .before .before .before .before .before .before .before in
+    let words = eye .before .before .before .before in
+    let rows = words .before .before in
     let patches = rows .before .before in
     let cells = patches .before .before in
-    let unlit = cells .before .before in
+    let lit = cells .before .before in
+    let unlit = lit .before in
     let table = unlit .before in
     let picture = table .before in
     let window = picture .before in
@@ -34,6 +36,7 @@ returns c =
     (length-take-le _ _ (omega (arith, picture .buffer .ensures, cells .capped .ensures .1)) ∙ cells .capped .ensures .0 ∙ ap (λ (n : ℕ). min n 32768) (cells .before .area .ensures))
     (λ accepted. length-take-le _ _ (omega (arith, table .table .ensures, patches .patches-told .ensures .1)) ∙ patches .patches-told .ensures .0 accepted)
     (length-take-le _ _ (omega (arith, unlit .buffer2 .ensures, rows .capped2 .ensures .1)) ∙ rows .capped2 .ensures .0 ∙ ap (λ (n : ℕ). min n 32768) (rows .before .area2 .ensures))
+    (length-take-le _ _ (omega (arith, lit .map .ensures, words .capped3 .ensures .1)) ∙ words .capped3 .ensures .0 ∙ ap (λ (n : ℕ). min n 512) (words .before .area3 .ensures))
 
 pub survey-input-spec : {M : Type 1} → statement M
 survey-input-spec =
@@ -47,11 +50,6 @@ survey-input-spec =
     (λ c κs. search needs)
     (λ c κs. search needs)
     (λ c κs. search needs)
-    (λ c. search needs)
-    (λ c. search needs)
-    (λ c. search needs)
-    (λ c κs. search needs)
-    (λ c κs. search needs)
     (λ c κs. search needs)
     (λ c. search needs)
     (λ c. search needs)
@@ -59,6 +57,16 @@ survey-input-spec =
     (λ c κs. search needs)
     (λ c κs. search needs)
     (λ c κs. search needs)
+    (λ c κs. search needs)
+    (λ c κs. search needs)
+    (λ c. search needs)
+    (λ c. search needs)
+    (λ c. search needs)
+    (λ c κs. search needs)
+    (λ c κs. search needs)
+    (λ c κs. search needs)
+    (λ c. search needs)
+    (λ c. sym (length-take-le _ _ (omega arith)))
     (λ c. search needs)
     (λ c. sym (length-take-le _ _ (omega arith)))
     (λ c. search needs)

@@ -7,22 +7,24 @@ use Rattle.placing.proofs.place_row.Statement.{statement}
 use Rattle.placing.proofs.place_row.Tie as tie
 
 mul-start : tie.Need-mul-start
-mul-start c = omega (arith, cells-fit (c .before .before .before .before .before .pre .framed) (c .before .before .before .before .before .pre .inside))
+mul-start c = omega (arith, cells-fit (c .before .before .before .before .before .before .pre .framed) (c .before .before .before .before .before .before .pre .inside))
 
 add-end : tie.Need-add-end
-add-end c = omega (arith, cells-fit (c .before .before .before .before .before .pre .framed) (c .before .before .before .before .before .pre .inside))
+add-end c = omega (arith, cells-fit (c .before .before .before .before .before .before .pre .framed) (c .before .before .before .before .before .before .pre .inside))
 
 mul-paint-row : tie.Need-mul-paint-row
-mul-paint-row c = omega (arith, cells-fit (c .before .before .before .before .before .pre .framed) (c .before .before .before .before .before .pre .inside))
+mul-paint-row c = omega (arith, cells-fit (c .before .before .before .before .before .before .pre .framed) (c .before .before .before .before .before .before .pre .inside))
 
 part-paint-row-end : tie.Need-part-paint-row-end
-part-paint-row-end c = cells-fit (c .before .before .before .before .before .pre .framed) (c .before .before .before .before .before .pre .inside)
+part-paint-row-end c = cells-fit (c .before .before .before .before .before .before .pre .framed) (c .before .before .before .before .before .before .pre .inside)
 
 returns : tie.Need-returns
 returns c =
-    let p = c .before .before .before .before .before .before .before .before .before in
-    let b = c .before .before .before .before .before .before .before .before .before .before .before .before .before .before .before .before .before .pre in (
-      row-done (b .framed) (b .inside) (p .paint-row .ensures .0) (c .before .before .put-row .ensures) refl,
+    let w = c .before .before in
+    let u = w .before .before .before .before .before in
+    let p = u .before .before .before .before .before .before .before in
+    let b = p .before .before .before .before .before .before .before .before .before .pre in (
+      row-done (b .framed) (b .inside) (p .paint-row .ensures .0) (u .put-row .ensures) (w .put-words .ensures) refl,
       row-lit (b .framed) (b .inside) (p .paint-row .ensures .1),
     )
 
@@ -44,6 +46,14 @@ place-row-spec =
     (λ c. search needs)
     (λ c. search needs)
     (λ c κs. search needs)
+    (λ c. search needs)
+    (λ c. search needs)
+    (λ c. search needs)
+    (λ c. search needs)
+    (λ c. search needs)
+    (λ c. search needs)
+    (λ c κs. search needs)
+    (λ c. search needs)
     (λ c. search needs)
     (λ c. search needs)
     (λ c. search needs)

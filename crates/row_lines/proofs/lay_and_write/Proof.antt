@@ -1,21 +1,25 @@
--- `lay_and_write` meets its contract: it leaves what laying the span leaves.
+-- `lay_and_write` meets its contract: a row and its words stay such as a span is laid.
 use mathlib.Core.Path.{ap}
 use native.Mathlib.Omega.{arith}
 use borrow.Author.Needs.{needs}
 use lib.ListN.{length}
-use Rattle.rows.proofs.Laws.{row-laid}
+use Rattle.rows.proofs.Laws.{row-laid, words-laid}
 use Rattle.row_lines.proofs.lay_and_write.Statement.{statement}
 use Rattle.row_lines.proofs.lay_and_write.Tie as tie
 
 write-row-requires : tie.Need-write-row-requires
 write-row-requires c κs =
-    let l = c .before .before .before .before .before .before in (
-      omega (arith, ap length (c .before .before .before .report .ensures)),
-      row-laid (l .before .before .before .before .before .pre) (l .lay .ensures .0) .fits,
+    let r = c .before .before .before .before in
+    let l = r .before .before .before in (
+      omega (arith, ap length (r .report .ensures)),
+      row-laid (l .before .before .before .before .before .before .pre .0) (l .lay .ensures .0) .fits,
     )
 
 returns : tie.Need-returns
-returns c = c .before .before .before .before .before .before .before .lay .ensures .0
+returns c =
+    let l = c .before .before .before .before .before .before .before .before in
+    let p = l .before .before .before .before .before .before .pre in
+    (row-laid (p .0) (l .lay .ensures .0), words-laid (p .0) (p .1) (l .lay .ensures .0) (l .lay .ensures .1 .1 .0))
 
 pub lay-and-write-spec : {M : Type 1} → statement M
 lay-and-write-spec =

@@ -1,26 +1,26 @@
--- `lay_spans` is safe: before each turn the row is one, and four bytes of the input were read for each span.
+-- `lay_spans` is safe: before each turn the row is one, its words are such, and four bytes of the input were read for each span.
 use mathlib.Core.Path.{_≡_, refl, _∙_}
 use Prim.Native.Nat.{_*_, _-_, _≤_}
 use native.Mathlib.Omega.{arith}
 use borrow.Author.Needs.{needs}
 use lib.ListN.{length}
-use Rattle.rows.specs.Span.{Row}
-use Rattle.rows.proofs.Laws.{row-fresh, row-laid}
+use Rattle.rows.specs.Span.{Row, Words}
+use Rattle.rows.proofs.Laws.{row-fresh, words-fresh}
 use Rattle.rows_laid.proofs.lay_spans.Statement.{statement}
 use Rattle.rows_laid.proofs.lay_spans.Tie as tie
 
 abbrev Inv-loop : tie.InvT-loop
-Inv-loop spans cells₀ row₀ number₀ at₀ t cells row number at =
-    (at ≡ 4 * number) × (at ≤ length spans) × Row (length cells) row × (length cells ≡ length cells₀)
+Inv-loop spans cells₀ row₀ words₀ number₀ at₀ t cells row words number at =
+    (at ≡ 4 * number) × (at ≤ length spans) × Row (length cells) row × Words (length cells) words × (length cells ≡ length cells₀)
 
 abbrev μ-loop : tie.MeasureT-loop
-μ-loop spans cells₀ row₀ number₀ at₀ t cells row number at = length spans - at
+μ-loop spans cells₀ row₀ words₀ number₀ at₀ t cells row words number at = length spans - at
 
 cast-fresh : tie.Need-cast-fresh Inv-loop μ-loop
 cast-fresh c = record { fits = omega arith }
 
 loop-holds : tie.Need-loop-holds Inv-loop μ-loop
-loop-holds c = (refl, omega arith, row-fresh refl (omega arith) (c .fresh .ensures), refl)
+loop-holds c = (refl, omega arith, row-fresh refl (omega arith) (c .fresh .ensures), words-fresh, refl)
 
 sub-loop : tie.Need-sub-loop Inv-loop μ-loop
 sub-loop c = omega arith
@@ -44,7 +44,7 @@ cast-last : tie.Need-cast-last Inv-loop μ-loop
 cast-last c = record { fits = c .u16-at2 .ensures .below }
 
 lay-and-write-requires : tie.Need-lay-and-write-requires Inv-loop μ-loop
-lay-and-write-requires c κs = c .before .before .before .before .before .before .loop .inv .2
+lay-and-write-requires c κs = let i = c .before .before .before .before .before .before .before .loop .inv in (i .2, i .3)
 
 add-at : tie.Need-add-at Inv-loop μ-loop
 add-at c = omega arith
@@ -52,11 +52,11 @@ add-at c = omega arith
 loop-again : tie.Need-loop-again Inv-loop μ-loop
 loop-again c =
     let l = c .before .before in
-    let i = c .before .before .before .before .before .before .before .before .before .loop .inv in
-    (omega arith, omega arith, row-laid (i .2) (l .lay-and-write .ensures), l .lay-and-write .kept .1 .1 .0 ∙ i .3)
+    let i = c .before .before .before .before .before .before .before .before .before .before .loop .inv in
+    (omega arith, omega arith, l .lay-and-write .ensures .0, l .lay-and-write .ensures .1, l .lay-and-write .kept .1 .1 .1 .0 ∙ i .4)
 
 same-length : tie.Need-same-length Inv-loop μ-loop
-same-length c = c .before .loop .inv .3
+same-length c = c .before .loop .inv .4
 
 pub lay-spans-spec : {M : Type 1} → statement M
 lay-spans-spec =

@@ -13,7 +13,7 @@ row-span-requires c κs =
 
 returns : tie.Need-returns
 returns c =
-    let s = c .before .before .before .before .before in
+    let s = c .before .before .before .before .before .before in
     let h = s .before in
     let p = h .before .before .before in
     let b = p .before .before .before .pre in

@@ -17,13 +17,17 @@ cast-lay-2 : tie.Need-cast-lay-2
 cast-lay-2 c = search needs
 
 lay-requires : tie.Need-lay-requires
-lay-requires c κs = c .before .before .before .before .pre .1
+lay-requires c κs =
+    let w = c .before .before .before .before .before .pre .1 in
+    (record { fits = w .fits; unlit = w .unlit; row-is = w .row-is }, record { unlit = w .unlit; words-are = w .words-are })
 
 same-length : tie.Need-same-length
 same-length c = search needs
 
 returns-2 : tie.Need-returns-2
-returns-2 c = span-laid (c .before .before .before .before .before .if1 .left) (c .before .before .lay .ensures .0) (c .before .before .lay .ensures .1)
+returns-2 c =
+    let l = c .before .before in
+    span-laid (l .before .before .before .before .if1 .left) (l .lay .ensures .0) (l .lay .ensures .1 .0) (l .lay .ensures .1 .1 .0)
 
 pub lay-span-spec : {M : Type 1} → statement M
 lay-span-spec =

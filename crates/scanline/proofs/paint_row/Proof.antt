@@ -13,26 +13,26 @@ use Rattle.scanline.proofs.paint_row.Statement.{statement}
 use Rattle.scanline.proofs.paint_row.Tie as tie
 
 abbrev Inv-loop : tie.InvT-loop
-Inv-loop bytes l order sight table j cells₀ lits₀ row₀ k₀ cells lits row k =
-    CountedUpTo (vecOf (sight .eye)) (λ (i : ℕ). lineAt (sight .raster) i j) (patchNumbered (decode bytes)) order (length cells₀) cells row lits₀ lits k
+Inv-loop bytes l order sight table j cells₀ lits₀ row₀ words₀ k₀ cells lits row words k =
+    CountedUpTo (vecOf (sight .eye)) (λ (i : ℕ). lineAt (sight .raster) i j) (patchNumbered (decode bytes)) order (length cells₀) cells row words lits₀ lits k
 
 abbrev μ-loop : tie.MeasureT-loop
-μ-loop bytes l order sight table j cells₀ lits₀ row₀ k₀ cells lits row k = length order - k
+μ-loop bytes l order sight table j cells₀ lits₀ row₀ words₀ k₀ cells lits row words k = length order - k
 
 returns : tie.Need-returns Inv-loop μ-loop
 returns c =
     let p = c .before .before .before in
-    let n = p .before .before .before .before in
+    let n = p .before .before .before .before .before in
     let e = n .before .before .before .before .before .clear .kept .0 in (
       as-long e (walk-full (n .before .loop .inv .painted) (n .loop-test .taken) (p .lay-patch .ensures) (c .if1 .taken)),
-      lit-as-long e (count-full (n .before .loop .inv) (c .before .before .before .before .before .before .before .before .before .before .before .before .before .before .before .before .before .before .pre .places) (n .loop-test .taken) (p .lay-patch .ensures) (c .if1 .taken)),
+      lit-as-long e (count-full (n .before .loop .inv) (c .before .before .before .before .before .before .before .before .before .before .before .before .before .before .before .before .before .before .before .pre .places) (n .loop-test .taken) (p .lay-patch .ensures) (c .if1 .taken)),
     )
 
 loop-again : tie.Need-loop-again Inv-loop μ-loop
 loop-again c =
     let p = c .before .before .before in
-    let n = p .before .before .before .before in
-    count-goes (n .before .loop .inv) (c .before .before .before .before .before .before .before .before .before .before .before .before .before .before .before .before .before .before .pre .places) (n .loop-test .taken) (p .lay-patch .ensures)
+    let n = p .before .before .before .before .before in
+    count-goes (n .before .loop .inv) (c .before .before .before .before .before .before .before .before .before .before .before .before .before .before .before .before .before .before .before .pre .places) (n .loop-test .taken) (p .lay-patch .ensures)
 
 returns-2 : tie.Need-returns-2 Inv-loop μ-loop
 returns-2 c =
@@ -64,7 +64,7 @@ cast-n c = omega (arith, c .shared-slice-known3 .given (c .before .before .loop 
 
 lay-patch-requires : tie.Need-lay-patch-requires Inv-loop μ-loop
 lay-patch-requires c κs =
-    let n = c .before .before .before in
+    let n = c .before .before .before .before in
     let l = n .before in
     let b = l .before .before .before .before .before .before .before .before .before .before in
     record {
@@ -75,18 +75,18 @@ lay-patch-requires c κs =
     }
 
 mul-lits : tie.Need-mul-lits Inv-loop μ-loop
-mul-lits c = mul-n (c .before .before .before .before .before .before)
+mul-lits c = mul-n (c .before .before .before .before .before .before .before)
 
 slice-write-lits : tie.Need-slice-write-lits Inv-loop μ-loop
-slice-write-lits c = let n = c .before .before .before .before .before .before in omega (arith, n .loop-test .taken, n .before .loop .inv .same, c .before .before .before .before .before .before .before .before .before .before .before .before .before .before .before .before .before .pre .places)
+slice-write-lits c = let n = c .before .before .before .before .before .before .before in omega (arith, n .loop-test .taken, n .before .loop .inv .same, c .before .before .before .before .before .before .before .before .before .before .before .before .before .before .before .before .before .before .pre .places)
 
 add-k : tie.Need-add-k Inv-loop μ-loop
-add-k c = omega (arith, mul-n (c .before .before .before .before .before .before) .fits)
+add-k c = omega (arith, mul-n (c .before .before .before .before .before .before .before) .fits)
 
 same-length : tie.Need-same-length Inv-loop μ-loop
 same-length c =
     let p = c .before .before .before in
-    let n = p .before .before .before .before in
+    let n = p .before .before .before .before .before in
     omega (
       arith,
       walk-goes (n .before .loop .inv .painted) (n .loop-test .taken) (p .lay-patch .ensures) .long,
@@ -96,11 +96,11 @@ same-length c =
 same-length-2 : tie.Need-same-length-2 Inv-loop μ-loop
 same-length-2 c =
     let p = c .before .before .before in
-    let n = p .before .before .before .before in
-    count-goes (n .before .loop .inv) (c .before .before .before .before .before .before .before .before .before .before .before .before .before .before .before .before .before .before .pre .places) (n .loop-test .taken) (p .lay-patch .ensures) .same
+    let n = p .before .before .before .before .before in
+    count-goes (n .before .loop .inv) (c .before .before .before .before .before .before .before .before .before .before .before .before .before .before .before .before .before .before .before .pre .places) (n .loop-test .taken) (p .lay-patch .ensures) .same
 
 loop-less : tie.Need-loop-less Inv-loop μ-loop
-loop-less c = omega (arith, c .before .before .before .before .before .before .before .loop-test .taken)
+loop-less c = omega (arith, c .before .before .before .before .before .before .before .before .loop-test .taken)
 
 same-length-3 : tie.Need-same-length-3 Inv-loop μ-loop
 same-length-3 c = c .before .loop .inv .painted .long ∙ c .before .before .before .before .before .clear .kept .0

@@ -10,10 +10,10 @@ use Rattle.surveying.proofs.survey_from.Tie as tie
 
 -- from before the counting back to after the painting, from there back to where the eye was found, and to where the answer was 0
 abbrev painted : tie.After-count-cells-arg2 → tie.After-paint
-painted c = c .before .before .before .before .before .before .before .before
+painted c = c .before .before .before .before .before .before .before .before .before .before
 
 abbrev located : tie.After-paint → tie.After-locate
-located p = p .before .before .before .before
+located p = p .before .before .before .before .before
 
 abbrev answered : tie.After-locate → tie.Else1
 answered l = l .before
@@ -21,8 +21,8 @@ answered l = l .before
 -- what was lent
 abbrev lent : tie.Else1 → Lent
 lent g =
-    let s = g .before .before .before .before .before .before .before .before in
-    lentOf (now (s .args .picture)) (now (s .args .counts)) (now (s .args .patch-counts)) (now (s .args .unlit)) (now (s .args .counter))
+    let s = g .before .before .before .before .before .before .before .before .before in
+    lentOf (now (s .args .picture)) (now (s .args .counts)) (now (s .args .patch-counts)) (now (s .args .unlit)) (now (s .args .lit)) (now (s .args .counter))
 
 returns : tie.Need-returns
 returns c = refused _ _ _ _ (c .before .survey-answer .ensures) (c .if1 .taken)
@@ -40,7 +40,7 @@ returns-2 c =
 
 paint-requires : tie.Need-paint-requires
 paint-requires c κs =
-    let l = c .before .before .before in
+    let l = c .before .before .before .before in
     let g = answered l in
     paintable _ _ _ (lent g) (g .before .survey-answer .ensures) (g .if1 .left) (l .locate .ensures)
 
@@ -67,6 +67,7 @@ survey-from-spec =
     paint-requires
     count-cells-requires
     add-counter
+    (λ c. search needs)
     (λ c. search needs)
     (λ c. search needs)
     (λ c. search needs)

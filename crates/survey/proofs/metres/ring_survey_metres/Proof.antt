@@ -8,10 +8,10 @@ use Rattle.survey.proofs.metres.ring_survey_metres.Tie as tie
 
 returns : tie.Need-returns
 returns c =
-    let p = c .before .before .before .before .before .before .before .before in
-    let a = p .before .before .before .before .before .before in
+    let p = c .before .before .before .before .before .before .before .before .before .before in
+    let a = p .before .before .before .before .before .before .before in
     let s = a .before in
-    let e = s .before .before .before .before .before .before .fits in
+    let e = s .before .before .before .before .before .before .before .fits in
     closest-surveyed
     (surveyed-from (s .in-metres .ensures)
     (same-camera (a .axes-by .ensures) (e .right-x) (e .right-y) (e .right-z) (e .forward-x) (e .forward-y) (e .forward-z) (e .up-x) (e .up-y) (e .up-z))
@@ -24,6 +24,7 @@ ring-survey-metres-spec =
     (λ c κs. search needs)
     (λ c κs. search needs)
     (λ c κs. search needs)
+    (λ c. search needs)
     (λ c. search needs)
     (λ c. search needs)
     (λ c. search needs)

@@ -8,9 +8,9 @@ use Rattle.survey.proofs.units.ring_survey.Tie as tie
 
 returns : tie.Need-returns
 returns c =
-    let p = c .before .before .before .before .before .before .before .before in
-    let a = p .before .before .before .before .before .before in
-    let e = a .before .before .before .before .before .before .fits in
+    let p = c .before .before .before .before .before .before .before .before .before .before in
+    let a = p .before .before .before .before .before .before .before in
+    let e = a .before .before .before .before .before .before .before .fits in
     closest-surveyed
     (surveyed-from (same-units (e .eye-x) (e .eye-y) (e .eye-z))
     (same-camera (a .axes-by .ensures) (e .right-x) (e .right-y) (e .right-z) (e .forward-x) (e .forward-y) (e .forward-z) (e .up-x) (e .up-y) (e .up-z))
@@ -22,6 +22,7 @@ ring-survey-spec =
     (tie.spec
     (λ c κs. search needs)
     (λ c κs. search needs)
+    (λ c. search needs)
     (λ c. search needs)
     (λ c. search needs)
     (λ c. search needs)
