@@ -4,6 +4,7 @@ use crate::block::{Block, Reading};
 use crate::cases::{files, said, said_by, File, Said};
 use crate::compare::check_due;
 use crate::double::Double;
+use crate::map_compare::answers_apart;
 use crate::random::Random;
 use crate::row_cases::RowCase;
 use crate::row_fault::Laying;
@@ -21,6 +22,9 @@ const DUE: &[&str] = &[
     "patch_counts_a",
     "patch_counts_b",
     "unlit_row",
+    "lit_row",
+    "row_lit",
+    "row_first_unlit",
     "counter_after",
     "bound",
     "reach",
@@ -44,6 +48,9 @@ fn is_seen(lines: &Lines, file: &File, before: &Said, rng: &mut Random) -> bool 
         (_, Err(_)) => true,
         (Said::Calls(before), Ok(Said::Calls(others))) => calls_differ(before, &others, rng),
         (Said::Row(before), Ok(Said::Row(other))) => rows_differ(before, &other),
+        (Said::Map(before), Ok(Said::Map(other))) => {
+            !answers_apart(before.due, other.due).is_empty()
+        }
         _ => false,
     }
 }
@@ -75,9 +82,13 @@ fn is_of_nan(line: &str, at: usize) -> bool {
 /// The line with one digit behind its key changed, or behind the columns of a
 /// span; a table without entries has none, and gets one.
 fn renumbered(line: &str, rng: &mut Random) -> String {
-    let base = if key(line) == "metres_bits" { 16 } else { 10 };
+    let base = match key(line) {
+        "metres_bits" | "lit_row" => 16,
+        _ => 10,
+    };
     let digit_at = |at: usize| char::from(line.as_bytes()[at]).to_digit(base);
-    let is_digit = |at: &usize| digit_at(*at).is_some() && !(base == 16 && is_of_nan(line, *at));
+    let is_free = |at: usize| key(line) == "metres_bits" && is_of_nan(line, at);
+    let is_digit = |at: &usize| digit_at(*at).is_some() && !is_free(*at);
     let from = line.find(" looked ").unwrap_or(key(line).len());
     let digits: Vec<usize> = (from..line.len()).filter(is_digit).collect();
     if digits.is_empty() {

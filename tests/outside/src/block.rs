@@ -128,13 +128,31 @@ impl<'a> Block<'a> {
         words.iter().map(pair).collect()
     }
 
-    /// The pairs of row j, whose number stands before them.
+    /// The pairs of row j.
     pub fn row<T: FromStr>(&mut self, key: &str, j: usize, sign: char) -> Reading<Vec<(T, T)>> {
+        let words = self.row_words(key, j)?;
+        self.pairs(&words, sign)
+    }
+
+    /// The words of row j, whose number stands before them.
+    pub fn row_words(&mut self, key: &str, j: usize) -> Reading<Vec<&'a str>> {
         let words = self.words(key)?;
         match words.split_first() {
-            Some((number, words)) if self.value::<usize>(number)? == j => self.pairs(words, sign),
+            Some((number, words)) if self.value::<usize>(number)? == j => Ok(words.to_vec()),
             _ => Err(self.wrong(&format!("not row {j}"))),
         }
+    }
+
+    /// "Words of the lit map [..] are 16 hex digits, the most significant first."
+    pub fn lit_words<T: FromIterator<u64>>(&self, words: &[&str]) -> Reading<T> {
+        let is_digit = |digit: u8| matches!(digit, b'0'..=b'9' | b'a'..=b'f');
+        let word = |text: &&str| {
+            let is_word = text.len() == 16 && text.bytes().all(is_digit);
+            let read = u64::from_str_radix(text, 16).ok();
+            let read = read.filter(|_| is_word);
+            read.ok_or_else(|| self.wrong(&format!("not a word of a map: \"{text}\"")))
+        };
+        words.iter().map(word).collect()
     }
 
     /// Nothing may be left.

@@ -9,6 +9,8 @@ use crate::vector::Point;
 pub const COUNTS: usize = 1_025;
 /// "In the lent lists row j has the 256 numbers from 256 × j."
 pub const ROW: usize = 256;
+/// "Beside the unlit lists stand four u64 words a row".
+pub const WORDS: usize = 4;
 
 /// The station, the camera's vectors and "A window is width, height and lens."
 #[derive(Clone, Copy, Debug, PartialEq, Eq)]
@@ -47,6 +49,7 @@ pub struct Call {
     pub counts_len: usize,
     pub patch_counts_len: usize,
     pub unlit_len: usize,
+    pub lit_len: usize,
     pub counter: u32,
 }
 
@@ -60,6 +63,7 @@ impl Call {
             picture_len: view.cells(),
             counts_len: COUNTS,
             unlit_len: usize::from(view.height) * ROW,
+            lit_len: usize::from(view.height) * WORDS,
             counter: 0,
         }
     }
@@ -94,6 +98,7 @@ pub struct Lent {
     pub counts: Box<[u32]>,
     pub patch_counts: Box<[u32]>,
     pub unlit: Box<[u16]>,
+    pub lit: Box<[u64]>,
     pub counter: u32,
 }
 
@@ -115,13 +120,17 @@ impl Lent {
             unlit: (0..call.unlit_len)
                 .map(|_| (rng.next() & mask) as u16)
                 .collect(),
+            lit: (0..call.lit_len).map(|_| rng.next() & mask).collect(),
             counter: call.counter,
         }
     }
 }
 
-/// The survey and the gate as the console calls them.
+/// The survey, the gate and the calls on a map's row, as the console calls them.
 pub trait Library {
     fn survey(&self, call: &Call, lent: &mut Lent) -> u32;
     fn gate(&self, call: &Call) -> u32;
+    /// How many cells of the row are lit.
+    fn row_lit(&self, lit: &[u64], row: usize) -> u32;
+    fn row_first_unlit(&self, lit: &[u64], width: u16, row: usize) -> u32;
 }

@@ -1,17 +1,14 @@
-//! The stored cases: calls with all that is due for them, and spans laid on rows,
-//! from another program that was written from the same papers.
+//! The stored cases: calls with all that is due for them, spans laid on rows, and
+//! rows of maps, from another program that was written from the same papers.
 
 use std::fs;
 use std::path::PathBuf;
 
 use crate::block::{blocks, Block, Reading};
-use crate::call::Call;
-use crate::gate::STRUCK;
-use crate::keys::{counts, patch_counts, picture, unlit_row, view};
+use crate::call_cases::{complete, survey_call, two_cuttings, PATCH_TABLE};
+use crate::map_cases::{map_case, MapCase};
 use crate::ray::Sight;
 use crate::row_cases::{row_case, RowCase};
-use crate::scene::patches_told;
-use crate::survey::{self, survey_by, Done, Due};
 use crate::trial::{Suite, Trial};
 
 /// A file, and how many blocks it has: one cut short is seen, and so is one
@@ -38,20 +35,19 @@ const FILES: &[File] = &[
     file("F-5.txt", 80, 5),
     file("F-6.txt", 61, 6),
     file("F-7.txt", 195, 7),
+    file("F-8.txt", 275, 8),
 ];
 
-/// The request that brought the patch table.
-const PATCH_TABLE: u32 = 2;
 /// The request by which joints no longer see through.
 const JOINTS: u32 = 3;
 /// The request that compares two cuttings.
 const CUTTINGS: u32 = 5;
 /// The request that asks what the spans of a row look at.
 const ROWS: u32 = 6;
-/// The request by which a station may be in metres.
-const METRES: u32 = 7;
 /// How many spans its file tells of: one line left out is seen.
 const SPANS: usize = 832;
+/// The request that brought the lit map and the calls on its rows.
+const MAPS: u32 = 8;
 
 impl File {
     /// How its cases read a sight line.
@@ -72,6 +68,7 @@ impl File {
         match self.request {
             CUTTINGS => &["pair"],
             ROWS => &["bounds", "spans"],
+            MAPS => &["case", "rows"],
             _ => &["case"],
         }
     }
@@ -82,6 +79,7 @@ pub enum Said {
     /// One call, or two on two cuttings.
     Calls(Vec<Trial>),
     Row(RowCase),
+    Map(MapCase),
 }
 
 fn folder() -> PathBuf {
@@ -150,7 +148,7 @@ fn calls(file: &File, told: Vec<Said>) -> Vec<Trial> {
 pub fn stored_rows() -> Reading<Vec<RowCase>> {
     let row = |said| match said {
         Said::Row(case) => Some(case),
-        Said::Calls(_) => None,
+        _ => None,
     };
     let told = read()?.into_iter().flat_map(|(_, told)| told);
     let all: Vec<RowCase> = told.filter_map(row).collect();
@@ -161,11 +159,14 @@ pub fn stored_rows() -> Reading<Vec<RowCase>> {
     }
 }
 
-/// A file that knows of no patch table leaves its numbers to the model.
-fn complete(trial: &mut Trial, sight: Sight) {
-    if let (Ok(due), Ok(own)) = (&mut trial.due.result, survey_by(sight, &trial.call)) {
-        due.patch_counts = own.patch_counts;
-    }
+/// The rows of maps, of the calls on them.
+pub fn stored_maps() -> Reading<Vec<MapCase>> {
+    let map = |said| match said {
+        Said::Map(case) => Some(case),
+        _ => None,
+    };
+    let told = read()?.into_iter().flat_map(|(_, told)| told);
+    Ok(told.filter_map(map).collect())
 }
 
 /// What each block says.
@@ -180,103 +181,12 @@ pub fn said_by(mut block: Block, file: &File) -> Reading<Said> {
     if !kinds.contains(&block.kind) {
         return Err(block.wrong(&format!("of none of the kinds {kinds:?}")));
     }
-    let said = match file.request {
-        CUTTINGS => Said::Calls(two_cuttings(&mut block)?.into()),
-        ROWS => Said::Row(row_case(&mut block)?),
-        request => Said::Calls(vec![survey_call(&mut block, request)?]),
+    let said = match block.kind {
+        "pair" => Said::Calls(two_cuttings(&mut block)?.into()),
+        "bounds" | "spans" => Said::Row(row_case(&mut block)?),
+        "rows" => Said::Map(map_case(&mut block)?),
+        _ => Said::Calls(vec![survey_call(&mut block, file.request)?]),
     };
     block.end()?;
     Ok(said)
-}
-
-/// "`pair`: two cuttings and one view". The file leaves the counters free: they
-/// are the ends of what question 12 lets pass.
-fn two_cuttings(block: &mut Block) -> Reading<[Trial; 2]> {
-    let about = block.text("about")?;
-    let scenes = [block.bytes("scene_a")?, block.bytes("scene_b")?];
-    let view = view(block, false)?;
-    if block.number::<u32>("answer")? != 0 {
-        return Err(block.wrong("a cutting that is not accepted"));
-    }
-    let picture = picture(block, &view)?;
-    let counts = counts(block)?;
-    let name = format!("{} {} ({about})", block.kind, block.number);
-    let mut cutting = |letter: &str, scene: Vec<u8>, counter: u32| -> Reading<Trial> {
-        let call = Call {
-            counter,
-            ..Call::new(scene, view)
-        };
-        let key = format!("patch_counts_{letter}");
-        let table = patch_counts(block, &key, call.patch_counts_len)?;
-        let rows = picture.chunks(usize::from(view.width).max(1));
-        let result = Ok(Done {
-            unlit: rows.flat_map(survey::unlit_row).collect(),
-            picture: picture.clone(),
-            counts: counts.clone(),
-            patch_counts: table,
-        });
-        let counter = counter + 1;
-        Ok(Trial {
-            name: format!("{name}, scene {letter}"),
-            call,
-            due: Due { result, counter },
-        })
-    };
-    let [a, b] = scenes;
-    Ok([cutting("a", a, 0)?, cutting("b", b, u32::MAX - 1)?])
-}
-
-/// "`case`: one survey call".
-fn survey_call(block: &mut Block, request: u32) -> Reading<Trial> {
-    let about = block.text("about")?;
-    let scene = block.bytes("scene")?;
-    let call = Call {
-        view: view(block, request >= METRES)?,
-        picture_len: block.number("picture_len")?,
-        counts_len: block.number("counts_len")?,
-        patch_counts_len: match request < PATCH_TABLE {
-            true => patches_told(&scene),
-            false => block.number("patch_counts_len")?,
-        },
-        unlit_len: block.number("unlit_len")?,
-        counter: block.number("counter")?,
-        scene: scene.into_boxed_slice(),
-    };
-    Ok(Trial {
-        name: format!("{} {} ({about})", block.kind, block.number),
-        due: due(block, &call, request)?,
-        call,
-    })
-}
-
-/// "Where the answer is not 0 only `counter_after` follows".
-fn due(block: &mut Block, call: &Call, request: u32) -> Reading<Due> {
-    let result = match block.number("answer")? {
-        0 => Ok(done(block, call, request)?),
-        STRUCK => return Err(block.wrong("a number that is struck")),
-        number => Err(number),
-    };
-    Ok(Due {
-        result,
-        counter: block.number("counter_after")?,
-    })
-}
-
-fn done(block: &mut Block, call: &Call, request: u32) -> Reading<Done> {
-    let picture = picture(block, &call.view)?;
-    let counts = counts(block)?;
-    let patch_counts = match request < PATCH_TABLE {
-        true => vec![0; call.patch_counts_len],
-        false => patch_counts(block, "patch_counts", call.patch_counts_len)?,
-    };
-    let mut unlit = Vec::new();
-    for j in 0..usize::from(call.view.height) {
-        unlit.extend(unlit_row(block, j)?);
-    }
-    Ok(Done {
-        picture,
-        counts,
-        patch_counts,
-        unlit,
-    })
 }

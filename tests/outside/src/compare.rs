@@ -4,6 +4,7 @@ use crate::call::{Call, Lent, Library};
 use crate::cuttings::Cuttings;
 use crate::forms;
 use crate::gate::{Gate, STRUCK};
+use crate::map_compare::rows_apart;
 use crate::pairs::{parts, Pair};
 use crate::random::Random;
 use crate::scene::Scene;
@@ -21,6 +22,8 @@ pub enum Difference {
     Counts,
     PatchCounts,
     Unlit,
+    /// F-8: the lit map.
+    Lit,
     Counter,
     /// "A panel's count is the sum over its patches."
     PanelSums,
@@ -29,6 +32,7 @@ pub enum Difference {
     TouchedCounts,
     TouchedPatchCounts,
     TouchedUnlit,
+    TouchedLit,
     TouchedCounter,
     TouchedScene,
     /// Demand 3, in the order of its sentence.
@@ -40,8 +44,12 @@ pub enum Difference {
     CuttingsPicture,
     CuttingsCounts,
     CuttingsUnlit,
+    CuttingsLit,
     /// F-7: two forms of one station.
     Forms,
+    /// F-8: the calls on a row of a map.
+    RowLit,
+    RowFirstUnlit,
     /// `ringbill` printed something else.
     Bill,
 }
@@ -89,6 +97,7 @@ pub fn check_due(library: &dyn Library, call: &Call, due: &Due, rng: &mut Random
     match &due.result {
         Ok(done) => {
             found.extend(miswritten(&lent, done));
+            found.extend(rows_apart(library, &lent.lit, &call.view));
             note(&mut found, lent.counter != due.counter, Counter);
         }
         Err(_) => {
@@ -112,6 +121,7 @@ fn miswritten(lent: &Lent, done: &Done) -> Vec<Difference> {
     note(&mut found, *lent.counts != *done.counts, Counts);
     note(&mut found, *patch_counts != *done.patch_counts, PatchCounts);
     note(&mut found, *lent.unlit != *done.unlit, Unlit);
+    note(&mut found, *lent.lit != *done.lit, Lit);
     found
 }
 
@@ -123,6 +133,7 @@ fn touched(lent: &Lent, before: &Lent) -> Vec<Difference> {
     note(&mut found, lent.counts != before.counts, TouchedCounts);
     note(&mut found, booked, TouchedPatchCounts);
     note(&mut found, lent.unlit != before.unlit, TouchedUnlit);
+    note(&mut found, lent.lit != before.lit, TouchedLit);
     found
 }
 
@@ -139,13 +150,14 @@ pub fn panel_sums_hold(call: &Call, lent: &Lent) -> bool {
 }
 
 /// "From every accepted view their pictures and panel counts must agree": what
-/// two accepted calls on two cuttings left. The unlit lists are those of the
-/// pictures.
+/// two accepted calls on two cuttings left. The unlit lists and the map are those of
+/// the pictures.
 pub fn cuttings_apart(first: &Lent, second: &Lent) -> Vec<Difference> {
     let mut found = Vec::new();
     note(&mut found, first.picture != second.picture, CuttingsPicture);
     note(&mut found, first.counts != second.counts, CuttingsCounts);
     note(&mut found, first.unlit != second.unlit, CuttingsUnlit);
+    note(&mut found, first.lit != second.lit, CuttingsLit);
     found
 }
 

@@ -1,9 +1,10 @@
 //! The model against itself: other ways to the same answers.
 
 use crate::axes::LEVEL;
-use crate::call::{Call, Lent, View};
+use crate::call::{Call, Lent, View, ROW};
 use crate::compare::{check_pair, panel_sums_hold};
 use crate::fault::Faulty;
+use crate::map::{is_lit, words_of};
 use crate::pairs::{parts, Pair};
 use crate::random::Random;
 use crate::ray::{direction, holder, met, Line, Sight};
@@ -11,7 +12,7 @@ use crate::scene::Scene;
 use crate::station::Station::Units;
 use crate::stations::{t, VIEW};
 use crate::steps::{each_alone, pierces};
-use crate::survey::{holders, lines, survey, Done};
+use crate::survey::{holders, lines, survey, used_pairs, Done};
 use crate::vector::{cross, dot, minus, wide, Vector};
 use crate::walk::walk;
 
@@ -114,6 +115,19 @@ pub fn sums_hold(call: &Call) -> bool {
         && done.counts[0] == unlit
         && lit + unlit == cells
         && panel_sums_hold(call, &lent)
+}
+
+/// "Map and list describe the same cells", and beyond the width the map is clear.
+pub fn map_and_lists_agree(call: &Call) -> bool {
+    let done = survey(call).expect("an accepted scene");
+    let width = usize::from(call.view.width);
+    (0..usize::from(call.view.height)).all(|j| {
+        let pairs = used_pairs(&done.unlit, j).chunks(2);
+        let stretch = |pair: &[u16]| usize::from(pair[0])..usize::from(pair[0] + pair[1]);
+        let unlit: Vec<usize> = pairs.flat_map(stretch).collect();
+        let words = words_of(&done.lit, j).expect("a row of the map");
+        (0..ROW).all(|i| is_lit(words, i) == (i < width && !unlit.contains(&i)))
+    })
 }
 
 /// Each part of demand 3 is told apart: a pair of results, spoiled in one way,

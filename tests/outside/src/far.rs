@@ -62,7 +62,7 @@ pub fn ends_of_doubles(call: &Call) -> Vec<Call> {
 
 /// A no to 15 and another: only the one asked first may answer.
 pub fn doubles_and_another(call: &Call) -> Vec<Call> {
-    let others: [&dyn Fn(&mut Call); 10] = [
+    let others: [&dyn Fn(&mut Call); 11] = [
         &|c| c.scene = c.scene[1..].into(),
         &|c| c.view.width = 0,
         &|c| c.view.height = 129,
@@ -72,6 +72,7 @@ pub fn doubles_and_another(call: &Call) -> Vec<Call> {
         &|c| c.counts_len = 0,
         &|c| c.patch_counts_len += 1,
         &|c| c.unlit_len = 0,
+        &|c| c.lit_len += 1,
         &|c| c.counter = u32::MAX,
     ];
     let zero = Double(0);

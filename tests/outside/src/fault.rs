@@ -7,6 +7,7 @@ use crate::cuttings::Cuttings;
 use crate::differential::{case, put, Case, Tally};
 use crate::gate::{Gate, STRUCK};
 use crate::generate::Size;
+use crate::map;
 use crate::random::Random;
 use crate::scene::Scene;
 use crate::station::Station;
@@ -14,6 +15,7 @@ use crate::survey::{booked, Done};
 use crate::wrong_booking::{Book, Painted};
 use crate::wrong_buffers::{Spoil, Trace};
 use crate::wrong_cuttings::Write;
+use crate::wrong_map_rows::{FirstUnlit, LitCells};
 use crate::wrong_paint::{painted, Look};
 use crate::wrong_station::Turn;
 
@@ -35,6 +37,9 @@ pub struct Faulty {
     /// Does a row that holds 128 stretches give 13, a number that is struck and
     /// never an answer?
     pub(crate) struck: bool,
+    /// The calls on a row of a map.
+    pub(crate) row_lit: LitCells,
+    pub(crate) row_first_unlit: FirstUnlit,
 }
 
 impl Faulty {
@@ -53,6 +58,8 @@ impl Faulty {
             turns: [None; 2],
             early: false,
             struck: false,
+            row_lit: map::row_lit,
+            row_first_unlit: map::row_first_unlit,
         }
     }
 
@@ -80,12 +87,13 @@ impl Faulty {
     }
 
     /// The first of some pairs of cuttings by which this fault has shown, its own
-    /// calls set against each other: by the pictures, the counts or the lists,
-    /// whichever are wrong.
+    /// calls set against each other: by the pictures, the counts, the lists or the
+    /// map, whichever are wrong.
     pub fn found_by_cuttings(&self, pairs: &[Cuttings]) -> Option<usize> {
         let shows = match self.shows[0] {
             Difference::Counts => Difference::CuttingsCounts,
             Difference::Unlit => Difference::CuttingsUnlit,
+            Difference::Lit => Difference::CuttingsLit,
             _ => Difference::CuttingsPicture,
         };
         (0..pairs.len()).find(|&k| {
@@ -177,5 +185,13 @@ impl Library for Faulty {
 
     fn gate(&self, call: &Call) -> u32 {
         self.judge(&self.gate, &taken(self.turns[1], call))
+    }
+
+    fn row_lit(&self, lit: &[u64], row: usize) -> u32 {
+        (self.row_lit)(lit, row)
+    }
+
+    fn row_first_unlit(&self, lit: &[u64], width: u16, row: usize) -> u32 {
+        (self.row_first_unlit)(lit, width, row)
     }
 }

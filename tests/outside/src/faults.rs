@@ -8,7 +8,9 @@ use crate::wrong_camera::CAMERAS;
 use crate::wrong_cuttings::{CUT_LOOKS, WRITES};
 use crate::wrong_gate::{WRONG, WRONG_STRUCK};
 use crate::wrong_joints::JOINTS;
-use crate::wrong_lengths::{LENGTHS, SHORT_LENGTHS};
+use crate::wrong_lengths::{LENGTHS, MAP_LENGTHS, SHORT_LENGTHS};
+use crate::wrong_map::{MAP_SPOILS, MAP_TRACES};
+use crate::wrong_map_rows::{FIRST_UNLIT, LIT_CELLS};
 use crate::wrong_paint::LOOKS;
 use crate::wrong_station::{RANGES, ROUNDINGS, WRONG_STATIONS};
 
@@ -18,6 +20,7 @@ impl Faulty {
         all.extend(Faulty::writers());
         all.extend(Faulty::gates());
         all.extend(Faulty::stations());
+        all.extend(Faulty::maps());
         all
     }
 
@@ -75,6 +78,37 @@ impl Faulty {
             ..Faulty::named(name, &[Difference::Gate])
         });
         wrong.chain(struck).chain(short).collect()
+    }
+
+    /// The map written wrongly, touched, or of another length.
+    pub fn maps() -> Vec<Faulty> {
+        let spoils = MAP_SPOILS.iter().map(|&(name, spoil)| Faulty {
+            spoil,
+            ..Faulty::named(name, &[Difference::Lit])
+        });
+        let traces = MAP_TRACES.iter().map(|&(name, trace)| Faulty {
+            trace,
+            ..Faulty::named(name, &[Difference::TouchedLit])
+        });
+        let gates = MAP_LENGTHS.iter().map(|&(name, wrong)| Faulty {
+            gate: wrong(),
+            survey_gate: wrong(),
+            ..Faulty::named(name, &[Difference::Gate, Difference::Answer])
+        });
+        spoils.chain(traces).chain(gates).collect()
+    }
+
+    /// The calls on a row of a map.
+    pub fn map_rows() -> Vec<Faulty> {
+        let lit = LIT_CELLS.iter().map(|&(name, row_lit)| Faulty {
+            row_lit,
+            ..Faulty::named(name, &[Difference::RowLit])
+        });
+        let first = FIRST_UNLIT.iter().map(|&(name, row_first_unlit)| Faulty {
+            row_first_unlit,
+            ..Faulty::named(name, &[Difference::RowFirstUnlit])
+        });
+        lit.chain(first).collect()
     }
 
     /// Stations in metres taken for others, refused or let pass.

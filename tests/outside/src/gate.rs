@@ -5,7 +5,8 @@
 //! 13 is struck and its number is never used again."
 
 use crate::axes::Axes;
-use crate::call::{Call, COUNTS, ROW};
+use crate::call::Call;
+use crate::fitting::lengths_fit;
 use crate::scene::{pair_at, u16_at, u32_at, Patch, Scene, HEADER, NONE, SIZES};
 use crate::vector::{cross, dot, minus, normal, side, wide, Point, Vector};
 
@@ -272,24 +273,6 @@ pub fn parts_within(axes: &Axes, low: i16, high: i16) -> bool {
     let vectors = axes.vectors();
     let mut parts = vectors.iter().flatten();
     parts.all(|part| (low..=high).contains(part))
-}
-
-/// 11: also "Question 11 covers the new table's length."
-fn lengths_fit(call: &Call, scene: &Scene) -> bool {
-    view_lengths_fit(call) && table_fits(call, scene)
-}
-
-/// "Has the picture (u16) width × height cells, the counts (u32) 1,025, the
-/// unlit lists (u16) height × 256?"
-pub fn view_lengths_fit(call: &Call) -> bool {
-    call.picture_len == call.view.cells()
-        && call.counts_len == COUNTS
-        && call.unlit_len == usize::from(call.view.height) * ROW
-}
-
-/// "A further lent table (u32, one entry a patch)".
-pub fn table_fits(call: &Call, scene: &Scene) -> bool {
-    call.patch_counts_len == scene.records.len()
 }
 
 /// 12: "Is the station counter below 4,294,967,295?"

@@ -2,7 +2,7 @@
 
 use crate::axes::Axes;
 use crate::block::{Block, Reading};
-use crate::call::{View, COUNTS, ROW};
+use crate::call::{View, COUNTS, ROW, WORDS};
 use crate::double::Double;
 use crate::station::Station;
 
@@ -100,4 +100,13 @@ pub fn unlit_row(block: &mut Block, j: usize) -> Reading<Vec<u16>> {
     }
     row.resize(ROW, 0);
     Ok(row)
+}
+
+/// "j, then row j's four words".
+pub fn lit_row(block: &mut Block, j: usize) -> Reading<Vec<u64>> {
+    let words = block.row_words("lit_row", j)?;
+    match words.len() == WORDS {
+        true => block.lit_words(&words),
+        false => Err(block.wrong("not four words")),
+    }
 }

@@ -1,33 +1,38 @@
 //! An outside check of the lining survey, in exact whole numbers.
 //!
-//! The model: `vector`, `axes`, `double`, `station`, `scene`, `gate`, `ray`,
-//! `survey`, `bill`, `stations`; beside it `walk`; and of one row `row`, `worst`.
+//! The model: `vector`, `axes`, `double`, `station`, `scene`, `gate`, `fitting`,
+//! `ray`, `map`, `survey`, `bill`, `stations`; beside it `walk`; and of one row
+//! `row`, `worst`.
 //! The cases: `random`, `polygon`, `soup`, `works`, `hinge`, `tree`, `loose`,
 //! `mount`, `view`, `generate`, `harmed`, `damage`, `stored`, `header`, `outer`,
-//! `pairs`; of two cuttings `cut`, `panels`, `planner`, `along`, `cuttings`, and
-//! `cover`; of stations in metres `doubles`, `gauge`, `forms`, `far`.
+//! `lengths`, `pairs`; of two cuttings `cut`, `panels`, `planner`, `along`,
+//! `cuttings`, and `cover`; of stations in metres `doubles`, `gauge`, `forms`,
+//! `far`; of maps `bare_maps`.
 //! Cases with what is due known beforehand: `trial`, `turned`, `booking`,
-//! `joints`, `stretches`, `rings`, `metres`, `metres_order`, and from files
-//! `block`, `keys`, `cases`.
+//! `joints`, `stretches`, `rings`, `metres`, `metres_order`, `map_stations`,
+//! `map_rows`, and from files `block`, `keys`, `cases`, `call_cases`, `map_cases`.
 //! Rows by two programs: `program`, `row_programs`, `row_cases`, `row_stations`,
 //! `row_trials`, `row_spans`, `row_tally`, `row_compare`, and what shows that
 //! these can fail: `row_check`, `row_fault`, `wrong_looks`, `wrong_rows`,
-//! `wrong_makers`.
-//! The comparison: `compare`, `differential`, `gauging`, `tally`,
-//! `station_tally`, `beside`; and what shows that it can fail: `fault`, `faults`,
-//! `wrong_gate`, `wrong_lengths`, `wrong_questions`, `wrong_station`,
+//! `wrong_row_maps`, `wrong_makers`.
+//! The comparison: `compare`, `map_compare`, `differential`, `gauging`, `tally`,
+//! `station_tally`, `map_tally`, `beside`; and what shows that it can fail: `fault`,
+//! `faults`, `wrong_gate`, `wrong_lengths`, `wrong_questions`, `wrong_station`,
 //! `wrong_paint`, `wrong_joints`, `wrong_camera`, `wrong_booking`,
-//! `wrong_cuttings`, `wrong_buffers`, `station_check`, `altered`; and the model
-//! against itself: `consistency`, `steps`, `cuttings_check`, `double_check`.
+//! `wrong_cuttings`, `wrong_buffers`, `wrong_map`, `wrong_map_rows`,
+//! `station_check`, `map_check`, `altered`; and the model against itself:
+//! `consistency`, `steps`, `cuttings_check`, `double_check`.
 
 pub mod along;
 pub mod altered;
 pub mod axes;
+pub mod bare_maps;
 pub mod beside;
 pub mod bill;
 pub mod block;
 pub mod booking;
 pub mod call;
+pub mod call_cases;
 pub mod cases;
 pub mod compare;
 pub mod consistency;
@@ -43,6 +48,7 @@ pub mod doubles;
 pub mod far;
 pub mod fault;
 pub mod faults;
+pub mod fitting;
 pub mod forms;
 pub mod gate;
 pub mod gauge;
@@ -53,7 +59,15 @@ pub mod header;
 pub mod hinge;
 pub mod joints;
 pub mod keys;
+pub mod lengths;
 pub mod loose;
+pub mod map;
+pub mod map_cases;
+pub mod map_check;
+pub mod map_compare;
+pub mod map_rows;
+pub mod map_stations;
+pub mod map_tally;
 pub mod metres;
 pub mod metres_order;
 pub mod mount;
@@ -104,7 +118,10 @@ pub mod wrong_joints;
 pub mod wrong_lengths;
 pub mod wrong_looks;
 pub mod wrong_makers;
+pub mod wrong_map;
+pub mod wrong_map_rows;
 pub mod wrong_paint;
 pub mod wrong_questions;
+pub mod wrong_row_maps;
 pub mod wrong_rows;
 pub mod wrong_station;

@@ -1,5 +1,5 @@
 //! The library through its C interface: the station in units, or in metres by
-//! calls of their own.
+//! calls of their own; and the calls on a map's row.
 
 use outside::call::{Call, Lent, Library};
 use outside::double::Double;
@@ -36,6 +36,8 @@ macro_rules! declared {
                 patch_counts_len: usize,
                 unlit: *mut u16,
                 unlit_len: usize,
+                lit: *mut u64,
+                lit_len: usize,
                 counter: *mut u32,
             ) -> u32;
 
@@ -61,6 +63,7 @@ macro_rules! declared {
                 counts_len: usize,
                 patch_counts_len: usize,
                 unlit_len: usize,
+                lit_len: usize,
                 counter: u32,
             ) -> u32;
         }
@@ -69,6 +72,12 @@ macro_rules! declared {
 
 declared!(ring_survey, ring_gate, i16);
 declared!(ring_survey_metres, ring_gate_metres, f64);
+
+#[link(name = "survey", kind = "static")]
+extern "C" {
+    fn ring_row_lit(lit: *const u64, lit_len: usize, row: usize) -> u32;
+    fn ring_row_first_unlit(lit: *const u64, lit_len: usize, width: u16, row: usize) -> u32;
+}
 
 /// Puts scene, station, camera and window, and after them what else is told.
 macro_rules! put {
@@ -112,6 +121,8 @@ macro_rules! survey {
             $lent.patch_counts.len(),
             $lent.unlit.as_mut_ptr(),
             $lent.unlit.len(),
+            $lent.lit.as_mut_ptr(),
+            $lent.lit.len(),
             &mut $lent.counter,
         )
     };
@@ -127,6 +138,7 @@ macro_rules! gate {
             $call.counts_len,
             $call.patch_counts_len,
             $call.unlit_len,
+            $call.lit_len,
             $call.counter,
         )
     };
@@ -156,5 +168,14 @@ impl Library for Linked {
                 Station::Metres(eye) => gate!(ring_gate_metres, call, eye.map(Double::value)),
             }
         }
+    }
+
+    // The map is lent with its own length, whatever row is asked.
+    fn row_lit(&self, lit: &[u64], row: usize) -> u32 {
+        unsafe { ring_row_lit(lit.as_ptr(), lit.len(), row) }
+    }
+
+    fn row_first_unlit(&self, lit: &[u64], width: u16, row: usize) -> u32 {
+        unsafe { ring_row_first_unlit(lit.as_ptr(), lit.len(), width, row) }
     }
 }

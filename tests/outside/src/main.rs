@@ -1,5 +1,5 @@
-//! The library set against the stored cases, the stations, doubles by the
-//! thousand, and the model case by case.
+//! The library set against the stored cases, the stations, doubles and bare maps by
+//! the thousand, and the model case by case.
 //!
 //!     differential [--cases N] [--cuttings N] [--seed S] [--only K]
 //!                  [--only-cuttings K] [--small] [--trace] [--out DIR]
@@ -21,12 +21,14 @@ use std::ops::Range;
 use std::process::exit;
 
 use library::Linked;
+use outside::bare_maps::put_bare_maps;
 use outside::bill::{bill, LONGEST, SHORTEST};
 use outside::compare::Difference;
 use outside::differential::{case, put, two_cuttings, Case, Tally};
 use outside::gate::Gate;
 use outside::gauging::gauge_library;
 use outside::generate::{FULL, SMALL};
+use outside::map_cases::hold_maps;
 use outside::program::printed;
 use outside::random::Random;
 use outside::trial::hold_library;
@@ -108,6 +110,10 @@ fn main() {
     if all && !options.small {
         known += gauge_library(&Linked, options.seed, options.cases);
     }
+    if all {
+        known += hold_maps(&Linked);
+        known += put_bare_maps(&Linked, options.seed, 4 * options.cases);
+    }
     for k in cases {
         let made = case(options.seed, k, size);
         run(&options, k, &made, &mut tally);
@@ -148,12 +154,13 @@ fn keep(options: &Options, k: u64, made: &Case, differences: &[Difference]) {
     for (place, call) in made.calls().into_iter().enumerate() {
         let file = format!("{}/{sort}-{}-{k}-{place}.case", options.out, options.seed);
         println!(
-            "  {file}: {:?}, lengths {} {} {} {}, counter {}",
+            "  {file}: {:?}, lengths {} {} {} {} {}, counter {}",
             call.view,
             call.picture_len,
             call.counts_len,
             call.patch_counts_len,
             call.unlit_len,
+            call.lit_len,
             call.counter
         );
         if let Err(error) = fs::write(&file, call.standard_input()) {
@@ -186,6 +193,9 @@ fn tell(tally: &Tally) {
         println!("{times:8} views show {name}");
     }
     for (times, name) in tally.stations.told() {
+        println!("{times:8} {name}");
+    }
+    for (times, name) in tally.maps.told() {
         println!("{times:8} {name}");
     }
     for (answer, times) in &tally.stations.answers {

@@ -10,6 +10,7 @@ const NAN: f64 = f64::NAN;
 
 pub fn of_order() -> Vec<Trial> {
     let mut all = of_call();
+    all.extend(of_no_double());
     all.extend(of_units());
     all.extend(of_scenes());
     all
@@ -18,7 +19,7 @@ pub fn of_order() -> Vec<Trial> {
 fn of_call() -> Vec<Trial> {
     let nan = Station::metres([0.0, 0.0, NAN]);
     let far = Station::metres([64.0, 0.0, 0.0]);
-    let mut all = vec![
+    vec![
         asked("NaN in z only", nan, 15, |_| ()),
         asked("NaN, and a lens of 0", nan, 15, |c| c.view.lens = 0),
         asked("NaN, and a width of 0", nan, 15, |c| c.view.width = 0),
@@ -32,15 +33,20 @@ fn of_call() -> Vec<Trial> {
             c.patch_counts_len = 0
         }),
         asked("NaN, and long lists", nan, 15, |c| c.unlit_len += 1),
+        asked("NaN, and a short map", nan, 15, |c| c.lit_len -= 1),
         asked("NaN, and a full counter", nan, 15, |c| c.counter = u32::MAX),
         asked("NaN, and all of these", nan, 15, |c| {
             c.view.lens = 0;
             c.view.axes.right = [-1, 0, 0];
             (c.picture_len, c.counter) = (0, u32::MAX);
         }),
-    ];
+    ]
+}
+
+/// Doubles that pass, and a no to a later question.
+fn of_no_double() -> Vec<Trial> {
     let fine = Station::metres([0.0625, 0.0, -0.0]);
-    all.extend([
+    vec![
         asked("in metres, a lens of 0", fine, 10, |c| c.view.lens = 0),
         asked("in metres, up for forward", fine, 14, |c| {
             c.view.axes.forward = c.view.axes.up
@@ -48,11 +54,11 @@ fn of_call() -> Vec<Trial> {
         asked("in metres, a short picture", fine, 11, |c| {
             c.picture_len -= 1
         }),
+        asked("in metres, a long map", fine, 11, |c| c.lit_len += 1),
         asked("in metres, a full counter", fine, 12, |c| {
             c.counter = u32::MAX
         }),
-    ]);
-    all
+    ]
 }
 
 /// A station in units is never refused with 15.

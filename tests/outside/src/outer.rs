@@ -1,12 +1,14 @@
-//! Damage to the call around the scene, aimed at questions 10 to 12, 14 and
-//! 15.
+//! Damage to the call around the scene, aimed at questions 10 to 12, 14 and 15;
+//! that to the lengths is in `lengths`.
 
 use crate::axes::{Axes, LEVEL};
-use crate::call::{Call, View, COUNTS, ROW};
+use crate::call::{Call, View};
 use crate::far::{any_bits, double_out, doubles_and_another, ends_of_doubles};
+use crate::lengths::{
+    counts_length, ends_of_lengths, map_length, picture_length, stepped, table_length, unlit_length,
+};
 use crate::mount;
 use crate::random::Random;
-use crate::scene::{pair_at, HEADER, SIZES};
 use crate::station::Station::Units;
 
 pub type CallHarm = fn(&mut Call, &mut Random);
@@ -25,6 +27,8 @@ pub const CALL: &[(u32, CallHarm)] = &[
     (11, table_length),
     (11, table_length),
     (11, unlit_length),
+    (11, map_length),
+    (11, map_length),
     (12, counter_full),
 ];
 
@@ -49,6 +53,7 @@ fn window_out(call: &mut Call, rng: &mut Random) {
     if fitting.picture_len < 100_000 && fitting.unlit_len < 100_000 && !rng.once_in(4) {
         call.picture_len = fitting.picture_len;
         call.unlit_len = fitting.unlit_len;
+        call.lit_len = fitting.lit_len;
     }
 }
 
@@ -82,56 +87,6 @@ fn vectors_mirrored(call: &mut Call, rng: &mut Random) {
     call.view.axes = Axes::of(vectors);
 }
 
-fn length(rng: &mut Random, right: usize) -> usize {
-    let choices = [
-        right + 1,
-        right.saturating_sub(1),
-        0,
-        right * 2,
-        right + 65_536,
-    ];
-    rng.pick(&choices)
-}
-
-fn picture_length(call: &mut Call, rng: &mut Random) {
-    let (width, height) = (call.view.width, call.view.height);
-    call.picture_len = match rng.below(3) {
-        0 => usize::from(width.max(height)),
-        _ => length(rng, call.picture_len.min(40_000)),
-    };
-}
-
-fn counts_length(call: &mut Call, rng: &mut Random) {
-    call.counts_len = length(rng, COUNTS);
-}
-
-/// The patch table too short or too long, or as long as something else of the
-/// scene or the call.
-fn table_length(call: &mut Call, rng: &mut Random) {
-    if rng.once_in(6) {
-        // Lent the wrong way round.
-        std::mem::swap(&mut call.counts_len, &mut call.patch_counts_len);
-        return;
-    }
-    let told = |k: usize| match call.scene.len() < HEADER {
-        true => 0,
-        false => (pair_at(&call.scene, k).1 as usize / SIZES[k]).min(5_000),
-    };
-    let others = [COUNTS, 1_024, told(0), told(2), 6 * told(1)];
-    call.patch_counts_len = match rng.below(3) {
-        0 => rng.pick(&others),
-        _ => length(rng, call.patch_counts_len),
-    };
-}
-
-fn unlit_length(call: &mut Call, rng: &mut Random) {
-    call.unlit_len = match rng.below(3) {
-        0 => usize::from(call.view.height.min(128)),
-        1 => ROW,
-        _ => length(rng, call.unlit_len.min(40_000)),
-    };
-}
-
 fn counter_full(call: &mut Call, rng: &mut Random) {
     call.counter = rng.pick(&[u32::MAX, u32::MAX, u32::MAX - 1, 0]);
 }
@@ -153,15 +108,6 @@ pub fn ends(call: &Call) -> Vec<Call> {
     all.extend([0, 1, 256, 257].map(|width| seen(View { width, ..view })));
     all.extend([0, 1, 128, 129].map(|height| seen(View { height, ..view })));
     all.extend([0, 1, 4_096, 4_097].map(|lens| seen(View { lens, ..view })));
-    for step in [-1, 1] {
-        all.push(changed(&|c| c.picture_len = stepped(c.picture_len, step)));
-        all.push(changed(&|c| c.counts_len = stepped(c.counts_len, step)));
-        all.push(changed(&|c| {
-            c.patch_counts_len = stepped(c.patch_counts_len, step)
-        }));
-        all.push(changed(&|c| c.unlit_len = stepped(c.unlit_len, step)));
-        all.push(changed(&|c| c.unlit_len = stepped(c.unlit_len, 256 * step)));
-    }
     for counter in [0, u32::MAX - 1, u32::MAX] {
         all.push(changed(&|c| c.counter = counter));
         all.push(changed(&|c| (c.counts_len, c.counter) = (0, counter)));
@@ -170,7 +116,7 @@ pub fn ends(call: &Call) -> Vec<Call> {
     all.push(changed(&|c| (c.view.lens, c.counts_len) = (4_097, 0)));
     all.extend(ends_of_axes().map(|axes| changed(&|c| c.view.axes = axes)));
     all.extend(axes_and_another(call));
-    all.extend(lengths_of_the_table(call));
+    all.extend(ends_of_lengths(call));
     all.extend(ends_of_doubles(call));
     all.extend(doubles_and_another(call));
     all
@@ -189,24 +135,9 @@ fn ends_of_axes() -> impl Iterator<Item = Axes> {
     parts.chain(volumes)
 }
 
-/// The patch table of other lengths, and with it a no to another question.
-fn lengths_of_the_table(call: &Call) -> Vec<Call> {
-    let others: [&dyn Fn(&mut Call); 8] = [
-        &|c| c.patch_counts_len = 0,
-        &|c| c.patch_counts_len = 1_024,
-        &|c| c.patch_counts_len = c.counts_len,
-        &|c| (c.counts_len, c.patch_counts_len) = (c.patch_counts_len, c.counts_len),
-        &|c| (c.patch_counts_len, c.counter) = (c.patch_counts_len + 1, u32::MAX),
-        &|c| (c.patch_counts_len, c.view.lens) = (c.patch_counts_len + 1, 0),
-        &|c| (c.patch_counts_len, c.picture_len) = (c.patch_counts_len + 1, 0),
-        &|c| (c.patch_counts_len, c.scene) = (c.patch_counts_len + 1, c.scene[1..].into()),
-    ];
-    others.map(|other| call.with(other)).into()
-}
-
 /// A no to 14 and another: only the one asked first may answer.
 fn axes_and_another(call: &Call) -> Vec<Call> {
-    let others: [&dyn Fn(&mut Call); 8] = [
+    let others: [&dyn Fn(&mut Call); 9] = [
         &|c| c.scene = c.scene[1..].into(),
         &|c| c.view.station = c.view.station.with_part(2, 10_001),
         &|c| c.view.lens = 0,
@@ -214,6 +145,7 @@ fn axes_and_another(call: &Call) -> Vec<Call> {
         &|c| c.counts_len = 0,
         &|c| c.patch_counts_len = stepped(c.patch_counts_len, 1),
         &|c| c.unlit_len = stepped(c.unlit_len, 1),
+        &|c| c.lit_len = stepped(c.lit_len, 1),
         &|c| c.counter = u32::MAX,
     ];
     let flat = Axes {
@@ -229,25 +161,6 @@ fn axes_and_another(call: &Call) -> Vec<Call> {
         all.extend(others.map(with));
     }
     all
-}
-
-fn stepped(length: usize, step: isize) -> usize {
-    length.saturating_add_signed(step)
-}
-
-/// Lengths that only the gate can be asked about: nobody lends so much.
-pub fn beyond_memory(call: &mut Call, rng: &mut Random) {
-    let add = rng.pick(&[1 << 16, 1 << 32, 1 << 48, 1 << 63]);
-    let place = match rng.below(4) {
-        0 => &mut call.picture_len,
-        1 => &mut call.counts_len,
-        2 => &mut call.patch_counts_len,
-        _ => &mut call.unlit_len,
-    };
-    *place = match rng.once_in(4) {
-        true => usize::MAX,
-        false => place.wrapping_add(add),
-    };
 }
 
 /// A window whose measures are all in range, anywhere.

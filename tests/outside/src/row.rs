@@ -5,6 +5,8 @@
 
 use std::fmt;
 
+use crate::call::WORDS;
+use crate::map::lit_row;
 use crate::survey::{unlit_row, used_pairs};
 
 /// From the first column to the last, which may lie beyond the row. Where the
@@ -93,6 +95,7 @@ impl Row {
             lit: newly.len(),
             full: pairs.is_empty(),
             pairs,
+            map: lit_row(&self.cells),
             cells: self.cells.clone(),
         }
     }
@@ -113,7 +116,8 @@ pub fn laid(width: u16, spans: &[Span]) -> Vec<Line> {
 }
 
 /// What is told of a span: its number, how many stretches it looked at, how many
-/// cells it newly lit, whether no column is unlit any more, and the row after it.
+/// cells it newly lit, whether no column is unlit any more, and the row after it by
+/// its pairs, its words of the map and its cells.
 #[derive(Clone, Debug, PartialEq, Eq)]
 pub struct Line {
     pub number: usize,
@@ -121,6 +125,7 @@ pub struct Line {
     pub lit: usize,
     pub full: bool,
     pub pairs: Vec<Pair>,
+    pub map: [u64; WORDS],
     pub cells: Vec<u16>,
 }
 
@@ -132,6 +137,10 @@ impl fmt::Display for Line {
             write!(f, " {offset} {length}")?;
         }
         write!(f, " |")?;
+        for word in &self.map {
+            write!(f, " {word:016x}")?;
+        }
+        write!(f, " |")?;
         self.cells.iter().try_for_each(|cell| write!(f, " {cell}"))
     }
 }
@@ -140,7 +149,8 @@ impl Line {
     /// The line of this text; None where it is not just in the form above.
     pub fn read(text: &str) -> Option<Line> {
         let (head, rest) = text.split_once(':')?;
-        let (pairs, cells) = rest.split_once(" |")?;
+        let (pairs, rest) = rest.split_once(" |")?;
+        let (map, cells) = rest.split_once(" |")?;
         let [number, looked, lit, full] = numbers(head)?.try_into().ok()?;
         let pairs: Vec<u16> = numbers(pairs)?;
         let line = Line {
@@ -149,10 +159,18 @@ impl Line {
             lit,
             full: full == 1,
             pairs: pairs.chunks_exact(2).map(|two| [two[0], two[1]]).collect(),
+            map: words(map)?,
             cells: numbers(cells)?,
         };
         (line.to_string() == text).then_some(line)
     }
+}
+
+/// The row's words, in hex and parted by spaces.
+fn words(text: &str) -> Option<[u64; WORDS]> {
+    let words = text.split_whitespace();
+    let words = words.map(|word| u64::from_str_radix(word, 16).ok());
+    words.collect::<Option<Vec<u64>>>()?.try_into().ok()
 }
 
 /// Numbers parted by spaces.

@@ -2,6 +2,7 @@
 //! they look at, the maker's spans; and the blocks of stored cases that tell them.
 
 use crate::block::{Block, Reading};
+use crate::map::lit_row;
 use crate::row::{span, Line, Pair, Row, Span};
 use crate::row_compare::{check_bounds, check_laid, check_worst, Bounds, RowDifference};
 use crate::row_programs::Rows;
@@ -72,7 +73,7 @@ pub type Told = (Span, usize, usize, Vec<Pair>);
 
 /// The lines due for what is told of spans in order. What a line holds besides
 /// follows from the pairs before and after: a column that is unlit no more has
-/// the panel of the span's number.
+/// the panel of the span's number, and is lit in the map.
 pub fn laid_as_told(name: String, width: u16, told: Vec<Told>) -> Laid {
     let mut row = Row::fresh(width);
     let mut due = Vec::new();
@@ -96,6 +97,7 @@ pub fn laid_as_told(name: String, width: u16, told: Vec<Told>) -> Laid {
             lit,
             full: pairs.is_empty(),
             pairs,
+            map: lit_row(&row.cells),
             cells: row.cells.clone(),
         });
     }

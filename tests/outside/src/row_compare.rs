@@ -12,6 +12,8 @@ pub enum RowDifference {
     Lit,
     Full,
     Pairs,
+    /// F-8: the row's four words.
+    Map,
     Cells,
     /// "The k-th span of a fresh row looks at no more than the smaller of k and
     /// 128", whatever is due.
@@ -66,6 +68,7 @@ fn apart(said: &Line, due: &Line) -> Vec<RowDifference> {
         (said.lit != due.lit, Lit),
         (said.full != due.full, Full),
         (said.pairs != due.pairs, Pairs),
+        (said.map != due.map, Map),
         (said.cells != due.cells, Cells),
     ];
     let found = differs.into_iter().filter(|(differs, _)| *differs);

@@ -6,6 +6,7 @@ use crate::row_programs::Rows;
 use crate::worst::{made, WorstSpan, LAID, WIDTH};
 use crate::wrong_looks::LOOKS;
 use crate::wrong_makers::{MAKERS, SUMS};
+use crate::wrong_row_maps::MAPS;
 use crate::wrong_rows::{LINES, WRITES};
 
 /// A span that was laid: the row before it and after it.
@@ -70,6 +71,10 @@ impl Laying {
             tell,
             ..Laying::named(name, shows)
         });
+        let maps = MAPS.iter().map(|&(name, tell)| Laying {
+            tell,
+            ..Laying::named(name, &[RowDifference::Map])
+        });
         let writes = WRITES.iter().map(|&(name, write)| Laying {
             write,
             ..Laying::named(name, &[RowDifference::Form])
@@ -84,7 +89,7 @@ impl Laying {
             of_maker: true,
             ..Laying::named(name, &[RowDifference::Reach])
         });
-        let lines = looks.chain(tells).chain(writes);
+        let lines = looks.chain(tells).chain(maps).chain(writes);
         lines.chain(makers).chain(sums).collect()
     }
 

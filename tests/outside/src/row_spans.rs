@@ -212,10 +212,12 @@ fn whole_or_extreme(row: &Row, rng: &mut Random) -> Span {
 }
 
 /// Sequences that no seed changes: every span on every state of the narrowest
-/// rows, and combs that are asked everywhere and then filled.
+/// rows, combs that are asked everywhere and then filled, and spans from the ends of
+/// the map's words to their ends.
 pub fn constructed() -> Vec<Sequence> {
     let mut all: Vec<Sequence> = (1..=3).flat_map(narrow).collect();
     all.extend([1, 2, 3, 16, 254, 255, 256].map(asked_and_filled));
+    all.extend([100, 256].into_iter().flat_map(by_words));
     all
 }
 
@@ -249,4 +251,21 @@ fn asked_and_filled(width: u16) -> Sequence {
     }
     making.lay(span(0, u16::MAX));
     making.named(format!("a comb of {width} columns, asked and filled"))
+}
+
+/// Each span between the ends of the map's words on a fresh row; then one with no
+/// column, and one with the column before it and behind it.
+fn by_words(width: u16) -> Vec<Sequence> {
+    let ends = [0, 1, 63, 64, 65, 127, 128, 129, 191, 192, 193, 254, 255];
+    let mut all = Vec::new();
+    for (k, &first) in ends.iter().enumerate() {
+        for &last in &ends[k..] {
+            let mut making = Making::on(width);
+            making.lay(span(first, last));
+            making.lay(span(last + 1, last));
+            making.lay(span(first.saturating_sub(1), last + 1));
+            all.push(making.named(format!("{first} to {last} of {width} columns")));
+        }
+    }
+    all
 }

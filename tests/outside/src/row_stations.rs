@@ -1,6 +1,7 @@
 //! Stations of one row, every number worked out by hand: spans over two
 //! stretches, on a full row and beyond the width, and the maker's numbers.
 
+use crate::call::WORDS;
 use crate::row::{span, Pair, Span};
 use crate::row_cases::{laid_as_told, Made, RowCase, Told};
 use crate::row_compare::Bounds;
@@ -85,6 +86,7 @@ pub fn row_stations() -> Vec<RowCase> {
     all.extend(ON_A_FULL_ROW.iter().map(|one| after(full(), one)));
     all.extend([1, 255, 256].map(at_once));
     all.push(no_column());
+    all.extend(MAPPED.iter().map(mapped));
     all.extend([257, 65_535].map(no_row));
     all.extend([worst(), reaching()]);
     all
@@ -116,6 +118,117 @@ fn no_column() -> RowCase {
 fn no_row(width: u16) -> RowCase {
     let mut laid = laid_as_told(format!("a row {width} wide"), width, Vec::new());
     laid.spans = vec![span(0, 3), span(1, 0)];
+    RowCase::Spans(laid)
+}
+
+/// A width, and spans with the stretches looked at, the cells newly lit, the pairs
+/// and the words after each.
+type Mapped = (
+    u16,
+    &'static [(Span, usize, usize, &'static [Pair], [u64; WORDS])],
+);
+
+const ALL: u64 = u64::MAX;
+
+/// Spans that end at a word's end or across it, beyond the width or with no column:
+/// "Map and list describe the same cells on a fresh row, and after every span if
+/// they did before it."
+const MAPPED: &[Mapped] = &[
+    (
+        256,
+        &[
+            (span(0, 63), 1, 64, &[[64, 192]], [ALL, 0, 0, 0]),
+            (
+                span(128, 191),
+                1,
+                64,
+                &[[64, 64], [192, 64]],
+                [ALL, 0, ALL, 0],
+            ),
+            (
+                span(127, 127),
+                1,
+                1,
+                &[[64, 63], [192, 64]],
+                [ALL, 1 << 63, ALL, 0],
+            ),
+            (
+                span(100, 20),
+                0,
+                0,
+                &[[64, 63], [192, 64]],
+                [ALL, 1 << 63, ALL, 0],
+            ),
+            (
+                span(192, 192),
+                2,
+                1,
+                &[[64, 63], [193, 63]],
+                [ALL, 1 << 63, ALL, 1],
+            ),
+            (
+                span(255, 255),
+                2,
+                1,
+                &[[64, 63], [193, 62]],
+                [ALL, 1 << 63, ALL, 1 << 63 | 1],
+            ),
+            (span(0, 300), 2, 125, &[], [ALL; WORDS]),
+            (span(0, 255), 0, 0, &[], [ALL; WORDS]),
+        ],
+    ),
+    (
+        100,
+        &[
+            (
+                span(60, 70),
+                1,
+                11,
+                &[[0, 60], [71, 29]],
+                [0xf << 60, 0x7f, 0, 0],
+            ),
+            (
+                span(90, 300),
+                2,
+                10,
+                &[[0, 60], [71, 19]],
+                [0xf << 60, 0xf_fc00_007f, 0, 0],
+            ),
+            (
+                span(100, 127),
+                2,
+                0,
+                &[[0, 60], [71, 19]],
+                [0xf << 60, 0xf_fc00_007f, 0, 0],
+            ),
+            (span(0, 65_535), 2, 79, &[], [ALL, 0xf_ffff_ffff, 0, 0]),
+        ],
+    ),
+    (
+        65,
+        &[
+            (span(64, 64), 1, 1, &[[0, 64]], [0, 1, 0, 0]),
+            (span(0, 64), 1, 64, &[], [ALL, 1, 0, 0]),
+        ],
+    ),
+    (
+        64,
+        &[
+            (span(64, 64), 1, 0, &[[0, 64]], [0; WORDS]),
+            (span(63, 64), 1, 1, &[[0, 63]], [1 << 63, 0, 0, 0]),
+            (span(0, 63), 1, 63, &[], [ALL, 0, 0, 0]),
+        ],
+    ),
+];
+
+fn mapped((width, told): &Mapped) -> RowCase {
+    let lines = told.iter();
+    let lines = lines.map(|&(span, looked, lit, pairs, _)| (span, looked, lit, pairs.to_vec()));
+    let name = format!("words of a row {width} wide");
+    let mut laid = laid_as_told(name, *width, lines.collect());
+    for (line, (.., words)) in laid.due.iter_mut().zip(*told) {
+        line.map = *words;
+    }
     RowCase::Spans(laid)
 }
 

@@ -56,6 +56,22 @@ const KINDS: &[Kind] = &[
         t.k > 1 && t.row.looked(t.span) as u64 == bound(t.k as u64)
     }),
     ("come after 128 others", |t| t.k > 128),
+    ("go from one word of the map to the next", |t| {
+        t.is_inside() && t.span.first / 64 < t.span.last / 64
+    }),
+    ("cover a whole word of the map", |t| {
+        t.is_inside() && t.span.first.div_ceil(64) < (t.span.last + 1) / 64
+    }),
+    ("begin a word of the map", |t| {
+        t.is_inside() && t.span.first % 64 == 0 && t.span.first > 0
+    }),
+    ("end a word of the map", |t| {
+        t.is_inside() && t.span.last % 64 == 63 && t.span.last < 255
+    }),
+    ("end in a word of the map, but beyond the width", |t| {
+        let end = t.row.width().next_multiple_of(64);
+        t.is_begun() && (t.row.width()..end).contains(&t.span.last)
+    }),
     ("begin at column 65,535", |t| t.span.first == u16::MAX),
     ("end at column 65,535", |t| t.span.last == u16::MAX),
     ("are on a row 1 wide", |t| t.row.width() == 1),

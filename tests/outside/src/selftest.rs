@@ -14,8 +14,8 @@ use outside::bill::bill;
 use outside::block::Reading;
 use outside::call::Call;
 use outside::consistency::{
-    booked_once, old_directions_hold, pair_holds, parts_are_told_apart, rays_agree, sums_hold,
-    turned_back,
+    booked_once, map_and_lists_agree, old_directions_hold, pair_holds, parts_are_told_apart,
+    rays_agree, sums_hold, turned_back,
 };
 use outside::cuttings_check::{faults_show, made, pairs_hold, stored_cover, tampering_shows};
 use outside::differential::{case, put, Case, Tally};
@@ -24,6 +24,7 @@ use outside::fault::Faulty;
 use outside::gate::{Gate, STRUCK};
 use outside::gauging::gauging_tells;
 use outside::generate::{FULL, SMALL};
+use outside::map_check::maps_hold;
 use outside::random::Random;
 use outside::rings::covered;
 use outside::row_check::rows_hold;
@@ -76,7 +77,8 @@ fn failing() -> usize {
     }
     failed += doubles_hold(SEED, 20_000) + gauging_tells();
     failed += hold_model();
-    for checked in [alterations_show(), stations_find_all()] {
+    let known = [alterations_show(), stations_find_all(), maps_hold(SEED)];
+    for checked in known {
         failed += checked.unwrap_or_else(|why| {
             println!("FAILS {why}");
             1
@@ -120,7 +122,7 @@ fn accepted(made: &Case) -> Option<&Call> {
     (Gate::of_the_paper().judge(call) == 0).then_some(call)
 }
 
-/// Rays, steps, sums, bookings and pairs of made scenes.
+/// Rays, steps, sums, maps, bookings and pairs of made scenes.
 fn consistent(cases: u64) -> usize {
     let (mut scenes, mut pairs, mut back, mut stepped, mut failed) = (0, 0, 0, 0, 0);
     for number in 0..cases {
@@ -133,7 +135,8 @@ fn consistent(cases: u64) -> usize {
             back += usize::from(turned.is_some());
             stepped += usize::from(steps.is_some() && is_read_otherwise(call));
             let others = [turned, steps].map(|held| held.unwrap_or(true));
-            let own = rays_agree(call) && sums_hold(call) && booked_once(call);
+            let sums = sums_hold(call) && map_and_lists_agree(call);
+            let own = rays_agree(call) && sums && booked_once(call);
             held = own && others == [true; 2];
         }
         if let Case::Two(_, pair) = &made {
@@ -164,6 +167,7 @@ fn sound(cases: u64) -> usize {
     println!("answers: {:?}", tally.answers);
     println!("pieces: {:?}", tally.pieces.told());
     println!("stations: {:?}", tally.stations.told());
+    println!("maps: {:?}", tally.maps.told());
     for (name, shown) in tally.views() {
         println!("{name} views: {:?}", shown.beside.told());
     }

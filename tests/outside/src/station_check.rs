@@ -10,7 +10,7 @@ use crate::random::Random;
 use crate::trial::Trial;
 
 /// Does any of the trials find the fault?
-fn is_found(fault: &Faulty, trials: &[Trial]) -> bool {
+pub fn is_found(fault: &Faulty, trials: &[Trial]) -> bool {
     let mut noise = Random::new(1, 1);
     trials.iter().any(|trial| {
         let outcome = check_due(fault, &trial.call, &trial.due, &mut noise);

@@ -1,7 +1,9 @@
-//! The whole answer to a call: picture, counts, patch table and unlit lists.
+//! The whole answer to a call: picture, counts, patch table, unlit lists and lit
+//! map.
 
 use crate::call::{Call, Lent, Library, View, COUNTS, ROW};
 use crate::gate::Gate;
+use crate::map::{self, lit_map};
 use crate::ray::{holder, panel_of, Holder, Line, Sight};
 use crate::scene::{Patch, Scene};
 
@@ -11,6 +13,7 @@ pub struct Done {
     pub counts: Vec<u32>,
     pub patch_counts: Vec<u32>,
     pub unlit: Vec<u16>,
+    pub lit: Vec<u64>,
 }
 
 /// "The result is "done" or this number, no third form."
@@ -58,7 +61,7 @@ impl Due {
     }
 }
 
-/// A library that leaves just what is due, whatever it is asked.
+/// A library that leaves just what is due, whatever scene it is asked about.
 impl Library for Due {
     fn survey(&self, _: &Call, lent: &mut Lent) -> u32 {
         if let Ok(done) = &self.result {
@@ -70,6 +73,14 @@ impl Library for Due {
 
     fn gate(&self, _: &Call) -> u32 {
         self.answer()
+    }
+
+    fn row_lit(&self, lit: &[u64], row: usize) -> u32 {
+        map::row_lit(lit, row)
+    }
+
+    fn row_first_unlit(&self, lit: &[u64], width: u16, row: usize) -> u32 {
+        map::row_first_unlit(lit, width, row)
     }
 }
 
@@ -99,11 +110,12 @@ impl Done {
         Done::told(picture(patches, holders), table, view)
     }
 
-    /// Counts and unlit lists as the cells of a picture give them.
+    /// Counts, unlit lists and lit map as the cells of a picture give them.
     pub fn told(picture: Vec<u16>, patch_counts: Vec<u32>, view: &View) -> Done {
         let rows = picture.chunks(usize::from(view.width));
         Done {
             unlit: rows.flat_map(unlit_row).collect(),
+            lit: lit_map(&picture, view.width),
             counts: counts(&picture),
             patch_counts,
             picture,
@@ -116,6 +128,7 @@ impl Done {
         lent.counts.copy_from_slice(&self.counts);
         lent.patch_counts.copy_from_slice(&self.patch_counts);
         lent.unlit.copy_from_slice(&self.unlit);
+        lent.lit.copy_from_slice(&self.lit);
     }
 }
 

@@ -7,6 +7,7 @@ use crate::beside::Beside;
 use crate::call::{Call, Lent};
 use crate::compare::{Difference, Outcome};
 use crate::cuttings::Cuttings;
+use crate::map_tally::MapsShown;
 use crate::ray::Sight;
 use crate::scene::Scene;
 use crate::station_tally::{two_forms, StationTally, TWO_FORMS};
@@ -23,6 +24,7 @@ pub struct Tally {
     pub pieces: Pieces,
     pub cuttings: CuttingsTally,
     pub stations: StationTally,
+    pub maps: MapsShown,
     pub differences: BTreeMap<Difference, u64>,
     pub failed: u64,
 }
@@ -91,6 +93,7 @@ impl Tally {
             let scene = Scene::read(&call.scene);
             shown.beside.add(&scene.patches(), &call.view);
             self.pieces.add(&scene, &outcome.lent);
+            self.maps.add(&outcome.lent.lit, call.view.width);
         }
     }
 }
@@ -108,6 +111,7 @@ impl Tally {
         let never = pieces
             .chain(beside)
             .chain(stations)
+            .chain(self.maps.told())
             .filter(|(times, _)| *times == 0);
         never.map(|(_, name)| name).collect()
     }

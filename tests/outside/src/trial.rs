@@ -1,6 +1,6 @@
 //! Calls with what is due for them, known beforehand: the turned stations,
 //! those booked patch by patch, those of joints, those of stretches, those of
-//! cuttings, those in metres, and the stored cases.
+//! cuttings, those in metres, those of the map, and the stored cases.
 
 use crate::block::Reading;
 use crate::booking::booking;
@@ -8,6 +8,7 @@ use crate::call::{Call, Lent, Library, View};
 use crate::cases::stored;
 use crate::compare::{check_due, cuttings_apart};
 use crate::joints::joints;
+use crate::map_stations::maps;
 use crate::metres::metres;
 use crate::random::Random;
 use crate::ray::Sight;
@@ -89,6 +90,7 @@ fn suites() -> Reading<Vec<Suite>> {
         told("the stretch stations", Sight::Beside, stretches()),
         told("the cutting stations", Sight::Beside, rings()),
         told("the metre stations", Sight::Beside, metres()),
+        told("the map stations", Sight::Beside, maps()),
     ];
     all.extend(stored()?);
     Ok(all)

@@ -2,6 +2,7 @@
 //! its own two calls against each other, without the model.
 
 use crate::compare::Difference;
+use crate::map::lit_map;
 use crate::ray::{against, met, Holder, Line};
 use crate::scene::{Patch, Record, Scene};
 use crate::survey::{unlit_row, Done};
@@ -15,6 +16,7 @@ pub type Write = fn(&Painted, Done) -> Done;
 const PICTURE: &[Difference] = &[Difference::Picture];
 const COUNTS: &[Difference] = &[Difference::Counts];
 const UNLIT: &[Difference] = &[Difference::Unlit];
+const LIT: &[Difference] = &[Difference::Lit];
 
 pub const WRITES: &[(&str, &[Difference], Write)] = &[
     ("patches' numbers for panels'", PICTURE, |p, done| Done {
@@ -46,15 +48,24 @@ pub const WRITES: &[(&str, &[Difference], Write)] = &[
         recounted(p, done, |patches, cells| patches + cells.min(1))
     }),
     ("cells of patch 0 in the unlit lists", UNLIT, |p, done| {
-        let shown = p.holders.iter().map(|holder| holder.unwrap_or(0) as u16);
-        let shown: Vec<u16> = shown.collect();
+        let shown = numbered_from_0(p.holders);
         let rows = shown.chunks(usize::from(p.view.width));
         Done {
             unlit: rows.flat_map(unlit_row).collect(),
             ..done
         }
     }),
+    ("cells of patch 0 clear in the map", LIT, |p, done| Done {
+        lit: lit_map(&numbered_from_0(p.holders), p.view.width),
+        ..done
+    }),
 ];
+
+/// Each cell's patch by its number, and 0 as well where there is none.
+fn numbered_from_0(holders: &[Holder]) -> Vec<u16> {
+    let number = |holder: &Holder| holder.unwrap_or(0) as u16;
+    holders.iter().map(number).collect()
+}
 
 /// Each cell's patch by its number from 1 on, 0 where there is none.
 fn numbered(holders: &[Holder]) -> Vec<u16> {

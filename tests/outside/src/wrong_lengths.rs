@@ -2,26 +2,27 @@
 
 use std::collections::BTreeSet;
 
-use crate::call::{Call, COUNTS, ROW};
-use crate::gate::{table_fits, view_lengths_fit, Gate, Question};
+use crate::call::{Call, COUNTS, ROW, WORDS};
+use crate::fitting::{map_fits, table_fits, view_lengths_fit};
+use crate::gate::{Gate, Question};
 use crate::scene::Scene;
 use crate::wrong_gate::{asked, place, WrongGate};
 
 pub const LENGTHS: &[WrongGate] = &[
     ("11: longer picture", || {
         asked(11, |c, s| {
-            c.picture_len >= c.view.cells() && counts_fit(c) && unlit_fits(c) && table_fits(c, s)
+            c.picture_len >= c.view.cells() && counts_fit(c) && unlit_fits(c) && others_fit(c, s)
         })
     }),
     ("11: longer counts", || {
         asked(11, |c, s| {
-            c.counts_len >= COUNTS && picture_fits(c) && unlit_fits(c) && table_fits(c, s)
+            c.counts_len >= COUNTS && picture_fits(c) && unlit_fits(c) && others_fit(c, s)
         })
     }),
     ("11: longer unlit", || {
         asked(11, |c, s| {
             let rows = usize::from(c.view.height);
-            c.unlit_len >= rows * ROW && picture_fits(c) && counts_fit(c) && table_fits(c, s)
+            c.unlit_len >= rows * ROW && picture_fits(c) && counts_fit(c) && others_fit(c, s)
         })
     }),
     ("11: patch table unseen", || tabled(|_, _| true)),
@@ -46,6 +47,7 @@ pub const LENGTHS: &[WrongGate] = &[
                 && c.patch_counts_len == COUNTS
                 && picture_fits(c)
                 && unlit_fits(c)
+                && map_fits(c, s)
         })
     }),
     ("11: patch table with an entry for nothing", || {
@@ -75,6 +77,69 @@ pub const LENGTHS: &[WrongGate] = &[
     ("11: patch table after 12", || apart(None)),
 ];
 
+/// Another length asked of the map.
+pub const MAP_LENGTHS: &[WrongGate] = &[
+    ("11: map unseen", || mapped(|_, _| true)),
+    ("11: longer map", || mapped(|c, _| c.lit_len >= words(c))),
+    ("11: shorter map", || mapped(|c, _| c.lit_len <= words(c))),
+    ("11: words behind the map's last row", || {
+        mapped(|c, _| c.lit_len / WORDS == usize::from(c.view.height))
+    }),
+    ("11: a last row of the map begun", || {
+        mapped(|c, _| c.lit_len.div_ceil(WORDS) == usize::from(c.view.height))
+    }),
+    ("11: a map of whole rows", || {
+        mapped(|c, _| c.lit_len % WORDS == 0)
+    }),
+    ("11: no empty map", || mapped(|c, _| c.lit_len > 0)),
+    ("11: a map of four words", || {
+        mapped(|c, _| c.lit_len == WORDS)
+    }),
+    ("11: a map for 128 rows", || {
+        mapped(|c, _| c.lit_len == 128 * WORDS)
+    }),
+    ("11: a map within 128 rows", || {
+        mapped(|c, _| c.lit_len <= 128 * WORDS)
+    }),
+    ("11: one word a row", || {
+        mapped(|c, _| c.lit_len == usize::from(c.view.height))
+    }),
+    ("11: as many words as the width needs", || {
+        mapped(|c, _| {
+            let needed = usize::from(c.view.width).div_ceil(64);
+            c.lit_len == needed * usize::from(c.view.height)
+        })
+    }),
+    ("11: four words a column", || {
+        mapped(|c, _| c.lit_len == WORDS * usize::from(c.view.width))
+    }),
+    ("11: a word a column", || {
+        mapped(|c, _| c.lit_len == usize::from(c.view.height) * ROW)
+    }),
+    ("11: map in bytes", || {
+        mapped(|c, _| c.lit_len == 8 * words(c))
+    }),
+    ("11: map as long as the lists lent", || {
+        mapped(|c, _| c.lit_len == c.unlit_len)
+    }),
+    ("11: map and lists exchanged", || {
+        asked(11, |c, s| {
+            let exchanged = c.with(&|c| std::mem::swap(&mut c.unlit_len, &mut c.lit_len));
+            view_lengths_fit(&exchanged) && others_fit(&exchanged, s)
+        })
+    }),
+    ("11: map's length in eight bits", || {
+        mapped(|c, _| c.lit_len == words(c) % 256)
+    }),
+    ("11: map's length in 16 bits", || {
+        mapped(|c, _| usize::from(c.lit_len as u16) == words(c))
+    }),
+    ("11: map before all but 1 and 2", || map_apart(Some(3))),
+    ("11: map before 10", || map_apart(Some(10))),
+    ("11: map before 14", || map_apart(Some(14))),
+    ("11: map after 12", || map_apart(None)),
+];
+
 /// Show only where the gate alone is asked: nobody lends so much.
 pub const SHORT_LENGTHS: &[WrongGate] = &[
     ("11: lengths in 32 bits", || {
@@ -83,7 +148,11 @@ pub const SHORT_LENGTHS: &[WrongGate] = &[
                 && c.counts_len as u32 as usize == COUNTS
                 && c.patch_counts_len as u32 as usize == s.records.len()
                 && c.unlit_len as u32 == u32::from(c.view.height) * 256
+                && c.lit_len as u32 as usize == words(c)
         })
+    }),
+    ("11: map's length in 32 bits", || {
+        mapped(|c, _| c.lit_len as u32 as usize == words(c))
     }),
     ("11: patch table's length in 32 bits", || {
         tabled(|c, s| c.patch_counts_len as u32 as usize == s.records.len())
@@ -107,20 +176,48 @@ fn panels(scene: &Scene) -> usize {
     panels.collect::<BTreeSet<u16>>().len()
 }
 
+/// The map's right length.
+fn words(call: &Call) -> usize {
+    usize::from(call.view.height) * WORDS
+}
+
+/// The lengths that came with later requests.
+fn others_fit(call: &Call, scene: &Scene) -> bool {
+    table_fits(call, scene) && map_fits(call, scene)
+}
+
+fn all_but_the_table(call: &Call, scene: &Scene) -> bool {
+    view_lengths_fit(call) && map_fits(call, scene)
+}
+
+fn all_but_the_map(call: &Call, scene: &Scene) -> bool {
+    view_lengths_fit(call) && table_fits(call, scene)
+}
+
 /// Question 11 with something else asked of the patch table.
 fn tabled(question: Question) -> Gate {
-    parted(Some(12), question)
+    parted(all_but_the_table, Some(12), question)
 }
 
 /// The patch table's length asked in another place than the other lengths.
 fn apart(before: Option<u32>) -> Gate {
-    parted(before, table_fits)
+    parted(all_but_the_table, before, table_fits)
+}
+
+/// Question 11 with something else asked of the map.
+fn mapped(question: Question) -> Gate {
+    parted(all_but_the_map, Some(12), question)
+}
+
+/// The map's length asked in another place than the other lengths.
+fn map_apart(before: Option<u32>) -> Gate {
+    parted(all_but_the_map, before, map_fits)
 }
 
 /// Question 11 in two parts, the second of them before another question or
 /// after all.
-fn parted(before: Option<u32>, second: Question) -> Gate {
-    let mut gate = asked(11, |c, _| view_lengths_fit(c));
+fn parted(first: Question, before: Option<u32>, second: Question) -> Gate {
+    let mut gate = asked(11, first);
     let at = match before {
         Some(number) => place(&gate, number),
         None => gate.questions.len(),

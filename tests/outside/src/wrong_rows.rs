@@ -1,4 +1,4 @@
-//! Lines that are wrong in another thing than the stretches looked at.
+//! Lines that are wrong in another thing than the stretches looked at and the map.
 
 use crate::row::{Line, Span};
 use crate::row_compare::RowDifference::{self, *};
@@ -166,6 +166,18 @@ pub const WRITES: &[(&str, Write)] = &[
     }),
     ("a space at the end", |line| format!("{line} \n")),
     ("lines of one text", |line| line.to_string()),
+    ("no words of the map", |line| {
+        let text = line.to_string();
+        let (before, rest) = text.split_once(" |").unwrap_or_default();
+        let (_, cells) = rest.split_once(" |").unwrap_or_default();
+        format!("{before} |{cells}\n")
+    }),
+    ("words without their zeros", |line| {
+        format!("{line}\n").replace(" 000", " ")
+    }),
+    ("words in capitals", |line| {
+        format!("{line}\n").to_uppercase()
+    }),
 ];
 
 fn lit(line: Line, lit: usize) -> Line {

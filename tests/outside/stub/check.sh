@@ -36,7 +36,8 @@ must() {
     done
     for known in 'the turned stations' 'the booked stations' 'the joint stations' \
         'the stretch stations' 'the cutting stations' 'the metre stations' \
-        F-1.txt F-2.txt F-3.txt F-5.txt F-7.txt; do
+        'the map stations' 'the rows of bare maps' 'the rows of F-8.txt' \
+        F-1.txt F-2.txt F-3.txt F-5.txt F-7.txt F-8.txt; do
         grep -q "^cases: [1-9][0-9]* of $known differ\$" "$work/report" ||
             { echo "$fault: $known not seen"; exit 1; }
     done
@@ -44,15 +45,18 @@ must() {
 }
 
 cases=300 bill=
-must silent 1 '' Answer Gate Picture Counts PatchCounts Unlit Counter \
+must silent 1 '' Answer Gate Picture Counts PatchCounts Unlit Lit Counter \
     PanelSums FirstShowsClosest EqualWhenNoneCounted DifferWhereChosen \
-    SecondShowsKept CuttingsPicture CuttingsCounts CuttingsUnlit Forms
+    SecondShowsKept CuttingsPicture CuttingsCounts CuttingsUnlit CuttingsLit Forms \
+    RowLit RowFirstUnlit
 must scribe 1 '' Answer Gate TouchedPicture TouchedCounts TouchedPatchCounts \
-    TouchedUnlit TouchedCounter TouchedScene
+    TouchedUnlit TouchedLit TouchedCounter TouchedScene
 must struck 1 '' Answer Gate Struck
-must blank 1 '' Answer Gate Picture Counts PatchCounts Unlit TouchedPicture \
-    TouchedCounts TouchedPatchCounts TouchedUnlit TouchedCounter \
-    FirstShowsClosest
+must blank 1 '' Answer Gate Picture Counts PatchCounts Unlit Lit TouchedPicture \
+    TouchedCounts TouchedPatchCounts TouchedUnlit TouchedLit TouchedCounter \
+    FirstShowsClosest RowLit RowFirstUnlit
+grep -q '^bare maps: 1200 put, [1-9][0-9]* differ$' "$work/report" ||
+    { echo 'blank: no bare map differs'; exit 1; }
 # Blank is blank in both forms, so Forms must not be seen; deaf answers the two differently.
 grep -q ' differences: Forms$' "$work/report" && { echo 'blank: Forms seen'; exit 1; }
 must deaf 1 '' Answer Gate Picture Forms
@@ -63,6 +67,8 @@ if command -v valgrind >/dev/null; then
     must blank 1 'valgrind --quiet --error-exitcode=99' Picture
     must beyond 99 'valgrind --quiet --error-exitcode=99' Picture
     must booker 99 'valgrind --quiet --error-exitcode=99' PatchCounts
+    must mapper 99 'valgrind --quiet --error-exitcode=99' Lit
+    must rower 99 'valgrind --quiet --error-exitcode=99' RowLit RowFirstUnlit
 fi
 [ -s "$work/outside-3-0-0.case" ] || { echo "no case was written"; exit 1; }
 "$differential" --no-such-word 2>/dev/null && exit 1
@@ -96,6 +102,13 @@ rows ended "$selftest --rows-laid; exit 3"
 laid_so 1 ended worst ' differences: Form$'
 rows looks "$selftest --rows-laid | sed 's/^\\([0-9]*\\) 128 /\\1 127 /'"
 laid_so 1 looks worst ' differences: Looked$'
+# Column 65 lit too where column 64 is the last.
+rows words "$selftest --rows-laid | sed 's/ ffffffffffffffff 0000000000000001 / ffffffffffffffff 0000000000000003 /'"
+laid_so 1 words worst ' differences: Map$'
+grep -q '^DIFFERS the row stations, words of a row 65 wide: \[Map\]' "$work/report" ||
+    { echo 'rows, words: the row stations saw nothing'; exit 1; }
+rows wordless "$selftest --rows-laid | sed 's/ |[ 0-9a-f]* |/ |/'"
+laid_so 1 wordless worst ' differences: Form$'
 rows empty "$selftest --rows-laid | sed 's/^1 0 /1 1 /'"
 laid_so 1 empty worst '^DIFFERS the row stations, a row 0 wide: \[Looked'
 rows sums "$selftest --rows-worst | sed 's/ 8256\$/ 8255/'"

@@ -6,8 +6,11 @@
  *   blank   says "done" with a blank picture, rightly counted;
  *   beyond  as blank, and reads and writes one place outside its buffers;
  *   booker  as blank, and books one patch more than the table has;
+ *   mapper  as blank, and writes one word more than the map has;
+ *   rower   as blank, and counts a row's words where the map has ended;
  *   deaf    as blank in units, and refuses all that is in metres with 15.
- * It looks at no station: but for the last both forms are answered alike. */
+ * It looks at no station: but for the last both forms are answered alike. But for
+ * rower all rows of all maps are without a lit cell. */
 #include <stddef.h>
 #include <stdint.h>
 #include <stdlib.h>
@@ -28,6 +31,8 @@ struct lent {
     size_t patch_counts_len;
     uint16_t *unlit;
     size_t unlit_len;
+    uint64_t *lit;
+    size_t lit_len;
     uint32_t *counter;
 };
 
@@ -43,6 +48,8 @@ static void scribble(const uint8_t *scene, size_t scene_len, struct lent lent)
         lent.patch_counts[k] ^= 1;
     for (size_t k = 0; k < lent.unlit_len; k++)
         lent.unlit[k] ^= 1;
+    for (size_t k = 0; k < lent.lit_len; k++)
+        lent.lit[k] ^= 1;
     *lent.counter ^= 1;
 }
 
@@ -52,6 +59,7 @@ static void leave_blank(uint16_t width, uint16_t height, struct lent lent)
     memset(lent.counts, 0, lent.counts_len * sizeof *lent.counts);
     memset(lent.patch_counts, 0, lent.patch_counts_len * sizeof *lent.patch_counts);
     memset(lent.unlit, 0, lent.unlit_len * sizeof *lent.unlit);
+    memset(lent.lit, 0, lent.lit_len * sizeof *lent.lit);
     lent.counts[0] = (uint32_t)width * height;
     for (size_t j = 0; j * 256 + 1 < lent.unlit_len; j++)
         lent.unlit[j * 256 + 1] = width;
@@ -76,6 +84,8 @@ static uint32_t surveyed(const uint8_t *scene, size_t scene_len,
     }
     if (fault_is("booker") && lent.patch_counts_len > 0)
         lent.patch_counts[lent.patch_counts_len] = 1;
+    if (fault_is("mapper") && lent.lit_len > 0)
+        lent.lit[lent.lit_len] = 1;
     return 0;
 }
 
@@ -97,11 +107,12 @@ static uint32_t gated(void)
                     uint16_t *picture, size_t picture_len,                     \
                     uint32_t *counts, size_t counts_len,                       \
                     uint32_t *patch_counts, size_t patch_counts_len,           \
-                    uint16_t *unlit, size_t unlit_len, uint32_t *counter)      \
+                    uint16_t *unlit, size_t unlit_len,                         \
+                    uint64_t *lit, size_t lit_len, uint32_t *counter)          \
     {                                                                          \
         struct lent lent = {picture, picture_len, counts, counts_len,          \
                             patch_counts, patch_counts_len, unlit, unlit_len,  \
-                            counter};                                          \
+                            lit, lit_len, counter};                            \
         (void)eye_x, (void)eye_y, (void)eye_z, (void)lens;                     \
         (void)right_x, (void)right_y, (void)right_z;                           \
         (void)forward_x, (void)forward_y, (void)forward_z;                     \
@@ -117,7 +128,8 @@ static uint32_t gated(void)
                   int16_t up_x, int16_t up_y, int16_t up_z,                    \
                   uint16_t width, uint16_t height, uint16_t lens,              \
                   size_t picture_len, size_t counts_len,                       \
-                  size_t patch_counts_len, size_t unlit_len, uint32_t counter) \
+                  size_t patch_counts_len, size_t unlit_len, size_t lit_len,   \
+                  uint32_t counter)                                            \
     {                                                                          \
         (void)scene, (void)scene_len, (void)eye_x, (void)eye_y, (void)eye_z;   \
         (void)right_x, (void)right_y, (void)right_z;                           \
@@ -125,9 +137,33 @@ static uint32_t gated(void)
         (void)up_x, (void)up_y, (void)up_z;                                    \
         (void)width, (void)height, (void)lens, (void)picture_len;              \
         (void)counts_len, (void)patch_counts_len, (void)unlit_len;             \
-        (void)counter;                                                         \
+        (void)lit_len, (void)counter;                                          \
         return IN_METRES && fault_is("deaf") ? 15 : gated();                   \
     }
 
 CALLS(ring_survey, ring_gate, int16_t, 0)
 CALLS(ring_survey_metres, ring_gate_metres, double, 1)
+
+/* The row at the map's end, wherever that is. */
+static uint32_t ones_at_the_end(const uint64_t *lit, size_t lit_len, size_t row)
+{
+    uint32_t ones = 0;
+    if (!fault_is("rower") || lit_len == 0 || row != lit_len / 4)
+        return 0;
+    for (size_t k = 4 * row; k < 4 * row + 4; k++)
+        for (uint64_t word = lit[k]; word != 0; word &= word - 1)
+            ones++;
+    return ones;
+}
+
+uint32_t ring_row_lit(const uint64_t *lit, size_t lit_len, size_t row)
+{
+    return ones_at_the_end(lit, lit_len, row);
+}
+
+uint32_t ring_row_first_unlit(const uint64_t *lit, size_t lit_len,
+                              uint16_t width, size_t row)
+{
+    (void)width;
+    return ones_at_the_end(lit, lit_len, row);
+}
