@@ -77,11 +77,11 @@ pub fn case(seed: u64, number: u64, size: Size) -> Case {
 fn in_units(seed: u64, number: u64, size: Size) -> Case {
     let mut rng = Random::new(seed, number);
     let rng = &mut rng;
-    let kind = match rng.below(17) {
-        12 => Kind::Tiny,
-        13 => Kind::Thin,
-        14 => Kind::Pieces,
-        15 | 16 => Kind::Joints,
+    let kind = match rng.below(18) {
+        13 => Kind::Tiny,
+        14 => Kind::Thin,
+        15 => Kind::Pieces,
+        16 | 17 => Kind::Joints,
         k => KINDS[k],
     };
     match number % 10 {

@@ -1,5 +1,6 @@
 //! Random scenes with their trees, each from its seed alone.
 
+use crate::boards;
 use crate::call::View;
 use crate::hinge;
 use crate::loose::{Loose, Site};
@@ -23,10 +24,11 @@ pub enum Kind {
     Lining,
     Pieces,
     Joints,
+    Boards,
     Empty,
 }
 
-pub const KINDS: [Kind; 12] = [
+pub const KINDS: [Kind; 13] = [
     Kind::Tiny,
     Kind::Grid,
     Kind::Level,
@@ -38,6 +40,7 @@ pub const KINDS: [Kind; 12] = [
     Kind::Lining,
     Kind::Pieces,
     Kind::Joints,
+    Kind::Boards,
     Kind::Empty,
 ];
 
@@ -103,6 +106,10 @@ fn panelled(rng: &mut Random, kind: Kind, size: Size) -> (Vec<Patch>, Option<Vie
         Kind::Joints => {
             let (leaves, view) = hinge::hinged(rng);
             (soup::numbered(rng, leaves), Some(view))
+        }
+        Kind::Boards => {
+            let (boards, view) = boards::boards(rng);
+            (soup::numbered(rng, boards), Some(view))
         }
         Kind::Empty => (Vec::new(), None),
         _ => {

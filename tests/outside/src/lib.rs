@@ -3,9 +3,9 @@
 //! The model: `vector`, `axes`, `double`, `station`, `scene`, `gate`, `fitting`,
 //! `ray`, `map`, `survey`, `bill`, `stations`; beside it `walk`; and of one row
 //! `row`, `worst`.
-//! The cases: `random`, `polygon`, `soup`, `works`, `hinge`, `tree`, `loose`,
-//! `mount`, `view`, `generate`, `harmed`, `damage`, `stored`, `header`, `outer`,
-//! `lengths`, `pairs`; of two cuttings `cut`, `panels`, `planner`, `along`,
+//! The cases: `random`, `polygon`, `soup`, `works`, `hinge`, `boards`, `tree`,
+//! `loose`, `mount`, `view`, `generate`, `harmed`, `damage`, `stored`, `header`,
+//! `outer`, `lengths`, `pairs`; of two cuttings `cut`, `panels`, `planner`, `along`,
 //! `cuttings`, and `cover`; of stations in metres `doubles`, `gauge`, `forms`,
 //! `far`; of maps `bare_maps`.
 //! Cases with what is due known beforehand: `trial`, `turned`, `booking`,
@@ -30,6 +30,7 @@ pub mod bare_maps;
 pub mod beside;
 pub mod bill;
 pub mod block;
+pub mod boards;
 pub mod booking;
 pub mod call;
 pub mod call_cases;

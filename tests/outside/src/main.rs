@@ -6,9 +6,10 @@
 //!                  [--ringbill PROGRAM]
 //!
 //! Two cuttings of a ring are a case of their own sort; there are two of these
-//! pairs for each of the others, or as many as `--cuttings` says. A case that
-//! differs is written to DIR as an input of `ringbill`, its axes and the doubles
-//! of its station in what is printed. `--only` runs case K alone,
+//! pairs for each of the others, or as many as `--cuttings` says. Bare maps for the
+//! row calls are no cases: there are four for each, and one that differs is printed
+//! whole. A case that differs is written to DIR as an input of `ringbill`, its axes
+//! and the doubles of its station in what is printed. `--only` runs case K alone,
 //! `--only-cuttings` pair K of cuttings alone, `--trace` names each case before
 //! it runs, `--small` keeps cases cheap and leaves the doubles out, `--ringbill`
 //! sets the program, whose view is level, against the model too.
