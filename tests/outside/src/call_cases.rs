@@ -15,8 +15,8 @@ use crate::trial::Trial;
 pub const PATCH_TABLE: u32 = 2;
 /// The request by which a station may be in metres.
 const METRES: u32 = 7;
-/// The request that brought the lit map.
-const LIT_MAP: u32 = 8;
+/// The request that brought the lit map and the calls on its rows.
+pub const LIT_MAP: u32 = 8;
 
 /// A file that knows of no patch table leaves its numbers to the model.
 pub fn complete(trial: &mut Trial, sight: Sight) {

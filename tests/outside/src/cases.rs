@@ -5,7 +5,7 @@ use std::fs;
 use std::path::PathBuf;
 
 use crate::block::{blocks, Block, Reading};
-use crate::call_cases::{complete, survey_call, two_cuttings, PATCH_TABLE};
+use crate::call_cases::{complete, survey_call, two_cuttings, LIT_MAP, PATCH_TABLE};
 use crate::map_cases::{map_case, MapCase};
 use crate::ray::Sight;
 use crate::row_cases::{row_case, RowCase};
@@ -46,8 +46,6 @@ const CUTTINGS: u32 = 5;
 const ROWS: u32 = 6;
 /// How many spans its file tells of: one line left out is seen.
 const SPANS: usize = 832;
-/// The request that brought the lit map and the calls on its rows.
-const MAPS: u32 = 8;
 
 impl File {
     /// How its cases read a sight line.
@@ -68,7 +66,7 @@ impl File {
         match self.request {
             CUTTINGS => &["pair"],
             ROWS => &["bounds", "spans"],
-            MAPS => &["case", "rows"],
+            LIT_MAP => &["case", "rows"],
             _ => &["case"],
         }
     }
@@ -159,7 +157,7 @@ pub fn stored_rows() -> Reading<Vec<RowCase>> {
     }
 }
 
-/// The rows of maps, of the calls on them.
+/// The rows of maps, put to the calls on them.
 pub fn stored_maps() -> Reading<Vec<MapCase>> {
     let map = |said| match said {
         Said::Map(case) => Some(case),

@@ -8,6 +8,7 @@ use crate::compare::Difference;
 use crate::map::{row_first_unlit, row_lit, words_of, BITS};
 use crate::map_compare::{answers_apart, Asked};
 
+/// A name, and a test of a row of a map with a width.
 type Kind = (&'static str, fn(&Asked) -> bool);
 
 /// Kinds of bare maps, rows and widths that a run claims to try.
@@ -138,10 +139,9 @@ impl MapTally {
     }
 }
 
-/// A test of a row of a survey's map, and its name.
-type Sort = (&'static str, fn(&Asked) -> bool);
-
-const SORTS: &[Sort] = &[
+/// Sorts of rows that the maps of a run's surveys should have, each row a map of
+/// its own.
+const SORTS: &[Kind] = &[
     ("without a lit cell", |a| a.lit_cells() == 0),
     ("wholly lit", |a| a.lit_cells() == usize::from(a.width)),
     ("wholly lit, not to the end of a word", |a| {

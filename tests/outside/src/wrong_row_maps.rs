@@ -7,12 +7,11 @@ use crate::row_fault::{Moment, Tell};
 
 pub const MAPS: &[(&str, Tell)] = &[
     ("map: lit beyond the width", |m, line| {
-        also_lit(line, columns(m.span))
+        also_lit(line, columns(m.span, ROW))
     }),
     ("map: a word lit to its end beyond the width", |m, line| {
-        let width = m.before.cells.len();
-        let is_beyond = !m.span.is_empty() && usize::from(m.span.last) >= width;
-        match is_beyond {
+        let width = width(m);
+        match !m.span.is_empty() && usize::from(m.span.last) >= width {
             true => also_lit(line, width..width.next_multiple_of(BITS)),
             false => line,
         }
@@ -23,10 +22,7 @@ pub const MAPS: &[(&str, Tell)] = &[
             last: m.span.first,
         };
         match m.span.is_empty() {
-            true => also_lit(
-                line,
-                columns(turned).start..columns(turned).end.min(width(m)),
-            ),
+            true => also_lit(line, columns(turned, width(m))),
             false => line,
         }
     }),
@@ -45,23 +41,12 @@ pub const MAPS: &[(&str, Tell)] = &[
         ..line
     }),
     ("map: the span alone", |m, line| {
-        let columns = columns(m.span);
-        let end = columns.end.min(width(m));
-        let blank = Line {
-            map: [0; WORDS],
-            ..line
-        };
-        also_lit(blank, columns.start.min(end)..end)
+        also_lit(blank(line), columns(m.span, width(m)))
     }),
     ("map: cells newly lit alone", |m, line| {
-        let blank = Line {
-            map: [0; WORDS],
-            ..line
-        };
         let newly = m.before.unlit_in(m.span).into_iter();
-        newly.fold(blank, |line, i| {
-            also_lit(line, usize::from(i)..usize::from(i) + 1)
-        })
+        let newly = newly.map(usize::from);
+        newly.fold(blank(line), |line, i| also_lit(line, i..i + 1))
     }),
     ("map: the span's last column clear", |m, mut line| {
         if let Some(&last) = m.before.unlit_in(m.span).last() {
@@ -72,8 +57,7 @@ pub const MAPS: &[(&str, Tell)] = &[
     ("map: the span turned on and off", |m, mut line| {
         let unlit = m.before.unlit_in(m.span);
         let again = |i: &usize| !unlit.contains(&(*i as u16));
-        let columns = columns(m.span).start..columns(m.span).end.min(width(m));
-        for i in columns.filter(again) {
+        for i in columns(m.span, width(m)).filter(again) {
             line.map[i / BITS] &= !(1 << (i % BITS));
         }
         line
@@ -141,10 +125,15 @@ fn width(m: &Moment) -> usize {
     m.before.cells.len()
 }
 
-/// The span's columns of 256, whatever the width.
-fn columns(span: Span) -> std::ops::Range<usize> {
-    let end = (usize::from(span.last) + 1).min(ROW);
-    usize::from(span.first).min(end)..end
+/// The span's columns below a width.
+fn columns(span: Span, width: usize) -> std::ops::Range<usize> {
+    let end = (usize::from(span.last) + 1).min(width);
+    usize::from(span.first)..end
+}
+
+fn blank(line: Line) -> Line {
+    let map = [0; WORDS];
+    Line { map, ..line }
 }
 
 fn also_lit(mut line: Line, columns: std::ops::Range<usize>) -> Line {
