@@ -1,7 +1,7 @@
 /*
  * console: surveys a scene from several stations and prints a bill for each.
  *
- *   console [-m] [-p] [-u] [-o PICTURE] [-a RX RY RZ FX FY FZ UX UY UZ]
+ *   console [-m] [-p] [-u] [-r] [-o PICTURE] [-a RX RY RZ FX FY FZ UX UY UZ]
  *           SCENE WIDTH HEIGHT LENS X Y Z [X Y Z ...]
  *
  * A bill is the view line, each panel that shows with its number of cells, the cells that show
@@ -12,6 +12,8 @@
  *               panel and its cells
  *   -u          after that, a line for each row with unlit cells: the row's number, then first
  *               column and length of each stretch
+ *   -r          after that, a line for each row: the row's number, then how many of its cells are
+ *               lit, and its first unlit column if it has one
  *   -o PICTURE  write the last picture as raw little-endian u16, for tools/draw.py --raw
  *   -a RX .. UZ the camera's axes at all stations: its vectors right, forward and up, three parts
  *               each; the level view, 1 0 0 0 1 0 0 0 1, where they are not given
@@ -37,6 +39,7 @@ static uint16_t picture[RING_WIDTH_MAX * RING_HEIGHT_MAX];
 static uint32_t counts[RING_PANEL_MAX + 1];
 static uint32_t patch_counts[RING_PATCH_MAX];
 static uint16_t unlit[RING_HEIGHT_MAX * RING_UNLIT_ROW];
+static uint64_t lit[RING_HEIGHT_MAX * RING_LIT_ROW];
 static uint32_t counter;
 
 /* A station: three whole numbers of units, or three doubles in metres. */
@@ -54,7 +57,7 @@ struct camera {
 
 struct options {
     const char *picture_name;
-    int in_metres, with_patches, with_unlit;
+    int in_metres, with_patches, with_unlit, with_rows;
 };
 
 /* Vectors as a call takes them, part after part. */
@@ -69,11 +72,12 @@ static int fail(const char *what, const char *name)
 
 static int usage(void)
 {
-    fputs("usage: console [-m] [-p] [-u] [-o PICTURE] [-a RX RY RZ FX FY FZ UX UY UZ]\n"
+    fputs("usage: console [-m] [-p] [-u] [-r] [-o PICTURE] [-a RX RY RZ FX FY FZ UX UY UZ]\n"
           "               SCENE WIDTH HEIGHT LENS X Y Z [X Y Z ...]\n"
           "  -m  the stations are in metres: 0.5 for half a metre; else in whole units of 5 mm\n"
           "  -p  print each patch with its panel and its cells after each bill\n"
           "  -u  print the unlit stretches after each bill\n"
+          "  -r  print each row's lit cells and first unlit column after each bill\n"
           "  -o  write the last picture as raw little-endian u16\n"
           "  -a  turn the camera: its axes right, forward and up, each part from -100 to 100;\n"
           "      1 0 0 0 1 0 0 0 1, the level view, where not given\n",
@@ -182,7 +186,7 @@ static uint32_t patch_panel(size_t patch)
 
 /* How much of each buffer is lent; the counts are lent whole. */
 struct lengths {
-    size_t cells, patches, pairs;
+    size_t cells, patches, pairs, words;
 };
 
 static struct lengths lengths_for(const struct camera *c)
@@ -190,15 +194,16 @@ static struct lengths lengths_for(const struct camera *c)
     struct lengths n = {
         at_most(RING_PICTURE_LEN(c->width, c->height), sizeof picture / sizeof *picture),
         patch_count(),
-        at_most(RING_UNLIT_LEN(c->height), sizeof unlit / sizeof *unlit)};
+        at_most(RING_UNLIT_LEN(c->height), sizeof unlit / sizeof *unlit),
+        at_most(RING_LIT_LEN(c->height), sizeof lit / sizeof *lit)};
     return n;
 }
 
 /* The rest of a call, behind the scene and the station. */
 #define CAMERA(c) NINE((c)->axes), (c)->width, (c)->height, (c)->lens
-#define LENGTHS(n) (n).cells, RING_COUNTS_LEN, (n).patches, (n).pairs, counter
+#define LENGTHS(n) (n).cells, RING_COUNTS_LEN, (n).patches, (n).pairs, (n).words, counter
 #define LENT(n) picture, (n).cells, counts, RING_COUNTS_LEN, patch_counts, (n).patches, \
-                unlit, (n).pairs, &counter
+                unlit, (n).pairs, lit, (n).words, &counter
 
 static uint32_t ask_gate(const struct camera *c, const struct station *s, struct lengths n)
 {
@@ -267,6 +272,21 @@ static void print_unlit(const struct camera *c)
     }
 }
 
+/* Quick answers, for which no list is walked: the map has them row by row. Each of these rows is in
+ * it, so that a first unlit column of 0 is one, and of the width is none. */
+static void print_rows(const struct camera *c)
+{
+    size_t words = RING_LIT_LEN(c->height);
+    for (unsigned j = 0; j < c->height; j++) {
+        unsigned first = (unsigned)ring_row_first_unlit(lit, words, c->width, j);
+        printf("row %u: %u lit, ", j, (unsigned)ring_row_lit(lit, words, j));
+        if (first < c->width)
+            printf("first unlit %u\n", first);
+        else
+            printf("none unlit\n");
+    }
+}
+
 static int write_picture(const char *name, const struct camera *c)
 {
     if (!counter)
@@ -295,6 +315,8 @@ static int read_options(int argc, char **argv, struct options *options, int16_t 
             options->with_patches = 1;
         } else if (!strcmp(argv[at], "-u")) {
             options->with_unlit = 1;
+        } else if (!strcmp(argv[at], "-r")) {
+            options->with_rows = 1;
         } else if (!strcmp(argv[at], "-o") && at + 1 < argc) {
             options->picture_name = argv[++at];
         } else if (!strcmp(argv[at], "-a") && at + 9 < argc) {
@@ -327,11 +349,13 @@ static void print_survey(const struct camera *c, const struct station *s,
         print_patches();
     if (options->with_unlit)
         print_unlit(c);
+    if (options->with_rows)
+        print_rows(c);
 }
 
 int main(int argc, char **argv)
 {
-    struct options options = {NULL, 0, 0, 0};
+    struct options options = {NULL, 0, 0, 0, 0};
     struct camera c = {0, 0, 0, {RING_LEVEL_VIEW}};
     int ok = 1;
     int at = read_options(argc, argv, &options, c.axes, &ok);

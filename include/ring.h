@@ -4,8 +4,10 @@
  * A survey reads a scene (flat patches of numbered panels, kept in a tree of planes), checks it,
  * and says for each cell of a window which panel is the closest along that cell's sight line from
  * the eye. It counts these cells by panel, and by patch, which tells the pieces of a panel that
- * were seen. Everything is exact in whole numbers. One length unit is 5 mm; x is to the right, y
- * forward along the bore, z up. The camera may look any way: three vectors say how it is turned.
+ * were seen, and it tells row by row which cells are lit, that is, show a panel: as lists of the
+ * stretches that are not, and as a map of bits. Everything is exact in whole numbers. One length
+ * unit is 5 mm; x is to the right, y forward along the bore, z up. The camera may look any way:
+ * three vectors say how it is turned.
  *
  * Stations. A station is the eye. It is told in units, as three whole numbers, or in metres, as
  * three doubles, each way by calls of its own. What is told in metres is turned into whole units,
@@ -22,9 +24,10 @@
  *
  * What is lent. The calls only use the memory for as long as they run and keep no pointer. Every
  * pointer must be good for the length given with it, which counts ELEMENTS and not bytes, and must
- * not be null, even where that length is 0; picture, counts, patch_counts, unlit and counter must
- * not overlap one another or the scene. Whatever the numbers, the scene's bytes and the lengths
- * are, a call ends: with RING_DONE and a full survey, or with one refusal and nothing changed.
+ * not be null, even where that length is 0; picture, counts, patch_counts, unlit, lit and counter
+ * must not overlap one another or the scene. Whatever the numbers, the scene's bytes and the
+ * lengths are, a call ends: with RING_DONE and a full survey, or with one refusal and nothing
+ * changed. The two calls on a row of the map cannot be refused: they always end with a number.
  *
  * The stack. A call takes no memory but the caller's stack: a quarter of a megabyte, and half a
  * megabyte for a tree that is one chain of 1,024 nodes. Call from a thread that has a megabyte free.
@@ -77,6 +80,8 @@ extern "C" {
 #define RING_COUNTS_LEN                  ((size_t)1025)
 #define RING_UNLIT_ROW                   ((size_t)256)
 #define RING_UNLIT_LEN(height)           ((size_t)(height) * RING_UNLIT_ROW)
+#define RING_LIT_ROW                     ((size_t)4)
+#define RING_LIT_LEN(height)             ((size_t)(height) * RING_LIT_ROW)
 
 /*
  * What the calls return: 0, or the number of the first question answered with no. The questions
@@ -117,8 +122,8 @@ enum ring_result {
                               right . (forward x up) is not above 0: it is 0 where the three lie
                               in one plane, and below 0 where the picture would be mirrored */
     RING_BAD_BUFFERS = 11, /* picture_len is not width x height, counts_len is not 1,025,
-                              patch_counts_len is not the number of the scene's patches, or
-                              unlit_len is not height x 256 */
+                              patch_counts_len is not the number of the scene's patches,
+                              unlit_len is not height x 256, or lit_len is not height x 4 */
     RING_BAD_COUNTER = 12  /* the station counter stands at 4,294,967,295 and cannot rise */
 };
 
@@ -147,18 +152,24 @@ enum ring_result {
  *                             patches. A panel's count is the sum over its patches. Two scenes may
  *                             cut a panel into other patches: where each panel covers the same
  *                             points, edges and corners counted in, and both calls return
- *                             RING_DONE for one station, camera and window, picture, counts and
- *                             unlit are the same; this table may differ
+ *                             RING_DONE for one station, camera and window, picture, counts,
+ *                             unlit and lit are the same; this table may differ
  *   unlit, unlit_len          height x 256 numbers. Row j has the 256 from unlit + 256 * j: 128
  *                             pairs of offset and length, one for each stretch of cells that
  *                             show no panel, from left to right, with a lit cell between any
  *                             two. The pairs not used are 0 and 0, so the used ones end before
  *                             the first pair of length 0, or with the row when all 128 are used
+ *   lit, lit_len              height x 4 words: the map of the lit cells. Row j has the four from
+ *                             lit + 4 * j. Bit i mod 64 of the row's word i / 64, bit 0 being the
+ *                             least significant, is set where cell (i, j) shows a panel; it is
+ *                             clear where the cell shows none, and for every i from the width on.
+ *                             So it tells the same cells as unlit does. ring_row_lit and
+ *                             ring_row_first_unlit read it
  *   counter                   the station counter: raised by one when the result is RING_DONE
  *
- * Returns RING_DONE: picture, counts, patch_counts and unlit are written in full, whatever they
- * held before, and the counter is raised. Any other result is a refusal: picture, counts,
- * patch_counts, unlit and counter are just as they were.
+ * Returns RING_DONE: picture, counts, patch_counts, unlit and lit are written in full, whatever
+ * they held before, and the counter is raised. Any other result is a refusal: picture, counts,
+ * patch_counts, unlit, lit and counter are just as they were.
  */
 uint32_t ring_survey(const uint8_t *scene, size_t scene_len,
                      int16_t eye_x, int16_t eye_y, int16_t eye_z,
@@ -170,6 +181,7 @@ uint32_t ring_survey(const uint8_t *scene, size_t scene_len,
                      uint32_t *counts, size_t counts_len,
                      uint32_t *patch_counts, size_t patch_counts_len,
                      uint16_t *unlit, size_t unlit_len,
+                     uint64_t *lit, size_t lit_len,
                      uint32_t *counter);
 
 /*
@@ -183,7 +195,7 @@ uint32_t ring_gate(const uint8_t *scene, size_t scene_len,
                    int16_t up_x, int16_t up_y, int16_t up_z,
                    uint16_t width, uint16_t height, uint16_t lens,
                    size_t picture_len, size_t counts_len, size_t patch_counts_len,
-                   size_t unlit_len,
+                   size_t unlit_len, size_t lit_len,
                    uint32_t counter);
 
 /*
@@ -205,7 +217,8 @@ uint32_t ring_gate(const uint8_t *scene, size_t scene_len,
  * flag for an invalid operation, and does nothing else where that is not made a trap.
  *
  * The rest as in ring_survey. Where the three whole numbers pass, the result and what is left in
- * picture, counts, patch_counts, unlit and counter are those of ring_survey with these numbers.
+ * picture, counts, patch_counts, unlit, lit and counter are those of ring_survey with these
+ * numbers.
  */
 uint32_t ring_survey_metres(const uint8_t *scene, size_t scene_len,
                             double eye_x, double eye_y, double eye_z,
@@ -217,6 +230,7 @@ uint32_t ring_survey_metres(const uint8_t *scene, size_t scene_len,
                             uint32_t *counts, size_t counts_len,
                             uint32_t *patch_counts, size_t patch_counts_len,
                             uint16_t *unlit, size_t unlit_len,
+                            uint64_t *lit, size_t lit_len,
                             uint32_t *counter);
 
 /* Says what ring_survey_metres would return, as ring_gate does of ring_survey. */
@@ -227,8 +241,40 @@ uint32_t ring_gate_metres(const uint8_t *scene, size_t scene_len,
                           int16_t up_x, int16_t up_y, int16_t up_z,
                           uint16_t width, uint16_t height, uint16_t lens,
                           size_t picture_len, size_t counts_len, size_t patch_counts_len,
-                          size_t unlit_len,
+                          size_t unlit_len, size_t lit_len,
                           uint32_t counter);
+
+/*
+ * Says how many cells of a row are lit: how many bits are set in the row's four words of the map.
+ *
+ *   lit, lit_len              a lit map; it is only read. It may be one that a survey left, whole
+ *                             or some rows of it, or any words at all, of any length
+ *   row                       the row, counted from 0 at the map's first word: it has the words
+ *                             from lit[4 * row] to lit[4 * row + 3]
+ *
+ * A row that is not wholly inside the map, which is where row is not below lit_len / RING_LIT_ROW,
+ * answers 0, as a row does that has no lit cell. So where a row may not be there, ask for that
+ * first; every row of the window is in the map that a survey left.
+ */
+uint32_t ring_row_lit(const uint64_t *lit, size_t lit_len, size_t row);
+
+/*
+ * Says which is the first unlit column of a row: the first below the width whose bit is clear, and
+ * the width where there is none.
+ *
+ *   lit, lit_len, row         as in ring_row_lit
+ *   width                     the width of the window that was surveyed. The map does not hold it:
+ *                             past it the bits are clear, so with a larger one a row that is all
+ *                             lit answers the column after its last, which is not a cell. With a
+ *                             smaller one only the columns below it are looked at. A column past
+ *                             the row's four words reads as unlit: no answer is above 256
+ *
+ * An answer below the width is a column that is unlit; the width itself says that all are lit. But
+ * a row that is not wholly inside the map answers 0, whatever the width, as a row does whose first
+ * column is unlit: whether row is below lit_len / RING_LIT_ROW tells the two apart. A width of 0
+ * answers 0 as well.
+ */
+uint32_t ring_row_first_unlit(const uint64_t *lit, size_t lit_len, uint16_t width, size_t row);
 
 #ifdef __cplusplus
 }

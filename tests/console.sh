@@ -1,5 +1,6 @@
 #!/bin/sh
-# Builds examples/console.c with the library and holds its bills and the cells of each patch against those of tools/rays.py.
+# Builds examples/console.c with the library and holds its bills, the cells of each patch and the answers on each row against
+# those of tools/rays.py.
 #   console.sh LIBDIR      the folder that holds libsurvey.a
 # Ends with 1 if anything differs.
 [ $# -eq 1 ] || { echo "usage: console.sh LIBDIR" >&2; exit 2; }
@@ -16,9 +17,10 @@ count() { # STATUS NAME
 
 tool() { tool_name=$1; shift; python3 "$root/tools/$tool_name" "$@"; }
 
-# gives OPTION...: the bills and the last picture wanted, with these options of console, and with the patches beside them.
+# gives OPTION...: the bills and the last picture wanted, with these options of console, and with the patches or the rows beside
+# them.
 gives() {
-    for listed in '' -p; do
+    for listed in '' -p -r; do
         rm -f "$work/got.u16"
         "$work/console" $listed "$@" -o "$work/got.u16" "$scene" $window $words >"$work/got"
         cmp "$work/wanted$listed" "$work/got" && cmp "$work/wanted.u16" "$work/got.u16"
@@ -39,14 +41,16 @@ turned() {
     axes=$1 scene=$work/$2.scene window=$3
     shift 3
     rm -f "$work/wanted.u16"
-    : >"$work/wanted-p"
+    : >"$work/all"
     words=
     for station in "$@"; do
         told "$station"
-        tool rays.py --patches $beside ${axes:+--axes $axes} "$work/in.view" "$work/wanted.u16" >>"$work/wanted-p"
+        tool rays.py --patches --rows $beside ${axes:+--axes $axes} "$work/in.view" "$work/wanted.u16" >>"$work/all"
         words="$words $station"
     done
-    grep -v '^patch ' "$work/wanted-p" >"$work/wanted"
+    grep -v '^row ' "$work/all" >"$work/wanted-p"
+    grep -v '^patch ' "$work/all" >"$work/wanted-r"
+    grep -v '^row ' "$work/wanted-r" >"$work/wanted"
     gives $metres ${axes:+-a $axes}
 }
 
@@ -246,6 +250,22 @@ prints "$(printf '%s\n' 'view 4 4 4' '5 4' 'nothing 12' 'total 16' 'unlit 0: (0,
     'unlit 1: (0,1) (3,1)' 'unlit 2: (0,1) (3,1)' 'unlit 3: (0,4)')" -u "$work/s.scene" 4 4 4 0 0 0
 prints "$(printf '%s\n' 'view 4 4 4' '9 4' 'nothing 12' 'total 16' 'unlit 0: (0,3)' 'unlit 1: (0,3)' \
     'unlit 2: (0,3)' 'unlit 3: (0,3)')" -u -a 100 -100 0 100 100 0 0 0 100 "$work/wall.scene" 4 4 4 0 0 0
+
+# Rows: all lit and none, in the widest window and in one a word and a column wide; after patches and unlit lists, and after a
+# refusal those of the next station alone.
+prints "$(printf '%s\n' 'view 4 4 4' '5 4' 'nothing 12' 'total 16' 'row 0: 0 lit, first unlit 0' 'row 1: 2 lit, first unlit 0' \
+    'row 2: 2 lit, first unlit 0' 'row 3: 0 lit, first unlit 0')" -r "$work/s.scene" 4 4 4 0 0 0
+prints "$(printf '%s\n' 'view 256 1 256' '5 128' 'nothing 128' 'total 256' 'row 0: 128 lit, first unlit 128')" \
+    -r "$work/s.scene" 256 1 256 50 0 0
+prints "$(printf '%s\n' 'view 256 1 4096' '5 256' 'nothing 0' 'total 256' 'row 0: 256 lit, none unlit')" \
+    -r "$work/s.scene" 256 1 4096 0 0 0
+prints "$(printf '%s\n' 'view 65 1 4096' '5 65' 'nothing 0' 'total 65' 'row 0: 65 lit, none unlit' 'refused 10' 'view 65 1 4096' \
+    'nothing 65' 'total 65' 'row 0: 0 lit, first unlit 0')" -r "$work/s.scene" 65 1 4096 0 0 0 0 10001 0 0 200 0
+prints "$(printf '%s\n' 'view 4 1 4' '5 2' 'nothing 2' 'total 4' 'patch 0: 5 2' 'unlit 0: (0,1) (3,1)' \
+    'row 0: 2 lit, first unlit 0')" -r -u -p "$work/s.scene" 4 1 4 0 0 0
+level s "256 128 100" "60 0 30"
+level wall "130 3 60" "90 -40 0"
+misused -r
 
 # Stations in metres. What a double becomes: zeros, halves with the request's own first, doubles next to halves, the limit.
 in_metres "" s "4 4 4" "0 0 0" "0 0.375 0" "0.015 -0.1 0.025" "0 nan 0" "-0 0.5 0"

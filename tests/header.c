@@ -57,8 +57,8 @@ IS(RING_PATCH_MAX, 1024);
 IS(RING_PATCH_BYTES, 6);
 
 /* Question 11: "the picture (u16) width × height cells, the counts (u32) 1,025, the unlit lists
- * (u16) height × 256"; "row j has the 256 numbers from 256 × j". The table of "one entry a patch"
- * has as many as the scene, which no number here can say. */
+ * (u16) height × 256"; "row j has the 256 numbers from 256 × j"; of the map "four u64 words a row".
+ * The table of "one entry a patch" has as many as the scene, which no number here can say. */
 IS(RING_PICTURE_LEN(256, 128), 32768);
 IS(RING_PICTURE_LEN(128, 256), 32768);
 IS(RING_PICTURE_LEN(2 + 3, 3 + 4), 35);
@@ -67,17 +67,24 @@ IS(RING_COUNTS_LEN, 1025);
 IS(RING_UNLIT_ROW, 256);
 IS(RING_UNLIT_LEN(128), 32768);
 IS(RING_UNLIT_LEN(1 + 2), 768);
+IS(RING_LIT_ROW, 4);
+IS(RING_LIT_LEN(128), 512);
+IS(RING_LIT_LEN(1 + 2), 12);
 IS(1 / RING_PICTURE_LEN(1, 2), 0);
 IS(1 / RING_UNLIT_LEN(1), 0);
+IS(1 / RING_LIT_LEN(1), 0);
 IS_SIZE(RING_PICTURE_LEN(1, 1));
 IS_SIZE(RING_COUNTS_LEN);
 IS_SIZE(RING_UNLIT_ROW);
 IS_SIZE(RING_UNLIT_LEN(1));
+IS_SIZE(RING_LIT_ROW);
+IS_SIZE(RING_LIT_LEN(1));
 
 /* The calls: the scene's bytes; the eye, three i16; "three vectors, right, forward and up", three
  * i16 each, so that -101 and 101 can arrive and be refused; width, height and lens, u16 each; what
  * is lent, each with its length, after the counts the "further lent table (u32, one entry a
- * patch)"; the station counter, up to 4,294,967,295. */
+ * patch)", and "Beside the unlit lists" the map, in "u64 words"; the station counter, up to
+ * 4,294,967,295. */
 uint32_t ring_survey(const uint8_t *scene, size_t scene_len,
                      int16_t eye_x, int16_t eye_y, int16_t eye_z,
                      int16_t right_x, int16_t right_y, int16_t right_z,
@@ -88,6 +95,7 @@ uint32_t ring_survey(const uint8_t *scene, size_t scene_len,
                      uint32_t *counts, size_t counts_len,
                      uint32_t *patch_counts, size_t patch_counts_len,
                      uint16_t *unlit, size_t unlit_len,
+                     uint64_t *lit, size_t lit_len,
                      uint32_t *counter);
 uint32_t ring_gate(const uint8_t *scene, size_t scene_len,
                    int16_t eye_x, int16_t eye_y, int16_t eye_z,
@@ -96,7 +104,7 @@ uint32_t ring_gate(const uint8_t *scene, size_t scene_len,
                    int16_t up_x, int16_t up_y, int16_t up_z,
                    uint16_t width, uint16_t height, uint16_t lens,
                    size_t picture_len, size_t counts_len, size_t patch_counts_len,
-                   size_t unlit_len,
+                   size_t unlit_len, size_t lit_len,
                    uint32_t counter);
 
 /* "A station arrives either as units or as three doubles in metres": the same calls, with three
@@ -111,6 +119,7 @@ uint32_t ring_survey_metres(const uint8_t *scene, size_t scene_len,
                             uint32_t *counts, size_t counts_len,
                             uint32_t *patch_counts, size_t patch_counts_len,
                             uint16_t *unlit, size_t unlit_len,
+                            uint64_t *lit, size_t lit_len,
                             uint32_t *counter);
 uint32_t ring_gate_metres(const uint8_t *scene, size_t scene_len,
                           double eye_x, double eye_y, double eye_z,
@@ -119,8 +128,13 @@ uint32_t ring_gate_metres(const uint8_t *scene, size_t scene_len,
                           int16_t up_x, int16_t up_y, int16_t up_z,
                           uint16_t width, uint16_t height, uint16_t lens,
                           size_t picture_len, size_t counts_len, size_t patch_counts_len,
-                          size_t unlit_len,
+                          size_t unlit_len, size_t lit_len,
                           uint32_t counter);
+
+/* "quick answers on a row": a row's lit cells, and its first unlit column, "the width where all are
+ * lit". Columns are counted up to 256, and a row's number may be any that a length can be. */
+uint32_t ring_row_lit(const uint64_t *lit, size_t lit_len, size_t row);
+uint32_t ring_row_first_unlit(const uint64_t *lit, size_t lit_len, uint16_t width, size_t row);
 
 /* "A scene of 32 bytes with no node is legal and shows nothing." */
 static const uint8_t nothing[32] = {1, 0, 0, 0, 32, 0, 0, 0, 32, [16] = 32, [24] = 32};
@@ -179,9 +193,11 @@ static const int narrow[3][15] = {
     {-101, -102, -103, 1, 0, 0, -1, -1, 1, 2, -1, -1, 6, 4, 5},
     {-101, -102, -103, 1, 0, 2, 2, 1, 1, 1, 2, 0, 6, 4, 5}};
 
-/* What a call lends. Each has room for the longest, so that two lengths can change places too. */
+/* What a call lends. Each has room for the longest, so that two lengths can change places too. The
+ * map is lent from its second word on. */
 static uint16_t picture[1025], unlit[1025];
 static uint32_t counts[1025], patch_counts[1025];
+static uint64_t lit[1026];
 
 /* How many patches a scene has: "u16 version, 1; u16 zero; u32 whole length; then three pairs of
  * u32 offset and length in bytes", of which the second pair is the patches'. */
@@ -191,15 +207,15 @@ static size_t patches_in(const uint8_t *scene)
     return (low | (uint32_t)scene[22] << 16 | (uint32_t)scene[23] << 24) / RING_PATCH_BYTES;
 }
 
-/* A call's numbers in its order, those of a view and then the four lengths, with the numbers in two
+/* A call's numbers in its order, those of a view and then the five lengths, with the numbers in two
  * places exchanged, as by a library that takes them in another order. The lengths are those of the
  * view as it was. */
 struct call {
-    int number[19];
+    int number[20];
 };
 
-/* Where the lengths begin, and where that of the patch table stands among them. */
-enum { LENGTHS = 15, TABLE = 17 };
+/* Where the lengths begin, and where those of the patch table and of the map stand among them. */
+enum { LENGTHS = 15, TABLE = 17, MAP = 19 };
 
 static struct call call_of(const int *view, int one, int other)
 {
@@ -209,6 +225,7 @@ static struct call call_of(const int *view, int one, int other)
     c.number[LENGTHS + 1] = (int)RING_COUNTS_LEN;
     c.number[TABLE] = (int)patches_in(quarters);
     c.number[TABLE + 1] = (int)RING_UNLIT_LEN(view[13]);
+    c.number[MAP] = (int)RING_LIT_LEN(view[13]);
     int kept = c.number[one];
     c.number[one] = c.number[other];
     c.number[other] = kept;
@@ -218,34 +235,32 @@ static struct call call_of(const int *view, int one, int other)
 #define THREE(n) (int16_t)(n)[0], (int16_t)(n)[1], (int16_t)(n)[2]
 #define CAMERA(n) THREE((n) + 3), THREE((n) + 6), THREE((n) + 9), \
                   (uint16_t)(n)[12], (uint16_t)(n)[13], (uint16_t)(n)[14]
+#define LENGTHS_OF(n) (size_t)(n)[LENGTHS], (size_t)(n)[LENGTHS + 1], (size_t)(n)[TABLE], \
+                      (size_t)(n)[TABLE + 1], (size_t)(n)[MAP]
+#define LENT(n) picture, (size_t)(n)[LENGTHS], counts, (size_t)(n)[LENGTHS + 1], patch_counts, \
+                (size_t)(n)[TABLE], unlit, (size_t)(n)[TABLE + 1], lit + 1, (size_t)(n)[MAP]
 
 /* The eye in metres. A quotient is rounded, but by far too little to come near to a half. */
 #define METRES(n) (n)[0] / 200.0, (n)[1] / 200.0, (n)[2] / 200.0
 
 static uint32_t gate(const int *n, uint32_t count)
 {
-    return ring_gate(quarters, sizeof quarters, THREE(n), CAMERA(n), (size_t)n[LENGTHS],
-                     (size_t)n[LENGTHS + 1], (size_t)n[TABLE], (size_t)n[TABLE + 1], count);
+    return ring_gate(quarters, sizeof quarters, THREE(n), CAMERA(n), LENGTHS_OF(n), count);
 }
 
 static uint32_t gate_metres(const int *n, uint32_t count)
 {
-    return ring_gate_metres(quarters, sizeof quarters, METRES(n), CAMERA(n), (size_t)n[LENGTHS],
-                            (size_t)n[LENGTHS + 1], (size_t)n[TABLE], (size_t)n[TABLE + 1], count);
+    return ring_gate_metres(quarters, sizeof quarters, METRES(n), CAMERA(n), LENGTHS_OF(n), count);
 }
 
 static uint32_t survey(const int *n, uint32_t *count)
 {
-    return ring_survey(quarters, sizeof quarters, THREE(n), CAMERA(n), picture, (size_t)n[LENGTHS],
-                       counts, (size_t)n[LENGTHS + 1], patch_counts, (size_t)n[TABLE], unlit,
-                       (size_t)n[TABLE + 1], count);
+    return ring_survey(quarters, sizeof quarters, THREE(n), CAMERA(n), LENT(n), count);
 }
 
 static uint32_t survey_metres(const int *n, uint32_t *count)
 {
-    return ring_survey_metres(quarters, sizeof quarters, METRES(n), CAMERA(n), picture,
-                              (size_t)n[LENGTHS], counts, (size_t)n[LENGTHS + 1], patch_counts,
-                              (size_t)n[TABLE], unlit, (size_t)n[TABLE + 1], count);
+    return ring_survey_metres(quarters, sizeof quarters, METRES(n), CAMERA(n), LENT(n), count);
 }
 
 /* The calls by their names, each kind in both forms of a station. */
@@ -267,19 +282,23 @@ static int all_pass(gate_call *call, int one, int other)
            passes(call, narrow[2], one, other);
 }
 
-/* The table as no survey leaves it, also beyond what is lent of it. */
-static void spoil_table(void)
+/* The table and the map as no survey leaves them, also beyond what is lent of them. */
+static const uint64_t noise = 0x9999999999999999;
+
+static void spoil(void)
 {
     for (size_t k = 0; k < 1025; k++)
         patch_counts[k] = 9;
+    for (size_t k = 0; k < 1026; k++)
+        lit[k] = noise;
 }
 
 static int is_spoilt(void)
 {
     size_t k = 0;
-    while (k < 1025 && patch_counts[k] == 9)
+    while (k < 1025 && patch_counts[k] == 9 && lit[k] == noise)
         k++;
-    return k == 1025;
+    return k == 1025 && lit[k] == noise;
 }
 
 /* Patch k of the quarters is the whole of panel k + 1: it has the cells that show this panel. What
@@ -293,46 +312,76 @@ static int counts_cells(const uint16_t *shown)
            !memcmp(patch_counts, cells + 1, 5 * sizeof *cells);
 }
 
+/* "four u64 words a row, bit i mod 64 of word i / 64 set when column i is lit. Columns beyond the
+ * width stay clear." What the map held before is gone, and beside its words nothing is written. */
+static int maps_cells(const struct view *v)
+{
+    size_t width = (size_t)v->number[12], height = (size_t)v->number[13];
+    uint64_t due[1026];
+    for (size_t k = 0; k < 1026; k++)
+        due[k] = 0 < k && k <= 4 * height ? 0 : noise;
+    for (size_t cell = 0; cell < width * height; cell++) {
+        size_t row = cell / width, column = cell % width;
+        if (v->picture[cell])
+            due[1 + 4 * row + column / 64] |= (uint64_t)1 << column % 64;
+    }
+    return !memcmp(lit, due, sizeof due);
+}
+
 static int shows(survey_call *call, struct view v, int one, int other)
 {
     struct call c = call_of(v.number, one, other);
     uint32_t counter = 6;
-    spoil_table();
+    spoil();
     return call(c.number, &counter) == RING_DONE && counter == 7 && counts_cells(v.picture) &&
-           !memcmp(picture, v.picture, (size_t)c.number[LENGTHS] * sizeof *picture);
+           !memcmp(picture, v.picture, (size_t)c.number[LENGTHS] * sizeof *picture) &&
+           maps_cells(&v);
 }
 
-/* The answer to a level view of the quarters with a table of this length, if the gate gives it too
- * and a refusal leaves the table and the counter as they were. */
-static uint32_t answer_of_table(int patches, uint32_t count)
+/* The answer to a level view of the quarters with another length in one place, if all four calls
+ * give it and a refusal leaves the table, the map and the counter as they were. */
+static uint32_t answer_of(int place, int length, uint32_t count)
 {
     struct call c = call_of(level.number, 0, 0);
-    uint32_t after = count;
-    c.number[TABLE] = patches;
-    spoil_table();
-    uint32_t answer = survey(c.number, &after);
-    int kept = is_spoilt() && after == count;
-    return gate(c.number, count) == answer && (answer == RING_DONE || kept) ? answer : UINT32_MAX;
+    c.number[place] = length;
+    uint32_t answer = gate(c.number, count);
+    for (int form = 0; form < 2; form++) {
+        uint32_t after = count;
+        spoil();
+        int agrees = surveys[form].call(c.number, &after) == answer;
+        int kept = is_spoilt() && after == count;
+        if (gates[form].call(c.number, count) != answer || !agrees || kept != (answer != RING_DONE))
+            return UINT32_MAX;
+    }
+    return answer;
+}
+
+/* Does a place take this length and none of the others? Question 12 comes after it. */
+static int asks_length(int place, int length, const int *others, int count)
+{
+    int asked = answer_of(place, length, 0) == RING_DONE &&
+                answer_of(place, length, UINT32_MAX) == RING_BAD_COUNTER;
+    for (int k = 0; k < count; k++)
+        asked &= answer_of(place, others[k], 0) == RING_BAD_BUFFERS &&
+                 answer_of(place, others[k], UINT32_MAX) == RING_BAD_BUFFERS;
+    return asked;
 }
 
 /* "Question 11 covers the new table's length": one entry a patch, whatever the counts and the most
- * patches are. Question 12 comes after it. */
-static int asks_table(void)
+ * patches are. "Question 11 covers the map's length": that of the window's two rows, whatever those
+ * of the lists and of the highest window are. */
+static int asks_lengths(void)
 {
-    return patches_in(quarters) == 4 && answer_of_table(4, 0) == RING_DONE &&
-           answer_of_table(3, 0) == RING_BAD_BUFFERS && answer_of_table(5, 0) == RING_BAD_BUFFERS &&
-           answer_of_table(0, 0) == RING_BAD_BUFFERS &&
-           answer_of_table(1024, 0) == RING_BAD_BUFFERS &&
-           answer_of_table(1025, 0) == RING_BAD_BUFFERS &&
-           answer_of_table(3, UINT32_MAX) == RING_BAD_BUFFERS &&
-           answer_of_table(4, UINT32_MAX) == RING_BAD_COUNTER;
+    static const int tables[] = {3, 5, 0, 1024, 1025}, maps[] = {7, 9, 0, 2, 4, 12, 16, 512};
+    return patches_in(quarters) == 4 && asks_length(TABLE, 4, tables, 5) &&
+           asks_length(MAP, 8, maps, 8);
 }
 
 /* The answer on the scene of nothing where all is level and fits but what is named. */
 static uint32_t answer(int16_t up_y, int16_t up_z, uint16_t lens, size_t cells, uint32_t counter)
 {
     return ring_gate(nothing, 32, 0, 0, 0, 1, 0, 0, 0, 1, 0, 0, up_y, up_z, 1, 1, lens, cells, 1025,
-                     0, 256, counter);
+                     0, 256, 4, counter);
 }
 
 /* "14 when a part is out of range or right . (forward x up) is not above 0, put right after
@@ -353,15 +402,43 @@ static int shows_nothing(void)
 {
     uint16_t cell[1] = {9}, row[256] = {9, 9, 9};
     uint32_t counted[1025] = {9, 9}, table[1] = {9}, counter = 6;
+    uint64_t words[5] = {9, 9, 9, 9, 9};
     uint32_t refused = ring_survey(nothing, 32, 0, 0, 0, RING_LEVEL_VIEW, 1, 1, 1, cell, 1,
-                                   counted, 1025, table, 1, row, 256, &counter);
-    int left = counter == 6 && cell[0] == 9 && counted[0] == 9 && row[0] == 9;
+                                   counted, 1025, table, 1, row, 256, words, 4, &counter);
+    int left = counter == 6 && cell[0] == 9 && counted[0] == 9 && row[0] == 9 && words[0] == 9;
     uint32_t done = ring_survey(nothing, 32, 0, 0, 0, RING_LEVEL_VIEW, 1, 1, 1, cell, 1,
-                                counted, 1025, table, 0, row, 256, &counter);
+                                counted, 1025, table, 0, row, 256, words, 4, &counter);
     return patches_in(nothing) == 0 && refused == RING_BAD_BUFFERS && left &&
            answer(0, 1, 1, 1, 6) == RING_DONE && done == RING_DONE && counter == 7 &&
            cell[0] == 0 && counted[0] == 1 && counted[1] == 0 && table[0] == 9 && row[0] == 0 &&
-           row[1] == 1 && row[2] == 0;
+           row[1] == 1 && row[2] == 0 && !(words[0] | words[1] | words[2] | words[3]) &&
+           words[4] == 9;
+}
+
+/* The calls on rows, with two of their numbers exchanged. Of a map of two rows the second has
+ * columns 0 to 2 lit, and two more. No two of a length of 8, a width of 7 and a row of 1 can change
+ * places without another answer: then the row is not there. */
+static const uint64_t two_rows[8] = {[4] = 0x17, [7] = 1};
+
+static void exchange(size_t *number, int one, int other)
+{
+    size_t kept = number[one];
+    number[one] = number[other];
+    number[other] = kept;
+}
+
+static int counts_row(int one, int other)
+{
+    size_t number[2] = {8, 1};
+    exchange(number, one, other);
+    return ring_row_lit(two_rows, number[0], number[1]) == 5;
+}
+
+static int finds_column(int one, int other)
+{
+    size_t number[3] = {8, 7, 1};
+    exchange(number, one, other);
+    return ring_row_first_unlit(two_rows, number[0], (uint16_t)number[1], number[2]) == 3;
 }
 
 /* A view, with its station in units and in metres. */
@@ -382,17 +459,20 @@ static int does_exchanged(const char *name, int one, int other)
         if (!strcmp(name, gates[form].name))
             return all_pass(gates[form].call, one, other);
     }
-    return 1;
+    if (!strcmp(name, "ring_row_lit"))
+        return counts_row(one, other);
+    return strcmp(name, "ring_row_first_unlit") || finds_column(one, other);
 }
 
 /* header                  holds the library to all of this
  * header CALL ONE OTHER   with two numbers of this call exchanged, is the oblique view still shown,
- *                         or do the narrow views all pass? */
+ *                         do the narrow views all pass, or is the row's answer the same? */
 int main(int argc, char **argv)
 {
     if (argc == 4)
         return !does_exchanged(argv[1], atoi(argv[2]), atoi(argv[3]));
-    return !(shows_nothing() && asks_axes() && asks_table() && all_pass(gate, 0, 0) &&
+    return !(shows_nothing() && asks_axes() && asks_lengths() && all_pass(gate, 0, 0) &&
              all_pass(gate_metres, 0, 0) && holds(level) && holds(rolled) && holds(upside_down) &&
-             holds(aside) && holds(oblique) && holds(joints) && holds(joints_rolled));
+             holds(aside) && holds(oblique) && holds(joints) && holds(joints_rolled) &&
+             counts_row(0, 0) && finds_column(0, 0));
 }

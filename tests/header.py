@@ -6,7 +6,8 @@ tests/header.c compiles with the header, links with the archive and runs; it spe
 results in the header's order and declares the calls word for word; the archive exports these calls and nothing else. The
 numbers in the header's words are those of the papers, written here a second time. That all this can fail: of the header's
 numbers and types each is changed alone, and none of these headers compiles; any two numbers of a call's view, or any two of
-its lengths, are exchanged, and the call paints another picture or is refused. Each case is counted; a case that fails is named.
+its lengths, are exchanged, and the call paints another picture or is refused; any two numbers of a call on a row are, and it
+answers otherwise. Each case is counted; a case that fails is named.
 """
 
 import collections
@@ -29,8 +30,10 @@ CHANGES = (("number", r"\b\d+\b", lambda found: str(int(found) + 1)),
            ("pointer", r"\*(?=\w)", lambda found: ""))
 
 # Numbers of a call's view, eye, right, forward, up and window, and the lengths of what it lends, by their places in a call. The
-# first of them are the eye's, of which the gate asks the same.
-NUMBERS, LENGTHS, EYE = range(15), range(15, 19), 3
+# first of them are the eye's, of which the gate asks the same. And those of the calls on rows: the map's length and the row, and
+# between them the width.
+NUMBERS, LENGTHS, EYE = range(15), range(15, 20), 3
+ROW_NUMBERS = {"ring_row_lit": range(2), "ring_row_first_unlit": range(3)}
 
 # The numbers in the header's words, by the name that a comment is about: those of each question, and where something else is
 # quoted or meant, that.
@@ -48,10 +51,13 @@ SAID = {
     "RING_BAD_METRES": "10000 10000",
     "RING_BAD_VIEW": "10000 10000 1 256 1 128 1 4096",
     "RING_BAD_AXES": "100 100 0 0 0",
-    "RING_BAD_BUFFERS": "1025 256",
+    "RING_BAD_BUFFERS": "1025 256 4",
     "RING_BAD_COUNTER": "4294967295",
-    "ring_survey": "0 0 1 1 1 1 0 1025 0 0 0 256 256 256 128 0 0 0 128",  # columns, rows, directions; what is lent, in order
+    # columns, rows, directions; what is lent, in order, the map last
+    "ring_survey": "0 0 1 1 1 1 0 1025 0 0 0 256 256 256 128 0 0 0 128 4 4 64 64 0",
     "ring_survey_metres": "0.0625 12 0.1875 38 0.0625 12 0 10000 10000 50.0025 10000 10001",  # the request's own; the limit
+    "ring_row_lit": "0 4 4 3 0",                    # the map's first word; "four u64 words a row"; no lit cell, or no such row
+    "ring_row_first_unlit": "256 0 0 0",            # four words' columns; no such row, an unlit first column, or no column
 }
 
 tally = collections.Counter()
@@ -107,14 +113,21 @@ def calls(text):
     return {name: [" ".join(one.split()) for one in parameters.split(",")] for name, parameters in found}
 
 
+def exchanged(call):
+    """The pairs of places whose numbers are exchanged in a call."""
+    if call in ROW_NUMBERS:
+        return list(itertools.combinations(ROW_NUMBERS[call], 2))
+    pairs = [*itertools.combinations(NUMBERS, 2), *itertools.combinations(LENGTHS, 2)]
+    return [(one, other) for one, other in pairs if "survey" in call or other >= EYE]
+
+
 def agrees(library, folder, declared):
     program = os.path.join(folder, "header")
     build = CC + ["-I", os.path.join(ROOT, "include"), CHECK, "-L", library, "-lsurvey", "-o", program]
     built = succeeds(build)
     check("header.c builds and runs", built and succeeds([program]))
-    pairs = [*itertools.combinations(NUMBERS, 2), *itertools.combinations(LENGTHS, 2)]
-    for call, (one, other) in itertools.product(declared, pairs):
-        if "survey" in call or other >= EYE:
+    for call in declared:
+        for one, other in exchanged(call):
             shows = built and not succeeds([program, call, str(one), str(other)])
             check("it shows when numbers %d and %d of %s are exchanged" % (one, other, call), shows)
 

@@ -128,32 +128,33 @@ static void build_ruler(int axis, int units)
 struct call {
     int16_t axes[9];
     uint16_t width, height, lens;
-    size_t picture_len, counts_len, table_len, unlit_len;
+    size_t picture_len, counts_len, table_len, unlit_len, lit_len;
     uint32_t counter;
 };
 
 /* The camera that looks along the axis after this one, which is to its right. */
 static struct call ruler_call(int axis)
 {
-    struct call c = {{0}, 3, 1, 1, 3, 1025, 1, 256, 6};
+    struct call c = {{0}, 3, 1, 1, 3, 1025, 1, 256, 4, 6};
     for (int k = 0; k < 3; k++)
         c.axes[3 * k + (axis + k) % 3] = 1;
     return c;
 }
 
-static const struct call call_on_s = {{RING_LEVEL_VIEW}, 4, 4, 4, 16, 1025, 1, 1024, 6};
+static const struct call call_on_s = {{RING_LEVEL_VIEW}, 4, 4, 4, 16, 1025, 1, 1024, 16, 6};
 
 /* What is lent, and more behind each. */
 static struct lent {
     uint16_t picture[32], unlit[1280];
     uint32_t counts[1032], patch_counts[8], counter;
+    uint64_t lit[20];
 } lent, before;
 
 static void spoil(uint32_t counter)
 {
     memset(&lent, 0x5a, sizeof lent);
     lent.counter = counter;
-    before = lent;
+    memcpy(&before, &lent, sizeof lent);
 }
 
 /* The survey's answer, if the gate gives it too and just a refusal leaves what was lent. */
@@ -167,8 +168,9 @@ static uint32_t told(uint32_t answer, uint32_t gate)
 #define CAMERA(c) THREE((c)->axes), THREE((c)->axes + 3), THREE((c)->axes + 6), \
                   (c)->width, (c)->height, (c)->lens
 #define LENT(c) lent.picture, (c)->picture_len, lent.counts, (c)->counts_len, lent.patch_counts, \
-                (c)->table_len, lent.unlit, (c)->unlit_len, &lent.counter
-#define LENGTHS(c) (c)->picture_len, (c)->counts_len, (c)->table_len, (c)->unlit_len, (c)->counter
+                (c)->table_len, lent.unlit, (c)->unlit_len, lent.lit, (c)->lit_len, &lent.counter
+#define LENGTHS(c) (c)->picture_len, (c)->counts_len, (c)->table_len, (c)->unlit_len, \
+                   (c)->lit_len, (c)->counter
 
 static uint32_t in_metres(const struct call *c, struct metres eye)
 {
@@ -189,7 +191,7 @@ static int is_as_in_units(const struct call *c, struct metres eye, int x, int y,
 {
     static struct lent left;
     int done = in_metres(c, eye) == RING_DONE;
-    left = lent;
+    memcpy(&left, &lent, sizeof lent);
     return done && in_units(c, (int16_t)x, (int16_t)y, (int16_t)z) == RING_DONE &&
            !memcmp(&left, &lent, sizeof lent);
 }
@@ -263,7 +265,7 @@ static void check_scene_first(void)
  * The call is made better from one line to the next. */
 static void check_call_after(void)
 {
-    struct call c = {{0}, 0, 4, 4, 15, 1025, 1, 1024, UINT32_MAX};
+    struct call c = {{0}, 0, 4, 4, 15, 1025, 1, 1024, 15, UINT32_MAX};
     struct metres nan = along(2, of_bits(a_nan)), here = along(0, 0);
     build(0, -50, 50, 100, 50);
     check(in_metres(&c, nan) == RING_BAD_METRES, "a NaN, and width 0, and all behind");
@@ -271,10 +273,13 @@ static void check_call_after(void)
     check(in_metres(&c, here) == RING_BAD_VIEW, "width 0, and axes");
     c.width = 4;
     check(in_metres(&c, nan) == RING_BAD_METRES, "a NaN, and axes, and all behind");
-    check(in_metres(&c, here) == RING_BAD_AXES, "axes, and a buffer");
+    check(in_metres(&c, here) == RING_BAD_AXES, "axes, and two buffers");
     memcpy(c.axes, call_on_s.axes, sizeof c.axes);
-    check(in_metres(&c, here) == RING_BAD_BUFFERS, "a buffer, and the counter");
+    check(in_metres(&c, here) == RING_BAD_BUFFERS, "two buffers, and the counter");
     c.picture_len = 16;
+    check(in_metres(&c, nan) == RING_BAD_METRES, "a NaN, and the map, and the counter");
+    check(in_metres(&c, here) == RING_BAD_BUFFERS, "the map, and the counter");
+    c.lit_len = 16;
     check(in_metres(&c, nan) == RING_BAD_METRES, "a NaN, and the counter");
     check(in_metres(&c, here) == RING_BAD_COUNTER, "the counter");
 }

@@ -1,5 +1,5 @@
 #!/usr/bin/env bash
-# The tests from outside, over the library as it was just proved: its read-only memory, the C header, stations in metres from C, the console example, the benchmark's peers, the stored bills, the inputs and outputs that fail, spans laid on rows by the programs for that, and
+# The tests from outside, over the library as it was just proved: its read-only memory, the C header, stations in metres and the lit map from C, the console example, the benchmark's peers, the stored bills, the inputs and outputs that fail, spans laid on rows by the programs for that, and
 # through the C interface the stored cases and the ray-by-ray program in Rust.
 #   outside.sh [CASES [SEED]]      more cases, or others; for each case there are two pairs of cuttings besides, and for five of them a sequence of spans
 set -euo pipefail
@@ -21,6 +21,7 @@ from_c() {
     python3 tests/readonly.py "$SURVEY_LIB_DIR"
     python3 tests/header.py "$SURVEY_LIB_DIR"
     python3 tests/metres.py "$SURVEY_LIB_DIR"
+    python3 tests/map.py "$SURVEY_LIB_DIR"
     tests/console.sh "$SURVEY_LIB_DIR"
 }
 from_c >"$log" 2>&1 &

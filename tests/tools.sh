@@ -18,4 +18,5 @@ compiles c++ c++ c++11 include/ring.h
 compiles cc c c11 examples/console.c
 compiles cc c c11 tests/header.c
 compiles cc c c11 tests/metres.c
+compiles cc c c11 tests/map.c
 exit $status

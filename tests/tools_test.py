@@ -1,6 +1,6 @@
 """Tests of tools/: worked scenes, turned cameras, joints, cells by patch, round trips, the gate,
-stations in metres, sample rings, two cuttings of one ring, spans laid on rows, pictures, the
-commands.
+stations in metres, sample rings, two cuttings of one ring, spans laid on rows, the lit map,
+pictures, the commands.
 
 Run by tools.sh. Each case is counted; a case that fails is named.
 """
@@ -1366,6 +1366,25 @@ WORST = ((0, 1, 0), (1, 1, 1), (2, 3, 3), (3, 5, 6), (127, 253, 8128), (128, 255
 DEMO = "1-2 2-6 6-8 2-11 6-11 2-14 6-14 12-14 2-12 12-13 15-15 14-20 16-65535 9-8 0-15 3-5"
 
 
+# On a fresh row of a width, spans laid in order: the words of the lit map after the last, the lit
+# columns and the first unlit one. The rows of S in windows of several widths are among them.
+FULL = 16 * "f"
+MAPPED = (("4 1-2", "6 0 0 0 | 2 0"),
+          ("256 64-191", "0 %s %s 0 | 128 0" % (FULL, FULL)),
+          ("256 0-127", "%s %s 0 0 | 128 128" % (FULL, FULL)),
+          ("256 128-255", "0 0 %s %s | 128 0" % (FULL, FULL)),
+          ("100 25-74", "fffffffffe000000 7ff 0 0 | 50 0"),
+          ("65 0-65535", "%s 1 0 0 | 65 65" % FULL),
+          ("256 0-255", "%s %s %s %s | 256 256" % (FULL, FULL, FULL, FULL)),
+          ("64 0-63", "%s 0 0 0 | 64 64" % FULL),
+          ("128 63-64", "8000000000000000 1 0 0 | 2 0"),
+          ("255 200-300 0-0", "1 0 0 7fffffffffffff00 | 56 1"),
+          ("70 0-66 68-68 67-67", "%s 1f 0 0 | 69 69" % FULL),
+          ("16 20-65535 9-8", "0 0 0 0 | 0 0"),
+          ("1 0-0", "1 0 0 0 | 1 1"),
+          ("0 0-3", "0 0 0 0 | 0 0"))
+
+
 def two_segments():
     """The row above, its other columns lit by panel 1."""
     row = laying.Row(16)
@@ -1406,6 +1425,26 @@ def drawn_row(cells, first, last):
     return min(len(before) + 1, len(ends)), text[first:last + 1].count(".")
 
 
+def drawn_map(number, cells):
+    """The line of a row's lit map, by the row drawn as digits from the right, a 1 where lit."""
+    digits = "".join("1" if cell else "0" for cell in reversed(cells)).rjust(256, "0")
+    words = ["%016x" % int(digits[at:at + 64], 2) for at in (192, 128, 64, 0)]
+    first = len(digits) - len(digits.rstrip("1"))
+    return "%d: %s | %d %d" % (number, " ".join(words), digits.count("1"), first)
+
+
+def test_maps():
+    for words, due in MAPPED:
+        width, *spans = words.split()
+        line = laying.map_lines(int(width), [laying.columns(span) for span in spans])[-1]
+        told = " ".join(part.lstrip("0") or "0" for part in line.split()[1:])
+        check("the map of " + words, told, due)
+        check("the map of %s, in whole words" % words, [len(word) for word in line.split()[1:5]],
+              [16] * 4)
+    fresh = [laying.map_line(0, laying.Row(width)) for width in range(257)]
+    check("fresh rows", fresh, [drawn_map(0, [0] * width) for width in range(257)])
+
+
 def test_narrow_rows():
     """Every span on every row 6 wide, whichever of its columns are lit."""
     wrong = []
@@ -1417,6 +1456,8 @@ def test_narrow_rows():
             told, cells = laying.lay(row, first, last, 2), painted(lit, first, last, 2)
             if (told, row.cells) != ((*drawn_row(lit, first, last), 0 not in cells), cells):
                 wrong.append((lit, first, last))
+            if laying.map_line(1, row) != drawn_map(1, cells):
+                wrong.append(("map", lit, first, last))
     check("rows 6 wide", wrong, [])
 
 
@@ -1459,10 +1500,13 @@ def test_stored_spans():
     for place, (width, *lines) in enumerate(blocks, 1):
         width = int(width.removeprefix("width "))
         spans, due = due_lines(width, lines)
-        told = laying.laid_lines(width, spans)
-        check("stored row %d: spans" % place, len(told), len(due))
+        told, maps = laying.laid_lines(width, spans), laying.map_lines(width, spans)
+        check("stored row %d: spans" % place, (len(told), len(maps)), (len(due), len(due)))
         for number, (one, wanted) in enumerate(zip(told, due), 1):
             check("stored row %d: span %d" % (place, number), one, wanted)
+            cells = [int(cell) for cell in wanted.split("|")[1].split()]
+            check("stored row %d: the map after span %d" % (place, number), maps[number - 1],
+                  drawn_map(number, cells))
         laid += len(spans)
     check("stored spans", (len(blocks), laid), (60, 832))
 
@@ -1716,6 +1760,36 @@ def test_patch_commands():
         check("misused: " + " ".join(words), command(*words, data=data), (1, b""))
 
 
+def test_row_lines():
+    rows = [[0, 0, 0], [4, 0, 0], [0, 0, 1024], [7, 7, 0], [7, 1, 7], [1, 0, 1]]
+    check("rows of a picture", rays.row_lines(rows),
+          ["row 0: 0 lit, first unlit 0", "row 1: 1 lit, first unlit 1",
+           "row 2: 1 lit, first unlit 0", "row 3: 2 lit, first unlit 2",
+           "row 4: 3 lit, none unlit", "row 5: 2 lit, first unlit 1"])
+
+
+def test_row_commands():
+    data = input_of((NODE, FIVE), "4 2 4")
+    bill, patches = b"view 4 2 4\n5 4\nnothing 4\ntotal 8\n", b"patch 0: 5 4\n"
+    by_row = b"row 0: 2 lit, first unlit 0\nrow 1: 2 lit, first unlit 0\n"
+    check("rays.py --rows", command("rays.py", "--rows", "-", data=data), (0, bill + by_row))
+    check("rays.py, rows last", command("rays.py", "-", "--rows", data=data), (0, bill + by_row))
+    for words in (["--patches", "--rows"], ["--rows", "--patches"]):
+        check("rays.py " + " ".join(words), command("rays.py", *words, "-", data=data),
+              (0, bill + patches + by_row))
+    check("rays.py --rows, all lit",
+          command("rays.py", "--rows", "-", data=input_of((NODE, FIVE), "65 1 4096")),
+          (0, b"view 65 1 4096\n5 65\nnothing 0\ntotal 65\nrow 0: 65 lit, none unlit\n"))
+    check("rays.py --rows --metres",
+          command("rays.py", "--rows", "--metres", "0", "0.5", "0", "-", data=data),
+          (0, b"view 4 2 4\nnothing 8\ntotal 8\n" + by_row.replace(b"2 lit", b"0 lit")))
+    check("rays.py --rows, refused", command("rays.py", "--rows", "-", data=data[:-1]),
+          (0, b"refused 1\n"))
+    for words in (["rays.py", "--rows"], ["rays.py", "--rows", "--rows", "-"],
+                  ["gate.py", "--rows", "-"], ["draw.py", "--rows", "-", "-", "1"]):
+        check("misused: " + " ".join(words), command(*words, data=data), (1, b""))
+
+
 def covers_said(one, other, *options):
     """What cover.py ends with and says of two files, the second of them standard input."""
     with tempfile.TemporaryDirectory() as folder:
@@ -1773,6 +1847,12 @@ def test_rows_command():
             check("rows.py --bytes, a file, " + program,
                   ended("rows.py", "--bytes", name, *words), (0, b"", b""))
             check("the same bytes, " + program, stored(name), given)
+    check("rows.py --map", ended("rows.py", "--map", "65", "2-3", "0-64"),
+          (0, b"1: 000000000000000c 0000000000000000 0000000000000000 0000000000000000 | 2 0\n"
+              b"2: ffffffffffffffff 0000000000000001 0000000000000000 0000000000000000 | 65 65\n",
+           b""))
+    check("rows.py --map --bytes", command("rows.py", "--bytes", "-", "--map", "65", "2-3"),
+          command("rows.py", "--bytes", "-", "65", "2-3"))
     check("rows.py, two-byte numbers", command("rows.py", "--bytes", "-", "256", "513-65535"),
           (0, bytes.fromhex("0001 0102 ffff")))
     check("rows.py, eight-byte numbers",
@@ -1781,9 +1861,12 @@ def test_rows_command():
 
 
 # Words that rows.py cannot take, and what it says.
-ROWS_MISUSED = (("", "usage: rows.py [--bytes OUT] WIDTH I-J [I-J ...]"),
+ROWS_MISUSED = (("", "usage: rows.py [--bytes OUT] [--map] WIDTH I-J [I-J ...]"),
                 ("16", "usage: "), ("--worst", "usage: "), ("--bytes -", "usage: "),
-                ("--bytes - --worst", "usage: "),
+                ("--bytes - --worst", "usage: "), ("--map", "usage: "), ("--map 16", "usage: "),
+                ("--map --worst 3", "rows.py: '--worst' is not a whole number"),
+                ("16 --map 0-3", "rows.py: '--map' is not a span of two columns"),
+                ("--map 257 0-3", "rows.py: 257 is not from 0 to 256"),
                 ("--bytes", "rows.py: files after --bytes: 1 more needed"),
                 ("16 0-3 --bytes", "rows.py: files after --bytes: 1 more needed"),
                 ("257 0-3", "rows.py: 257 is not from 0 to 256"),

@@ -26,7 +26,9 @@ enum fault {
     ANSWER_10, BEFORE_SCENE, BEFORE_9, AFTER_10, AFTER_14, AFTER_11, AFTER_12, UNITS_TOO,
     GATE_PASSES, SURVEY_PASSES,
     /* What a refusal leaves. */
-    PICTURE_LOST, COUNTS_LOST, TABLE_LOST, UNLIT_LOST, COUNTER_RAISED,
+    PICTURE_LOST, COUNTS_LOST, TABLE_LOST, UNLIT_LOST, LIT_LOST, COUNTER_RAISED,
+    /* What a survey leaves. */
+    NO_MAP,
     FAULTS
 };
 
@@ -145,17 +147,19 @@ static uint32_t refused(uint32_t otherwise)
              int16_t ux, int16_t uy, int16_t uz, uint16_t width, uint16_t height, uint16_t lens
 #define SAME_VIEW rx, ry, rz, fx, fy, fz, ux, uy, uz, width, height, lens
 #define LENT uint16_t *picture, size_t cells, uint32_t *counts, size_t counts_len, \
-             uint32_t *table, size_t patches, uint16_t *unlit, size_t unlit_len, uint32_t *counter
-#define SAME_LENT picture, cells, counts, counts_len, table, patches, unlit, unlit_len, counter
+             uint32_t *table, size_t patches, uint16_t *unlit, size_t unlit_len, \
+             uint64_t *lit, size_t lit_len, uint32_t *counter
+#define SAME_LENT picture, cells, counts, counts_len, table, patches, unlit, unlit_len, \
+                  lit, lit_len, counter
+#define LENGTHS size_t cells, size_t counts_len, size_t patches, size_t unlit_len, size_t lit_len
+#define SAME_LENGTHS cells, counts_len, patches, unlit_len, lit_len
 #define EYE(s) (s).eye[0], (s).eye[1], (s).eye[2]
 
 uint32_t tried_gate_metres(const uint8_t *scene, size_t len, double x, double y, double z, VIEW,
-                           size_t cells, size_t counts_len, size_t patches, size_t unlit_len,
-                           uint32_t counter)
+                           LENGTHS, uint32_t counter)
 {
     struct station s = station_of(x, y, z);
-    uint32_t answer = ring_gate(scene, len, EYE(s), SAME_VIEW, cells, counts_len, patches,
-                                unlit_len, counter);
+    uint32_t answer = ring_gate(scene, len, EYE(s), SAME_VIEW, SAME_LENGTHS, counter);
     return s.becomes || fault == GATE_PASSES ? answer : refused(answer);
 }
 
@@ -169,6 +173,8 @@ static void spoil_lent(LENT)
         table[0] = 0;
     if (fault == UNLIT_LOST && unlit_len)
         unlit[0] = 0;
+    if (fault == LIT_LOST && lit_len)
+        lit[0] = 0;
     if (fault == COUNTER_RAISED)
         *counter += 1;
 }
@@ -177,11 +183,15 @@ uint32_t tried_survey_metres(const uint8_t *scene, size_t len, double x, double 
                              LENT)
 {
     struct station s = station_of(x, y, z);
-    if (s.becomes || fault == SURVEY_PASSES)
-        return ring_survey(scene, len, EYE(s), SAME_VIEW, SAME_LENT);
+    if (s.becomes || fault == SURVEY_PASSES) {
+        uint64_t held = lit[0];
+        uint32_t answer = ring_survey(scene, len, EYE(s), SAME_VIEW, SAME_LENT);
+        if (fault == NO_MAP)
+            lit[0] = held;
+        return answer;
+    }
     spoil_lent(SAME_LENT);
-    return refused(ring_gate(scene, len, EYE(s), SAME_VIEW, cells, counts_len, patches, unlit_len,
-                             *counter));
+    return refused(ring_gate(scene, len, EYE(s), SAME_VIEW, SAME_LENGTHS, *counter));
 }
 
 /* The calls in units, which are as they were. */
@@ -191,11 +201,10 @@ static int is_far(int16_t x, int16_t y, int16_t z)
 }
 
 uint32_t tried_gate(const uint8_t *scene, size_t len, int16_t x, int16_t y, int16_t z, VIEW,
-                    size_t cells, size_t counts_len, size_t patches, size_t unlit_len,
-                    uint32_t counter)
+                    LENGTHS, uint32_t counter)
 {
-    return is_far(x, y, z) ? 15 : ring_gate(scene, len, x, y, z, SAME_VIEW, cells, counts_len,
-                                            patches, unlit_len, counter);
+    return is_far(x, y, z) ? 15
+                           : ring_gate(scene, len, x, y, z, SAME_VIEW, SAME_LENGTHS, counter);
 }
 
 uint32_t tried_survey(const uint8_t *scene, size_t len, int16_t x, int16_t y, int16_t z, VIEW, LENT)

@@ -1,13 +1,16 @@
 #!/usr/bin/env python3
 """A survey computed ray by ray in exact whole numbers: slow, without a tree, without the library.
 
-    rays.py [--patches] [--metres X Y Z] [--axes RX RY RZ FX FY FZ UX UY UZ] IN.view [PICTURE.u16]
+    rays.py [--patches] [--rows] [--metres X Y Z] [--axes RX RY RZ FX FY FZ UX UY UZ]
+            IN.view [PICTURE.u16]
 
 Reads a view and a scene as `ringbill` does, prints the bill as `ringbill` does (or `refused N`),
 and writes the picture, if asked, as raw little-endian u16, row after row from the top. --patches
-prints after the bill each patch of the scene: its number, its panel and its cells. --metres puts a
-station of three doubles in metres in the place of the view's eye. --axes turns the camera: its
-vectors right, forward and up; without it the view is level, (1,0,0), (0,1,0), (0,0,1). Examples:
+prints after the bill each patch of the scene: its number, its panel and its cells. --rows prints
+after that each row of the picture: its number, how many of its cells are lit, which is that they
+show a panel, and its first unlit column. --metres puts a station of three doubles in metres in the
+place of the view's eye. --axes turns the camera: its vectors right, forward and up; without it the
+view is level, (1,0,0), (0,1,0), (0,0,1). Examples:
 
     $ scene.py build samples/s.txt - | rays.py -
     view 4 4 4
@@ -26,6 +29,10 @@ vectors right, forward and up; without it the view is level, (1,0,0), (0,1,0), (
     total 16
     patch 0: 7 4
     patch 1: 5 0
+    $ scene.py build samples/s.txt - | rays.py --rows - | tail -n 3
+    row 1: 2 lit, first unlit 0
+    row 2: 2 lit, first unlit 0
+    row 3: 0 lit, first unlit 0
     $ scene.py build samples/t.txt - | rays.py --metres 0 0.375 0 -
     view 4 4 4
     5 16
@@ -192,6 +199,13 @@ def patch_lines(scene, numbers):
             for number, patch in enumerate(scene.patches)]
 
 
+def row_lines(rows):
+    """A line for each row of a picture: its number, its lit cells and its first unlit column."""
+    firsts = ["first unlit %d" % row.index(0) if 0 in row else "none unlit" for row in rows]
+    return ["row %d: %d lit, %s" % (number, len(row) - row.count(0), first)
+            for number, (row, first) in enumerate(zip(rows, firsts))]
+
+
 def pack_picture(rows):
     cells = [panel for row in rows for panel in row]
     return struct.pack("<%dH" % len(cells), *cells)
@@ -206,17 +220,18 @@ def take_word(words, word):
 
 
 def run(words):
-    axes, with_patches = scenes.take_axes(words), take_word(words, "--patches")
-    station = scenes.take_metres(words)
+    with_patches, with_rows = take_word(words, "--patches"), take_word(words, "--rows")
+    axes, station = scenes.take_axes(words), scenes.take_metres(words)
     if len(words) not in (1, 2):
-        sys.exit("usage: rays.py [--patches] %s %s IN.view [PICTURE.u16]"
+        sys.exit("usage: rays.py [--patches] [--rows] %s %s IN.view [PICTURE.u16]"
                  % (scenes.STATION, scenes.AXES))
     view, scene = gate.check_input(scenes.read_file(words[0]), axes, station)
     numbers = closest_patches(view, scene, axes)
     rows = panels_of(scene, numbers)
     if len(words) == 2:
         scenes.write_file(words[1], pack_picture(rows))
-    print("\n".join(bill(view, rows) + (patch_lines(scene, numbers) if with_patches else [])))
+    lines = bill(view, rows) + (patch_lines(scene, numbers) if with_patches else [])
+    print("\n".join(lines + (row_lines(rows) if with_rows else [])))
 
 
 def main():
