@@ -11,14 +11,15 @@ use outside::ray::Sight;
 use outside::survey::Due;
 
 /// Library and peers agree on a call that is timed: picture, counts, patch
-/// counts, lists.
+/// counts, lists, map, and what is asked of its rows.
 pub fn same(library: &dyn Library, call: &Call, name: &str) {
     assert_eq!(library.gate(call), 0, "{name} passes the gate");
     let others = differing(library, call);
     assert!(others.is_empty(), "{name}: {others:?} differ");
 }
 
-/// The peers that leave other numbers in a legal call than the library does.
+/// The peers that leave other numbers in a legal call than the library does, or
+/// answer otherwise on a row of the map that it leaves or on the row behind.
 fn differing(library: &dyn Library, call: &Call) -> Vec<&'static str> {
     let left = |who: &dyn Library, seed| {
         let mut lent = Lent::noise(call, &mut Random::new(seed, 0));
@@ -26,9 +27,15 @@ fn differing(library: &dyn Library, call: &Call) -> Vec<&'static str> {
         lent
     };
     let wanted = left(library, 0);
+    let answers = |who: &dyn Library| -> Vec<[u32; 2]> {
+        let (lit, width) = (&wanted.lit, call.view.width);
+        let rows = 0..=usize::from(call.view.height);
+        rows.map(|j| [who.row_lit(lit, j), who.row_first_unlit(lit, width, j)])
+            .collect()
+    };
     let others = (1..).zip(&PEERS);
     others
-        .filter(|&(seed, peer)| left(peer, seed) != wanted)
+        .filter(|&(seed, peer)| left(peer, seed) != wanted || answers(peer) != answers(library))
         .map(|(_, peer)| peer.name)
         .collect()
 }

@@ -58,11 +58,11 @@ pub fn introduction(commit: &str, rounds: usize) -> String {
          library is faster. Medians of {rounds} interleaved rounds of processor time; the\n\
          microseconds, of the fastest round on one machine, are only a help; growth is\n\
          against the line before in a curve. The peers are in Rust, share one gate\n\
-         (questions 1 to 12, 14 and 15) and give the same pictures, counts, patch counts\n\
-         and unlit lists, at joints too, which each run asserts: `rays` takes each cell\n\
-         alone, `z-buffer` compares exact distances, `painter` paints the tree back to\n\
-         front, `segments` front to back on unlit stretches. Stations are in units, views\n\
-         level and 256×128 unless said.\n\n{}",
+         (questions 1 to 12, 14 and 15) and give the same pictures, counts, patch counts,\n\
+         unlit lists and lit maps, at joints too, which each run asserts: `rays` takes\n\
+         each cell alone, `z-buffer` compares exact distances, `painter` paints the tree\n\
+         back to front, `segments` front to back on unlit stretches. Stations are in\n\
+         units, views level and 256×128 unless said.\n\n{}",
         head()
     )
 }

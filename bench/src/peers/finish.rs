@@ -2,16 +2,21 @@
 //! numbers of shapes until then, so that patches of one panel are told apart
 //! without a second buffer.
 
+use super::map;
 use super::shapes::{Shapes, NOTHING};
-use outside::call::{Lent, ROW};
+use outside::call::{Lent, ROW, WORDS};
 
 pub fn finish(shapes: &Shapes, lent: &mut Lent) {
     let mut seen = Seen::none(shapes);
-    let width = usize::from(shapes.camera.view.width);
-    let rows = lent.picture.chunks_exact_mut(width);
-    for (cells, list) in rows.zip(lent.unlit.chunks_exact_mut(ROW)) {
+    let width = shapes.camera.view.width;
+    let full = map::full(width);
+    let rows = lent.picture.chunks_exact_mut(usize::from(width));
+    let beside = lent.unlit.chunks_exact_mut(ROW);
+    let beside = beside.zip(lent.lit.chunks_exact_mut(WORDS));
+    for (cells, (list, words)) in rows.zip(beside) {
         let used = seen.finish_row(cells, list);
         list[used..].fill(0);
+        map::write(words, &full, &list[..used]);
     }
     seen.count(shapes, lent);
 }

@@ -3,7 +3,7 @@
 use super::boxes::planes_divide;
 use super::plane::{cross, dot, Plane};
 use super::tables::{is_node, point_fits, wide, within, Node, Patch, Tables};
-use outside::call::{Call, COUNTS, ROW};
+use outside::call::{Call, COUNTS, ROW, WORDS};
 use outside::gate::{sections_follow, size_and_version};
 
 /// The decoded scene, or the number of the first question that says no.
@@ -132,4 +132,5 @@ fn lengths_fit(call: &Call, tables: &Tables) -> bool {
         && call.counts_len == COUNTS
         && call.patch_counts_len == tables.patches.len()
         && call.unlit_len == usize::from(call.view.height) * ROW
+        && call.lit_len == usize::from(call.view.height) * WORDS
 }

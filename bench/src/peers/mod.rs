@@ -4,6 +4,7 @@ mod boxes;
 mod camera;
 mod finish;
 mod gate;
+mod map;
 mod order;
 mod painter;
 mod plane;
@@ -57,5 +58,13 @@ impl Library for Peer {
 
     fn gate(&self, call: &Call) -> u32 {
         gate::judge(call).err().unwrap_or(0)
+    }
+
+    fn row_lit(&self, lit: &[u64], row: usize) -> u32 {
+        map::row_lit(lit, row)
+    }
+
+    fn row_first_unlit(&self, lit: &[u64], width: u16, row: usize) -> u32 {
+        map::row_first_unlit(lit, width, row)
     }
 }

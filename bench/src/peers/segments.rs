@@ -1,10 +1,12 @@
 //! Front to back: spans are laid on the unlit stretches of their rows, and the
-//! cells are counted as they are painted, patch by patch.
+//! cells are counted as they are painted, patch by patch. What is left of the
+//! stretches then gives the map.
 
+use super::map;
 use super::order::front_to_back;
 use super::shapes::{Shape, Shapes};
 use super::tables::{wide, Tables};
-use outside::call::{Call, Lent, ROW};
+use outside::call::{Call, Lent, ROW, WORDS};
 
 pub fn paint(tables: &Tables, call: &Call, lent: &mut Lent) {
     let order = front_to_back(tables, wide(call.view.eye()));
@@ -17,6 +19,7 @@ pub fn paint(tables: &Tables, call: &Call, lent: &mut Lent) {
             break;
         }
     }
+    canvas.map(call.view.width);
 }
 
 struct Canvas<'a> {
@@ -60,6 +63,16 @@ impl Canvas<'_> {
             }
         }
         painted
+    }
+
+    /// Writes the map, when nothing more is laid.
+    fn map(&mut self, width: u16) {
+        let full = map::full(width);
+        let lists = self.lent.unlit.chunks_exact(ROW).zip(&self.used);
+        let rows = self.lent.lit.chunks_exact_mut(WORDS);
+        for (words, (list, &used)) in rows.zip(lists) {
+            map::write(words, &full, &list[..usize::from(used)]);
+        }
     }
 
     /// A patch is laid once, so that its cells are booked once for all its rows.
