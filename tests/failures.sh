@@ -44,8 +44,9 @@ laid() { { printf '\010\000' && repeated "$1" "$2"; } | "$folder/rows_laid"; }
 same "rows_laid: a part of a width" "$(printf '\010' | "$folder/rows_laid")" ""
 same "rows_laid: no span" "$(laid 1 '')" ""
 same "rows_laid: a part of a span" "$(laid 1 020003)" ""
-same "rows_laid: a part of a second span" "$(laid 1 02000300020003)" "1 1 2 0: 0 2 4 4 | 0 0 1 1 0 0 0 0"
-same "rows_laid: 4,096 spans" "$(laid 4096 02000300 | tail -n 1)" "4096 2 0 0: 0 2 4 4 | 0 0 1 1 0 0 0 0"
+rest='0: 0 2 4 4 | 000000000000000c 0000000000000000 0000000000000000 0000000000000000 | 0 0 1 1 0 0 0 0'
+same "rows_laid: a part of a second span" "$(laid 1 02000300020003)" "1 1 2 $rest"
+same "rows_laid: 4,096 spans" "$(laid 4096 02000300 | tail -n 1)" "4096 2 0 $rest"
 same "rows_laid: 4,097 spans" "$(laid 4097 02000300 | wc -l)" 4096
 worst() { repeated "$1" "$2" | "$folder/rows_worst"; }
 same "rows_worst: a part of a number" "$(worst 1 01000000000000)" ""

@@ -1366,23 +1366,23 @@ WORST = ((0, 1, 0), (1, 1, 1), (2, 3, 3), (3, 5, 6), (127, 253, 8128), (128, 255
 DEMO = "1-2 2-6 6-8 2-11 6-11 2-14 6-14 12-14 2-12 12-13 15-15 14-20 16-65535 9-8 0-15 3-5"
 
 
-# On a fresh row of a width, spans laid in order: the words of the lit map after the last, the lit
-# columns and the first unlit one. The rows of S in windows of several widths are among them.
+# On a fresh row of a width, spans laid in order, and the words of the lit map after the last. The
+# rows of S in windows of several widths are among them.
 FULL = 16 * "f"
-MAPPED = (("4 1-2", "6 0 0 0 | 2 0"),
-          ("256 64-191", "0 %s %s 0 | 128 0" % (FULL, FULL)),
-          ("256 0-127", "%s %s 0 0 | 128 128" % (FULL, FULL)),
-          ("256 128-255", "0 0 %s %s | 128 0" % (FULL, FULL)),
-          ("100 25-74", "fffffffffe000000 7ff 0 0 | 50 0"),
-          ("65 0-65535", "%s 1 0 0 | 65 65" % FULL),
-          ("256 0-255", "%s %s %s %s | 256 256" % (FULL, FULL, FULL, FULL)),
-          ("64 0-63", "%s 0 0 0 | 64 64" % FULL),
-          ("128 63-64", "8000000000000000 1 0 0 | 2 0"),
-          ("255 200-300 0-0", "1 0 0 7fffffffffffff00 | 56 1"),
-          ("70 0-66 68-68 67-67", "%s 1f 0 0 | 69 69" % FULL),
-          ("16 20-65535 9-8", "0 0 0 0 | 0 0"),
-          ("1 0-0", "1 0 0 0 | 1 1"),
-          ("0 0-3", "0 0 0 0 | 0 0"))
+MAPPED = (("4 1-2", "6 0 0 0"),
+          ("256 64-191", "0 %s %s 0" % (FULL, FULL)),
+          ("256 0-127", "%s %s 0 0" % (FULL, FULL)),
+          ("256 128-255", "0 0 %s %s" % (FULL, FULL)),
+          ("100 25-74", "fffffffffe000000 7ff 0 0"),
+          ("65 0-65535", "%s 1 0 0" % FULL),
+          ("256 0-255", "%s %s %s %s" % (FULL, FULL, FULL, FULL)),
+          ("64 0-63", "%s 0 0 0" % FULL),
+          ("128 63-64", "8000000000000000 1 0 0"),
+          ("255 200-300 0-0", "1 0 0 7fffffffffffff00"),
+          ("70 0-66 68-68 67-67", "%s 1f 0 0" % FULL),
+          ("16 20-65535 9-8", "0 0 0 0"),
+          ("1 0-0", "1 0 0 0"),
+          ("0 0-3", "0 0 0 0"))
 
 
 def two_segments():
@@ -1403,10 +1403,12 @@ def test_looks():
     check("all lit", laying.lay(full, 4, 15, 2), (2, 10, True))
     for word in ("0-0", "3-5", "15-15", "0-65535", "9-8"):
         check("%s on a full row" % word, laying.lay(full, *laying.columns(word), 3), (0, 0, True))
+    dark, first = drawn_map([]), drawn_map([3])
     check("no column", laying.laid_lines(0, [(0, 0), (3, 9), (1, 0)]),
-          ["1 0 0 1: |", "2 0 0 1: |", "3 0 0 1: |"])
+          ["%d 0 0 1: | %s |" % (number, dark) for number in (1, 2, 3)])
     check("one column", laying.laid_lines(1, [(1, 0), (1, 7), (0, 0)]),
-          ["1 0 0 0: 0 1 | 0", "2 1 0 0: 0 1 | 0", "3 1 1 1: | 3"])
+          ["1 0 0 0: 0 1 | %s | 0" % dark, "2 1 0 0: 0 1 | %s | 0" % dark,
+           "3 1 1 1: | %s | 3" % first])
 
 
 def painted(cells, first, last, panel):
@@ -1425,24 +1427,26 @@ def drawn_row(cells, first, last):
     return min(len(before) + 1, len(ends)), text[first:last + 1].count(".")
 
 
-def drawn_map(number, cells):
-    """The line of a row's lit map, by the row drawn as digits from the right, a 1 where lit."""
+def drawn_map(cells):
+    """A row's words of the lit map, by the row drawn as digits from the right, a 1 where lit."""
     digits = "".join("1" if cell else "0" for cell in reversed(cells)).rjust(256, "0")
-    words = ["%016x" % int(digits[at:at + 64], 2) for at in (192, 128, 64, 0)]
-    first = len(digits) - len(digits.rstrip("1"))
-    return "%d: %s | %d %d" % (number, " ".join(words), digits.count("1"), first)
+    return " ".join("%016x" % int(digits[at:at + 64], 2) for at in (192, 128, 64, 0))
+
+
+def map_of(line):
+    """The part of a line that tells the row's words."""
+    return line.split("|")[1].strip()
 
 
 def test_maps():
     for words, due in MAPPED:
         width, *spans = words.split()
-        line = laying.map_lines(int(width), [laying.columns(span) for span in spans])[-1]
-        told = " ".join(part.lstrip("0") or "0" for part in line.split()[1:])
-        check("the map of " + words, told, due)
-        check("the map of %s, in whole words" % words, [len(word) for word in line.split()[1:5]],
-              [16] * 4)
-    fresh = [laying.map_line(0, laying.Row(width)) for width in range(257)]
-    check("fresh rows", fresh, [drawn_map(0, [0] * width) for width in range(257)])
+        line = laying.laid_lines(int(width), [laying.columns(span) for span in spans])[-1]
+        told = map_of(line).split()
+        check("the map of " + words, [word.lstrip("0") or "0" for word in told], due.split())
+        check("the map of %s, in whole words" % words, [len(word) for word in told], [16] * 4)
+    fresh = [map_of(laying.row_line(0, (0, 0, 0), laying.Row(width))) for width in range(257)]
+    check("fresh rows", fresh, [drawn_map([0] * width) for width in range(257)])
 
 
 def test_narrow_rows():
@@ -1456,7 +1460,7 @@ def test_narrow_rows():
             told, cells = laying.lay(row, first, last, 2), painted(lit, first, last, 2)
             if (told, row.cells) != ((*drawn_row(lit, first, last), 0 not in cells), cells):
                 wrong.append((lit, first, last))
-            if laying.map_line(1, row) != drawn_map(1, cells):
+            if map_of(laying.row_line(1, told, row)) != drawn_map(cells):
                 wrong.append(("map", lit, first, last))
     check("rows 6 wide", wrong, [])
 
@@ -1485,7 +1489,7 @@ def due_lines(width, lines):
         cells = painted(cells, *spans[-1], number)
         numbers = [part for pair in pairs for part in pair.split(":")]
         due.append(" ".join([str(number), looked, lit, "0:" if pairs else "1:", *numbers, "|",
-                             *map(str, cells)]))
+                             drawn_map(cells), "|", *map(str, cells)]))
     return spans, due
 
 
@@ -1500,13 +1504,10 @@ def test_stored_spans():
     for place, (width, *lines) in enumerate(blocks, 1):
         width = int(width.removeprefix("width "))
         spans, due = due_lines(width, lines)
-        told, maps = laying.laid_lines(width, spans), laying.map_lines(width, spans)
-        check("stored row %d: spans" % place, (len(told), len(maps)), (len(due), len(due)))
+        told = laying.laid_lines(width, spans)
+        check("stored row %d: spans" % place, len(told), len(due))
         for number, (one, wanted) in enumerate(zip(told, due), 1):
             check("stored row %d: span %d" % (place, number), one, wanted)
-            cells = [int(cell) for cell in wanted.split("|")[1].split()]
-            check("stored row %d: the map after span %d" % (place, number), maps[number - 1],
-                  drawn_map(number, cells))
         laid += len(spans)
     check("stored spans", (len(blocks), laid), (60, 832))
 
@@ -1847,12 +1848,6 @@ def test_rows_command():
             check("rows.py --bytes, a file, " + program,
                   ended("rows.py", "--bytes", name, *words), (0, b"", b""))
             check("the same bytes, " + program, stored(name), given)
-    check("rows.py --map", ended("rows.py", "--map", "65", "2-3", "0-64"),
-          (0, b"1: 000000000000000c 0000000000000000 0000000000000000 0000000000000000 | 2 0\n"
-              b"2: ffffffffffffffff 0000000000000001 0000000000000000 0000000000000000 | 65 65\n",
-           b""))
-    check("rows.py --map --bytes", command("rows.py", "--bytes", "-", "--map", "65", "2-3"),
-          command("rows.py", "--bytes", "-", "65", "2-3"))
     check("rows.py, two-byte numbers", command("rows.py", "--bytes", "-", "256", "513-65535"),
           (0, bytes.fromhex("0001 0102 ffff")))
     check("rows.py, eight-byte numbers",
@@ -1861,12 +1856,9 @@ def test_rows_command():
 
 
 # Words that rows.py cannot take, and what it says.
-ROWS_MISUSED = (("", "usage: rows.py [--bytes OUT] [--map] WIDTH I-J [I-J ...]"),
+ROWS_MISUSED = (("", "usage: rows.py [--bytes OUT] WIDTH I-J [I-J ...]"),
                 ("16", "usage: "), ("--worst", "usage: "), ("--bytes -", "usage: "),
-                ("--bytes - --worst", "usage: "), ("--map", "usage: "), ("--map 16", "usage: "),
-                ("--map --worst 3", "rows.py: '--worst' is not a whole number"),
-                ("16 --map 0-3", "rows.py: '--map' is not a span of two columns"),
-                ("--map 257 0-3", "rows.py: 257 is not from 0 to 256"),
+                ("--bytes - --worst", "usage: "),
                 ("--bytes", "rows.py: files after --bytes: 1 more needed"),
                 ("16 0-3 --bytes", "rows.py: files after --bytes: 1 more needed"),
                 ("257 0-3", "rows.py: 257 is not from 0 to 256"),
@@ -1893,7 +1885,8 @@ def test_rows_misused():
         check("misused: rows.py " + words[:40], (status, shown, told.decode()[:len(said)]),
               (1, b"", said))
     status, shown = command("rows.py", "0", *4096 * ["0-3"])
-    check("rows.py, 4,096 spans", (status, shown.splitlines()[-1]), (0, b"4096 0 0 1: |"))
+    check("rows.py, 4,096 spans", (status, shown.splitlines()[-1]),
+          (0, b"4096 0 0 1: | %s |" % drawn_map([]).encode()))
     check("rows.py, 1,024 numbers", command("rows.py", "--worst", *1024 * ["1"]),
           (0, 1024 * b"1 1 1\n"))
     with tempfile.TemporaryDirectory() as folder:

@@ -1,22 +1,16 @@
 #!/usr/bin/env python3
 """How many unlit segments of a row do spans look at? And the worst case of it.
 
-    rows.py [--bytes OUT] [--map] WIDTH I-J [I-J ...]
-                              spans of the columns I to J, on a fresh row
-    rows.py [--bytes OUT] --worst N [N ...]
-                              the worst case's spans of these numbers
+    rows.py [--bytes OUT] WIDTH I-J [I-J ...]  spans of the columns I to J, on a fresh row
+    rows.py [--bytes OUT] --worst N [N ...]    the worst case's spans of these numbers
 
 The spans are laid in order on a row of WIDTH columns, 0 to 256, the n-th with panel n; at most
 4,096 of them. A span may end beyond the width; one with J below I has no column: it is not laid and
 looks at 0. After each a line is printed, as the program `rows_laid` prints it: the span's number,
 the segments that it looked at, the cells that it newly lit, 1 where no column is unlit any more or
-else 0; after the colon the offset and the length of each segment that is left; after the bar the
-cells, 0 where unlit.
-
-With --map a line is printed after each span of what the lit map holds of the row then: the span's
-number; after the colon the row's four words in hexadecimal, bit i mod 64 of word i / 64 set where
-column i is lit; after the bar how many columns are lit, and the first that is not, which is the
-width where all are.
+else 0; after the colon the offset and the length of each segment that is left; after the first bar
+the row's four words of the lit map in hexadecimal, bit i mod 64 of word i / 64 set where column i
+is lit; after the second the cells, 0 where unlit.
 
 With --worst a line is printed for each N, from 0 to 18,446,744,073,709,551,615, as `rows_worst`
 prints it: the first and the last column of the worst case's N-th span on a row 256 wide and, up to
@@ -25,13 +19,9 @@ prints it: the first and the last column of the worst case's N-th span on a row 
 With --bytes nothing is printed: the file OUT gets what the program reads on standard input. A file
 named - is standard output. Examples:
 
-    $ rows.py 8 2-3 5-5 0-9
-    1 1 2 0: 0 2 4 4 | 0 0 1 1 0 0 0 0
-    2 2 1 0: 0 2 4 1 6 2 | 0 0 1 1 0 2 0 0
-    3 3 5 1: | 3 3 1 1 3 2 3 3
-    $ rows.py --map 65 2-3 0-64
-    1: 000000000000000c 0000000000000000 0000000000000000 0000000000000000 | 2 0
-    2: ffffffffffffffff 0000000000000001 0000000000000000 0000000000000000 | 65 65
+    $ rows.py 3 1-1 0-9
+    1 1 1 0: 0 1 2 1 | 0000000000000002 0000000000000000 0000000000000000 0000000000000000 | 0 1 0
+    2 2 2 1: | 0000000000000007 0000000000000000 0000000000000000 0000000000000000 | 2 1 2
     $ rows.py --worst 1 2 300
     1 1 1
     3 3 3
@@ -96,20 +86,6 @@ def lay(row, first, last, panel):
     return looked, len(newly), not row.unlit
 
 
-def row_line(number, told, row):
-    """What is printed of a span and of the row after it."""
-    pairs = [(first, last - first + 1) for first, last in segments(row.unlit)]
-    return ("%d %d %d %d:" % (number, *told) + "".join(" %d %d" % pair for pair in pairs)
-            + " |" + "".join(" %d" % cell for cell in row.cells))
-
-
-def laid_lines(width, spans):
-    row = Row(width)
-    return [row_line(number, lay(row, *span, number), row) for number, span in enumerate(spans, 1)]
-
-
-# --- the lit map ---------------------------------------------------------------------------------
-
 def map_words(row):
     """The row's words of the lit map: "bit i mod 64 of word i / 64 set when column i is lit.
     Columns beyond the width stay clear."
@@ -120,23 +96,17 @@ def map_words(row):
     return words
 
 
-def row_answers(row):
-    """How many columns are lit, and the first that is not, "the width where all are lit"."""
-    width = len(row.cells)
-    return width - len(row.unlit), min(row.unlit, default=width)
+def row_line(number, told, row):
+    """What is printed of a span and of the row after it."""
+    pairs = [(first, last - first + 1) for first, last in segments(row.unlit)]
+    return ("%d %d %d %d:" % (number, *told) + "".join(" %d %d" % pair for pair in pairs)
+            + " |" + "".join(" %016x" % word for word in map_words(row))
+            + " |" + "".join(" %d" % cell for cell in row.cells))
 
 
-def map_line(number, row):
-    return ("%d:" % number + "".join(" %016x" % word for word in map_words(row))
-            + " | %d %d" % row_answers(row))
-
-
-def map_lines(width, spans):
-    row, lines = Row(width), []
-    for number, span in enumerate(spans, 1):
-        lay(row, *span, number)
-        lines.append(map_line(number, row))
-    return lines
+def laid_lines(width, spans):
+    row = Row(width)
+    return [row_line(number, lay(row, *span, number), row) for number, span in enumerate(spans, 1)]
 
 
 # --- the worst case ------------------------------------------------------------------------------
@@ -215,15 +185,13 @@ def pack_worst(numbers):
 
 def run(words):
     out = scenes.take_option(words, "--bytes", 1, "files")
-    worst, mapped = words[:1] == ["--worst"], words[:1] == ["--map"]
-    words = words[1:] if worst or mapped else words
-    if len(words) < (1 if worst else 2):
-        sys.exit("usage: rows.py [--bytes OUT] [--map] WIDTH I-J [I-J ...]\n"
+    worst = words[:1] == ["--worst"]
+    if len(words) < 2:
+        sys.exit("usage: rows.py [--bytes OUT] WIDTH I-J [I-J ...]\n"
                  "       rows.py [--bytes OUT] --worst N [N ...]")
-    given = (read_worst(words),) if worst else read_laid(words)
+    given = (read_worst(words[1:]),) if worst else read_laid(words)
     if out is None:
-        shown = worst_lines if worst else map_lines if mapped else laid_lines
-        print("\n".join(shown(*given)))
+        print("\n".join((worst_lines if worst else laid_lines)(*given)))
     else:
         scenes.write_file(out[0], (pack_worst if worst else pack_laid)(*given))
 
