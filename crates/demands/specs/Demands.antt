@@ -40,7 +40,7 @@ abbrev pub patchHas : List ℕ → View → ℕ → ℕ → ℕ → Bool
 patchHas bytes v i j k = hasCell (v .eye) (cellLine (v .camera) i j) (patchesIn bytes) k
 
 -- Demand 1: "every call ends with a full picture or with the one numbered refusal that document 01 gives, a scene is accepted exactly if it keeps the rules there,
--- and a refusal leaves picture, counts, unlit lists and station counter untouched." So it leaves everything lent, the table of the patches' cells too.
+-- and a refusal leaves picture, counts, unlit lists and station counter untouched." So it leaves everything lent, the table of the patches' cells and the lit map too.
 pub record RefusesRightly (bytes : List ℕ) (s : Station) (c : Camera) (before after : Lent) (result : ℕ) : Type 0 where
   pub exactly : (result ≡ 0) ↔ T (every (λ (q : Question Call). q .test (callOn bytes s c before)) questions)
   pub numbered : result ≡ surveyAnswer (callOn bytes s c before)

@@ -7,7 +7,12 @@ use Rattle.model.specs.Lists.{range, tally}
 use Rattle.model.specs.Row.{afterSpan}
 use Rattle.model.specs.Map.{bitOf, mapRow, firstOf}
 
--- The words after a span within the row is lit, whatever they were: any four words are the map of some columns.
+-- the words are those of a row of this width, for some set of unlit columns
+pub record Words (width : ℕ) (words : List ℕ) : Type 0 where
+  pub unlit : ℕ → Bool
+  pub words-are : words ≡ mapRow width unlit
+
+-- The words after a span is lit whose columns are all below the row's width, whatever that is: any four words are those of a row of 256 columns.
 abbrev pub Lights : ℕ → ℕ → List ℕ → List ℕ → Type 0
 Lights first last words words′ =
     (width : ℕ) (unlit : ℕ → Bool) → last < width → words ≡ mapRow width unlit → words′ ≡ mapRow width (afterSpan unlit first last)

@@ -1,11 +1,11 @@
-// The lit map of a picture: four words of 64 bits a row. Spans of columns are lit in the words of a row under work, and the console's two questions on a row are answered from them.
+// The lit map of a picture: four words of 64 bits a row. Spans of columns are lit in the words of a row under work, and two answers on a row are read from the whole map.
 ghost use mathlib.Core.Path.{_≡_};
 ghost use mathlib.Core.Bool.{not};
 ghost use mathlib.Core.List.{[], _∷_};
 ghost use Prim.Native.Nat.{_+_, _-_, _≤_, _<_, min};
 ghost use Rattle.model.specs.Map.{wordOf, litAt, litCells, firstOf, firstUnlit};
 ghost use Rattle.segments.specs.Columns.{inSpan};
-ghost use Rattle.litmap.specs.Words.{Lights, LightsBelow, OnesIs, ClearIs};
+ghost use Rattle.litmap.specs.Words.{Words, Lights, LightsBelow, OnesIs, ClearIs};
 
 const ALL: u64 = 18446744073709551615;
 
@@ -53,7 +53,7 @@ fn light_words(words: &mut [u64; 4], first: u64, last: u64)
 
 // Lights the columns of a span in the words of a row of this width: those below the width, as the span may end beyond it. With `last` below `first` it has none.
 pub fn light(words: &mut [u64; 4], width: usize, first: u16, last: u16)
-    requires { ⌜ width ≤ 256 ⌝ }
+    requires { ⌜ (width ≤ 256) × Words width (now words) ⌝ }
     ensures { λ r. ⌜ LightsBelow width first last (now (words .entry)) (now (words .exit)) ⌝ }
 {
     if last < first {
@@ -83,7 +83,7 @@ fn first_clear(word: u64) -> u32
     u64::trailing_zeros(!word)
 }
 
-// The lit cells of a row of the map, 0 where the row is not wholly inside.
+// The lit cells of a row of the map: the ones of its four words. 0 where the row is not wholly inside.
 pub fn row_lit(lit: &[u64], row: usize) -> u32
     ensures { λ r. ⌜ r ≡ litCells (now (lit .entry)) row ⌝ }
 {
@@ -118,11 +118,12 @@ fn first_clear_of_four(a: u64, b: u64, c: u64, d: u64) -> u32
     192 + l
 }
 
-// The first unlit column of a row of the map, the width where all are lit, 0 where the row is not wholly inside.
+// The first unlit column of a row of the map, the width where all below it are lit; at most 256, as a column past the four words is not lit. 0 where the row is not wholly inside.
 pub fn first_unlit(lit: &[u64], width: u16, row: usize) -> u32
     ensures { λ r. ⌜ r ≡ firstUnlit (now (lit .entry)) width row ⌝ }
 {
-    if lit.len() / 4 <= row {
+    let rows = lit.len() / 4;
+    if rows <= row {
         return 0;
     }
     let at = 4 * row;

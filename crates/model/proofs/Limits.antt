@@ -1,5 +1,5 @@
 -- Every limit that stands in the definitions as a number, tried by computing: the numbers at the limit pass, the next ones do not.
-use mathlib.Core.Bool.{Bool, true, not, cond, _&&_}
+use mathlib.Core.Bool.{Bool, true, not, cond, _&&_, false}
 use mathlib.Core.List.{List, [], _∷_, _++_}
 use mathlib.Core.Option.{some}
 use Prim.Native.Nat.{ℕ, suc, _+_, _%_}
@@ -12,6 +12,7 @@ use Rattle.model.specs.Vector.{Vec, Plane, vec, origin, isZero}
 use Rattle.model.specs.Patch.{Patch, cornersCounted}
 use Rattle.model.specs.Format.{Scene, u16At, u32At, signed16}
 use Rattle.model.specs.Row.{segments, rowPairs, rowOf, usedPart}
+use Rattle.model.specs.Map.{mapRow, litCells, firstUnlit}
 use Rattle.model.specs.Picture.{counts}
 use Rattle.model.specs.View.{Axes, Camera, levelAxes}
 use Rattle.model.specs.Lent.{Lengths}
@@ -163,9 +164,9 @@ axesLimits =
 
 -- ---- question 15 of a whole number, and questions 10 to 12 of a call
 
--- a camera with a window of 4 by 3 cells, and lengths for it and a scene of five patches
-abbrev fourByThree : Camera
-fourByThree = record { axes = levelAxes; window = record { width = 4; height = 3; lens = 4 } }
+-- a camera with a window of 5 by 3 cells, and lengths for it and a scene of six patches
+abbrev fiveByThree : Camera
+fiveByThree = record { axes = levelAxes; window = record { width = 5; height = 3; lens = 4 } }
 
 abbrev lengths : ℕ → ℕ → ℕ → ℕ → ℕ → Lengths
 lengths p n b u m = record { picture = p; counts = n; patchCounts = b; unlit = u; lit = m }
@@ -177,13 +178,13 @@ callLimits =
     ∷ limit (λ n. viewInRange (callView (fittingCall [] origin n 4 4))) (1 ∷ 256 ∷ []) (0 ∷ 257 ∷ [])
     ∷ limit (λ n. viewInRange (callView (fittingCall [] origin 4 n 4))) (1 ∷ 128 ∷ []) (0 ∷ 129 ∷ [])
     ∷ limit (λ n. viewInRange (callView (fittingCall [] origin 4 4 n))) (1 ∷ 4096 ∷ []) (0 ∷ 4097 ∷ [])
-    ∷ limit (λ n. lengthsFit fourByThree 5 (lengths n 1025 5 768 12)) (12 ∷ []) (11 ∷ 13 ∷ [])
-    ∷ limit (λ n. lengthsFit fourByThree 5 (lengths 12 n 5 768 12)) (1025 ∷ []) (1024 ∷ 1026 ∷ [])
-    ∷ limit (λ n. lengthsFit fourByThree 5 (lengths 12 1025 n 768 12)) (5 ∷ []) (4 ∷ 6 ∷ [])
+    ∷ limit (λ n. lengthsFit fiveByThree 6 (lengths n 1025 6 768 12)) (15 ∷ []) (14 ∷ 16 ∷ [])
+    ∷ limit (λ n. lengthsFit fiveByThree 6 (lengths 15 n 6 768 12)) (1025 ∷ []) (1024 ∷ 1026 ∷ [])
+    ∷ limit (λ n. lengthsFit fiveByThree 6 (lengths 15 1025 n 768 12)) (6 ∷ []) (5 ∷ 7 ∷ [])
     -- a scene without patches has a table without entries
-    ∷ limit (λ n. lengthsFit fourByThree 0 (lengths 12 1025 n 768 12)) (0 ∷ []) (1 ∷ [])
-    ∷ limit (λ n. lengthsFit fourByThree 5 (lengths 12 1025 5 n 12)) (768 ∷ []) (767 ∷ 769 ∷ [])
-    ∷ limit (λ n. lengthsFit fourByThree 5 (lengths 12 1025 5 768 n)) (12 ∷ []) (11 ∷ 13 ∷ [])
+    ∷ limit (λ n. lengthsFit fiveByThree 0 (lengths 15 1025 n 768 12)) (0 ∷ []) (1 ∷ [])
+    ∷ limit (λ n. lengthsFit fiveByThree 6 (lengths 15 1025 6 n 12)) (768 ∷ []) (767 ∷ 769 ∷ [])
+    ∷ limit (λ n. lengthsFit fiveByThree 6 (lengths 15 1025 6 768 n)) (12 ∷ []) (11 ∷ 13 ∷ [])
     ∷ limit counterBelowEnd (0 ∷ 4294967294 ∷ []) (4294967295 ∷ [])
     ∷ []
 
@@ -203,6 +204,13 @@ formLimits =
     ∷ limit (λ n. eqb (length (rowOf 4 (λ i. true))) n) (256 ∷ []) (255 ∷ 257 ∷ [])
     ∷ limit (λ n. eqb (length (usedPart (replicate n 1) 0)) 256) (256 ∷ 257 ∷ []) (255 ∷ [])
     ∷ limit (λ n. eqb (length (usedPart (replicate n 1) 1)) 256) (512 ∷ 513 ∷ []) (511 ∷ [])
+    -- a row's words: all of 256 columns lit, and one beyond a word's end; row 1 of the map has the words from 4 on
+    ∷ limit (λ n. eqb (litCells (mapRow n (λ i. false)) 0) n) (64 ∷ 65 ∷ 256 ∷ []) (257 ∷ [])
+    ∷ limit (λ n. eqb (getD (mapRow n (λ i. false)) 1 0) 1) (65 ∷ []) (64 ∷ 66 ∷ [])
+    ∷ limit (λ n. eqb (litCells (replicate n 1) 0) 4) (4 ∷ 5 ∷ []) (3 ∷ [])
+    ∷ limit (λ n. eqb (litCells (replicate n 1) 1) 4) (8 ∷ 9 ∷ []) (7 ∷ [])
+    ∷ limit (λ n. eqb (firstUnlit (replicate n 1) 256 1) 1) (8 ∷ 9 ∷ []) (7 ∷ [])
+    ∷ limit (λ n. eqb (firstUnlit (replicate 4 18446744073709551615) n 0) n) (0 ∷ 255 ∷ 256 ∷ []) (257 ∷ 300 ∷ [])
     -- a count for "nothing" and one for each panel up to 1,024
     ∷ limit (λ n. eqb (length (counts [])) n) (1025 ∷ []) (1024 ∷ 1026 ∷ [])
     ∷ limit (λ n. eqb (getD (counts (n ∷ [])) n 0) 1) (0 ∷ 1024 ∷ []) (1025 ∷ [])

@@ -13,9 +13,10 @@ use Rattle.model.specs.Patch.{numbered}
 use Rattle.model.specs.View.{Axes, levelAxes}
 use Rattle.model.specs.Station.{metres}
 use Rattle.model.specs.Row.{usedPart}
+use Rattle.model.specs.Map.{wordsOf, litCells, firstUnlit}
 use Rattle.model.specs.Call.{Call}
 use Rattle.model.specs.Questions.{surveyAnswer}
-use Rattle.model.specs.Survey.{callPatches, callPicture, callCounts, callPatchCells, callUnlit}
+use Rattle.model.specs.Survey.{callPatches, callPicture, callCounts, callPatchCells, callUnlit, callLit}
 use Rattle.model.proofs.Computing.{everything}
 use Rattle.model.proofs.Scenes.{sceneS, sceneT, sceneTless5, sceneTless7, scene3and5, sceneQuarters, sceneWall, sceneTwice, scenePieces, sceneNear, sceneWedge, sceneStrip, sceneWalls, noNodes, sOfHalfWidth, stationCall, turnedCall, fittingCall, usual}
 
@@ -98,6 +99,28 @@ inMetres =
     (0 ∷ 0 ∷ 0 ∷ 0 ∷ 5 ∷ 5 ∷ 0 ∷ 0 ∷ 5 ∷ 5 ∷ 0 ∷ 0 ∷ 0 ∷ 0 ∷ 0 ∷ 0 ∷ [])
     ∷ fromMetres (pos 50) (double 0) (double 0x3fe0_0000_0000_0000) (double 0) blank
     ∷ []
+
+-- ---- the lit map (document 02, F-8)
+
+-- what is seen of a call's map: its answer, the four words of some rows, and of each the lit cells and the first unlit column
+pub record Mapped : Type 0 where
+  pub result : ℕ
+  pub words : List (List ℕ)
+  pub counted : List ℕ
+  pub firsts : List ℕ
+
+unfoldable pub mapOf : Call → List ℕ → Mapped
+mapOf c js =
+    record {
+      result = surveyAnswer c;
+      words = map (wordsOf (callLit c)) js;
+      counted = map (litCells (callLit c)) js;
+      firsts = map (firstUnlit (callLit c) (c .camera .window .width)) js;
+    }
+
+-- 64 columns that are all lit
+abbrev fullWord : ℕ
+fullWord = 18446744073709551615
 
 -- ---- cameras that look any way
 
@@ -191,6 +214,21 @@ booked c panels =
 pub starred-stations : map seen stations ≡ map (λ (s : Tried). s .said) stations
 unfolding everything seen
 starred-stations = refl
+
+-- S in 4 by 4 cells; in one row of 65, which is lit over a word's end; and seen from the right in one row of 130, of which the left half is lit: words and their bits stand from the left.
+pub map-of-S : mapOf (usual sceneS) (0 ∷ 1 ∷ []) ≡ record { result = 0; words = (0 ∷ 0 ∷ 0 ∷ 0 ∷ []) ∷ (6 ∷ 0 ∷ 0 ∷ 0 ∷ []) ∷ []; counted = 0 ∷ 2 ∷ []; firsts = 0 ∷ 0 ∷ [] }
+unfolding everything mapOf
+map-of-S = refl
+
+pub map-of-a-full-row :
+    mapOf (fittingCall sceneS origin 65 1 4096) (0 ∷ []) ≡ record { result = 0; words = (fullWord ∷ 1 ∷ 0 ∷ 0 ∷ []) ∷ []; counted = 65 ∷ []; firsts = 65 ∷ [] }
+unfolding everything mapOf
+map-of-a-full-row = refl
+
+pub map-from-the-right :
+    mapOf (fittingCall sceneS (vec (pos 50) (pos 0) (pos 0)) 130 1 130) (0 ∷ []) ≡ record { result = 0; words = (fullWord ∷ 1 ∷ 0 ∷ 0 ∷ []) ∷ []; counted = 65 ∷ []; firsts = 65 ∷ [] }
+unfolding everything mapOf
+map-from-the-right = refl
 
 pub rows-from-the-top : seen quarters ≡ quarters .said
 unfolding everything seen

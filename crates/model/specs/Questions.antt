@@ -212,7 +212,7 @@ axesProper a =
     && ltZ (pos 0) (dot (a .right) (cross (a .forward) (a .up)))
 
 -- 11. "Has the picture (u16) width × height cells, the counts (u32) 1,025, the unlit lists (u16) height × 256?" Document 02, F-2: "A further lent table (u32, one
--- entry a patch)"; "Question 11 covers the new table's length." F-8: "Question 11 covers the map's length." `patches` is the scene's patch count; the scene has passed 1 to 9 by then.
+-- entry a patch)"; "Question 11 covers the new table's length." F-8: "four u64 words a row"; "Question 11 covers the map's length." `patches` is the scene's patch count; the scene has passed 1 to 9 by then.
 unfoldable pub lengthsFit : Camera → ℕ → Lengths → Bool
 lengthsFit c patches l =
     eqb (l .picture) (c .window .width * c .window .height)

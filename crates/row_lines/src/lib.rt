@@ -10,7 +10,7 @@ ghost use mathlib.Core.Bool.{cond};
 ghost use mathlib.Core.List.{[], _∷_};
 ghost use Prim.Native.Nat.{_+_, _*_, _≤_, _<_};
 ghost use lib.ListN.{length};
-ghost use Rattle.rows.specs.Span.{Row, Words};
+ghost use Rattle.rows.specs.Span.{UnderWork};
 
 // Each number after a space, which is at most eleven bytes.
 fn put_numbers(out: &mut [u8], at: usize, numbers: &[u16]) -> usize
@@ -138,10 +138,8 @@ pub fn lay_and_write(
     panel: u16,
     message: &[u8],
 )
-    requires { ⌜ Row (length (now cells)) (now row) ⌝ }
-    requires { ⌜ Words (length (now cells)) (now words) ⌝ }
-    ensures { λ r. ⌜ Row (length (now (cells .exit))) (now (row .exit)) ⌝ }
-    ensures { λ r. ⌜ Words (length (now (cells .exit))) (now (words .exit)) ⌝ }
+    requires { ⌜ UnderWork (length (now cells)) (now row) (now words) ⌝ }
+    ensures { λ r. ⌜ UnderWork (length (now (cells .exit))) (now (row .exit)) (now (words .exit)) ⌝ }
 {
     let laid = rows::lay(row, words, cells, first, last, panel);
     write_row(number, &report(laid), row, words, cells, message);

@@ -7,37 +7,30 @@ use native.Mathlib.Omega.{arith}
 use lib.ListN.{length}
 use Rattle.model.specs.Row.{rowOf, afterSpan}
 use Rattle.model.specs.Map.{mapRow}
-use Rattle.rows.specs.Span.{Row, Words, Lays, Reports}
+use Rattle.rows.specs.Span.{UnderWork, Lays, Reports}
 use Rattle.segments.specs.Looks.{Columns, fresh, afterSpans, mostLooks}
 use Rattle.segments.proofs.Mapped.{fresh-map}
 use Rattle.segments.proofs.Painting.{painted-length}
 use Rattle.segments.proofs.Looking.{looks-bounded, after-next}
 
--- a fresh row is a row, a row on which a span was laid is one, and a row has 256 numbers
-pub row-fresh : {width n : ℕ} {row : List ℕ} → width ≡ n → n ≤ 256 → row ≡ rowOf n (λ (i : ℕ). true) → Row width row
-row-fresh w fits e = record { fits = omega arith; unlit = λ (i : ℕ). true; row-is = rw w e }
+-- a fresh row and four zeros are under work, and so are a row and its words on which a span was laid
+pub work-fresh : {width n : ℕ} {row : List ℕ} → width ≡ n → n ≤ 256 → row ≡ rowOf n (λ (i : ℕ). true) → UnderWork width row (0 ∷ 0 ∷ 0 ∷ 0 ∷ [])
+work-fresh {width} w fits e = record { fits = omega arith; unlit = λ (i : ℕ). true; row-is = rw w e; words-are = fresh-map width }
 
-pub row-laid :
-    {first last panel : ℕ} {row cells row′ cells′ : List ℕ} → Row (length cells) row →
+pub work-laid :
+    {first last panel : ℕ} {row words cells row′ words′ cells′ : List ℕ} → UnderWork (length cells) row words →
     ((unlit : ℕ → Bool) → row ≡ rowOf (length cells) unlit → Lays unlit first last panel cells row′ cells′) →
-    Row (length cells′) row′
-row-laid {first} {last} {panel} {row} {cells} {row′} {cells′} r lays =
-    let l = lays (r .unlit) (r .row-is) in
+    ((unlit : ℕ → Bool) → row ≡ rowOf (length cells) unlit → words′ ≡ mapRow (length cells) (afterSpan unlit first last)) →
+    UnderWork (length cells′) row′ words′
+work-laid {first} {last} {panel} {cells = cells} {row′} {words′} {cells′} w lays lights =
+    let l = lays (w .unlit) (w .row-is) in
     let e : length cells ≡ length cells′ = sym (ap length (l .cells-are) ∙ painted-length _ panel cells) in
-    record { fits = rw e at (r .fits); unlit = afterSpan (r .unlit) first last; row-is = l .row-is ∙ rw e }
-
--- and so with the words: those of a fresh row are four zeros
-pub words-fresh : {width : ℕ} → Words width (0 ∷ 0 ∷ 0 ∷ 0 ∷ [])
-words-fresh {width} = record { unlit = λ (i : ℕ). true; words-are = fresh-map width }
-
-pub words-laid :
-    {first last panel : ℕ} {row words cells row′ words′ cells′ : List ℕ} → Row (length cells) row → Words (length cells) words →
-    ((unlit : ℕ → Bool) → row ≡ rowOf (length cells) unlit → Lays unlit first last panel cells row′ cells′) →
-    ((unlit : ℕ → Bool) → words ≡ mapRow (length cells) unlit → words′ ≡ mapRow (length cells) (afterSpan unlit first last)) →
-    Words (length cells′) words′
-words-laid {first} {last} {panel} {row} {words} {cells} {row′} {words′} {cells′} r w lays lights =
-    let e : length cells ≡ length cells′ = sym (ap length (lays (r .unlit) (r .row-is) .cells-are) ∙ painted-length _ panel cells) in
-    record { unlit = afterSpan (w .unlit) first last; words-are = lights (w .unlit) (w .words-are) ∙ rw e }
+    record {
+      fits = rw e at (w .fits);
+      unlit = afterSpan (w .unlit) first last;
+      row-is = l .row-is ∙ rw e;
+      words-are = lights (w .unlit) (w .row-is) ∙ rw e;
+    }
 
 -- ---- spans laid one after the other on a fresh row: `before` are those laid so far
 

@@ -16,9 +16,11 @@ pub record Row (width : ℕ) (row : List ℕ) : Type 0 where
   pub unlit : ℕ → Bool
   pub row-is : row ≡ rowOf width unlit
 
--- the words are those of the lit map of such a row
-pub record Words (width : ℕ) (words : List ℕ) : Type 0 where
+-- the row and its words of the lit map are those of one set of unlit columns
+pub record UnderWork (width : ℕ) (row words : List ℕ) : Type 0 where
+  pub fits : width ≤ 256
   pub unlit : ℕ → Bool
+  pub row-is : row ≡ rowOf width unlit
   pub words-are : words ≡ mapRow width unlit
 
 -- what laying a span leaves, where the row at entry is that of the set `unlit`: the row without the span's columns, and

@@ -5,14 +5,13 @@ use row_lines::lay_and_write;
 ghost use mathlib.Core.Path.{_≡_};
 ghost use mathlib.Core.List.{[], _∷_};
 ghost use lib.ListN.{length};
-ghost use Rattle.rows.specs.Span.{Row, Words};
+ghost use Rattle.rows.specs.Span.{UnderWork};
 
 // The row with its two segments, and its words, which are lent as a fresh row has them.
 fn two_segments(words: &mut [u64; 4], cells: &mut [u16]) -> [u16; 256]
     requires { ⌜ length (now cells) ≡ 16 ⌝ }
     requires { ⌜ now words ≡ 0 ∷ 0 ∷ 0 ∷ 0 ∷ [] ⌝ }
-    ensures { λ r. ⌜ Row (length (now (cells .exit))) r ⌝ }
-    ensures { λ r. ⌜ Words (length (now (cells .exit))) (now (words .exit)) ⌝ }
+    ensures { λ r. ⌜ UnderWork (length (now (cells .exit))) r (now (words .exit)) ⌝ }
 {
     let mut row = rows::fresh(16);
     rows::lay(&mut row, words, cells, 0, 3, 1);
@@ -29,10 +28,8 @@ fn lay_over(
     first: u16,
     last: u16,
 )
-    requires { ⌜ Row (length (now cells)) (now row) ⌝ }
-    requires { ⌜ Words (length (now cells)) (now words) ⌝ }
-    ensures { λ r. ⌜ Row (length (now (cells .exit))) (now (row .exit)) ⌝ }
-    ensures { λ r. ⌜ Words (length (now (cells .exit))) (now (words .exit)) ⌝ }
+    requires { ⌜ UnderWork (length (now cells)) (now row) (now words) ⌝ }
+    ensures { λ r. ⌜ UnderWork (length (now (cells .exit))) (now (row .exit)) (now (words .exit)) ⌝ }
 {
     lay_and_write(
         number,

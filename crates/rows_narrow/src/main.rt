@@ -3,7 +3,7 @@
 // one, and over the other 124 by one span. Writes after each step its number, the row's used pairs, its words of the lit map and its cells.
 use row_lines::write_row;
 ghost use lib.ListN.{length};
-ghost use Rattle.rows.specs.Span.{Row, Words};
+ghost use Rattle.rows.specs.Span.{UnderWork};
 
 // Spans of one column, on every fourth column from the first of them on.
 fn lay_every_fourth(
@@ -13,10 +13,8 @@ fn lay_every_fourth(
     first: u16,
     panel: u16,
 )
-    requires { ⌜ Row (length (now cells)) (now row) ⌝ }
-    requires { ⌜ Words (length (now cells)) (now words) ⌝ }
-    ensures { λ r. ⌜ Row (length (now (cells .exit))) (now (row .exit)) ⌝ }
-    ensures { λ r. ⌜ Words (length (now (cells .exit))) (now (words .exit)) ⌝ }
+    requires { ⌜ UnderWork (length (now cells)) (now row) (now words) ⌝ }
+    ensures { λ r. ⌜ UnderWork (length (now (cells .exit))) (now (row .exit)) (now (words .exit)) ⌝ }
 {
     let mut column = first;
     while column < 256 {
@@ -27,7 +25,7 @@ fn lay_every_fourth(
 
 // The row after several spans: nothing is reported of it.
 fn show(step: u32, row: &[u16; 256], words: &[u64; 4], cells: &[u16])
-    requires { ⌜ Row (length (now cells)) (now row) ⌝ }
+    requires { ⌜ UnderWork (length (now cells)) (now row) (now words) ⌝ }
 {
     write_row(
         step,
@@ -48,10 +46,8 @@ fn lay_over(
     first: u16,
     last: u16,
 )
-    requires { ⌜ Row (length (now cells)) (now row) ⌝ }
-    requires { ⌜ Words (length (now cells)) (now words) ⌝ }
-    ensures { λ r. ⌜ Row (length (now (cells .exit))) (now (row .exit)) ⌝ }
-    ensures { λ r. ⌜ Words (length (now (cells .exit))) (now (words .exit)) ⌝ }
+    requires { ⌜ UnderWork (length (now cells)) (now row) (now words) ⌝ }
+    ensures { λ r. ⌜ UnderWork (length (now (cells .exit))) (now (row .exit)) (now (words .exit)) ⌝ }
 {
     rows::lay(row, words, cells, first, last, 3);
     show(step, row, words, cells);

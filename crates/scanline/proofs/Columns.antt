@@ -84,7 +84,7 @@ pub span-laid :
     s .first < s .end →
     ((unlit : ℕ → Bool) → row ≡ rowOf (length cells) unlit → Lays unlit (s .first) (s .end - 1) panel cells row′ cells′) →
     ((unlit : ℕ → Bool) → row ≡ rowOf (length cells) unlit → Reports unlit (s .first) (s .end - 1) (length cells) (r .full) (r .lit) (r .looked)) →
-    ((unlit : ℕ → Bool) → words ≡ mapRow (length cells) unlit → words′ ≡ mapRow (length cells) (afterSpan unlit (s .first) (s .end - 1))) →
+    ((unlit : ℕ → Bool) → row ≡ rowOf (length cells) unlit → words′ ≡ mapRow (length cells) (afterSpan unlit (s .first) (s .end - 1))) →
     ColumnsLaid (covers s) panel row words cells row′ words′ cells′ (record { full = r .full; lit = r .lit })
 span-laid {s} {panel} {row} {words} {cells} {row′} {words′} {cells′} {r} h lays reports lights =
     columns-congr {columns = inSpan (s .first) (s .end - 1)} (λ unlit e i l u. up-to-end s i h)
@@ -92,7 +92,7 @@ span-laid {s} {panel} {row} {words} {cells} {row′} {words′} {cells′} {r} h
       laid = λ unlit e f.
           record {
             row-is = lays unlit e .row-is;
-            words-are = lights unlit f;
+            words-are = lights unlit e;
             cells-are = lays unlit e .cells-are;
             full-says = λ t. each-lit (length cells) (afterSpan unlit (s .first) (s .end - 1)) (sym (reports unlit e .full-is) ∙ t);
             lit-is = reports unlit e .lit-is;

@@ -13,13 +13,14 @@ use Rattle.model.specs.Ray.{met}
 use Rattle.model.specs.Row.{rowOf}
 use Rattle.model.specs.Map.{mapRow}
 use Rattle.model.proofs.Tables.{length-table, table-at, same-table}
+use Rattle.rows.specs.Span.{UnderWork}
 use Rattle.scanline.specs.declared.Lighting.{Lighting}
 use Rattle.model.proofs.LitMap.{map-congr}
 use Rattle.segments.proofs.Rows.{row-congr}
 use Rattle.segments.proofs.Mapped.{fresh-map}
 use Rattle.segments.proofs.Painting.{painted-length, painted-at}
 use Rattle.scanline.specs.Shown.{shownAfter, unlitAfter, RowPainted, newlyLit}
-use Rattle.scanline.specs.Laying.{UnderWork, ColumnsPainted, PatchLaid}
+use Rattle.scanline.specs.Laying.{ColumnsPainted, PatchLaid}
 use Rattle.scanline.proofs.Clearing.{zero-table}
 use Rattle.scanline.proofs.FirstShown.{unlit-first, shown-first, unlit-next, shown-next, unlit-stays, shown-stays}
 

@@ -16,6 +16,7 @@ use Rattle.format.specs.declared.layout.Layout.{Layout}
 use Rattle.format.specs.Layout.{patchNumber}
 use Rattle.checked.specs.Checked.{Checked}
 use Rattle.segments.specs.Columns.{painted}
+use Rattle.rows.specs.Span.{UnderWork}
 use Rattle.scanline.specs.declared.Lighting.{Lighting}
 use Rattle.spans.specs.declared.Span.{Span}
 use Rattle.spans.specs.Span.{covers}
@@ -31,13 +32,6 @@ pub record PatchDrawable (bytes : List ℕ) (l : Layout) (s : Sight) (table : Li
 pub record Drawable (bytes : List ℕ) (l : Layout) (s : Sight) (table : List ℤ) (order : List ℕ) : Type 0 where
   pub checked : Checked bytes l
   pub each : (k : ℕ) → k < length order → PatchDrawable bytes l s table (getD order k 0)
-
--- a row under work and its words of the lit map, both of one set of unlit columns
-pub record UnderWork (width : ℕ) (row words : List ℕ) : Type 0 where
-  pub fits : width ≤ 256
-  pub unlit : ℕ → Bool
-  pub row-is : row ≡ rowOf width unlit
-  pub words-are : words ≡ mapRow width unlit
 
 -- what laying patch k in row j asks
 pub record PatchAsked

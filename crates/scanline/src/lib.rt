@@ -11,9 +11,9 @@ ghost use Rattle.model.specs.Format.{decode, patchNumbered};
 ghost use Rattle.geometry.specs.Machine.{vecOf};
 ghost use Rattle.geometry.specs.Raster.{lineAt};
 ghost use Rattle.spans.specs.Span.{covers};
-ghost use Rattle.rows.specs.Span.{Row};
+ghost use Rattle.rows.specs.Span.{Row, UnderWork};
 ghost use Rattle.scanline.specs.Shown.{RowPainted, RowLit};
-ghost use Rattle.scanline.specs.Laying.{UnderWork, PatchAsked, RowAsked, walkOf, UnlitHull, ColumnsLaid, PatchLaid};
+ghost use Rattle.scanline.specs.Laying.{PatchAsked, RowAsked, walkOf, UnlitHull, ColumnsLaid, PatchLaid};
 
 // What laying a patch says of the row.
 struct Lighting {
@@ -135,8 +135,16 @@ pub fn paint_row(
         lits[k] = laid.lit;
         k += 1;
         if laid.full {
-            return Painted { row, words, laid: k };
+            return Painted {
+                row,
+                words,
+                laid: k,
+            };
         }
     }
-    Painted { row, words, laid: k }
+    Painted {
+        row,
+        words,
+        laid: k,
+    }
 }

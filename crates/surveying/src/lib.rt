@@ -94,7 +94,15 @@ pub fn survey_from(
         return verdict;
     }
     let located = locate(station);
-    paint(scene, located.eye, camera, picture, unlit, lit, patch_counts);
+    paint(
+        scene,
+        located.eye,
+        camera,
+        picture,
+        unlit,
+        lit,
+        patch_counts,
+    );
     count_cells(picture, counts);
     *counter = before + 1;
     0

@@ -3,7 +3,7 @@ use mathlib.Core.Path.{ap}
 use native.Mathlib.Omega.{arith}
 use borrow.Author.Needs.{needs}
 use lib.ListN.{length}
-use Rattle.rows.proofs.Laws.{row-laid, words-laid}
+use Rattle.rows.proofs.Laws.{work-laid}
 use Rattle.row_lines.proofs.lay_and_write.Statement.{statement}
 use Rattle.row_lines.proofs.lay_and_write.Tie as tie
 
@@ -12,14 +12,13 @@ write-row-requires c κs =
     let r = c .before .before .before .before in
     let l = r .before .before .before in (
       omega (arith, ap length (r .report .ensures)),
-      row-laid (l .before .before .before .before .before .before .pre .0) (l .lay .ensures .0) .fits,
+      work-laid (l .before .before .before .before .before .before .pre) (l .lay .ensures .0) (l .lay .ensures .1 .1 .0) .fits,
     )
 
 returns : tie.Need-returns
 returns c =
     let l = c .before .before .before .before .before .before .before .before in
-    let p = l .before .before .before .before .before .before .pre in
-    (row-laid (p .0) (l .lay .ensures .0), words-laid (p .0) (p .1) (l .lay .ensures .0) (l .lay .ensures .1 .1 .0))
+    work-laid (l .before .before .before .before .before .before .pre) (l .lay .ensures .0) (l .lay .ensures .1 .1 .0)
 
 pub lay-and-write-spec : {M : Type 1} → statement M
 lay-and-write-spec =

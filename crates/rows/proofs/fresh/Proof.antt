@@ -1,6 +1,7 @@
--- `fresh` meets its contract, by the law of the row of all columns.
+-- `fresh` meets its contract, by the laws of the row of all columns and of its words.
 use borrow.Author.Needs.{needs}
 use Rattle.segments.proofs.Full.{fresh-row}
+use Rattle.rows.proofs.Same.{same-fresh}
 use Rattle.rows.proofs.fresh.Statement.{statement}
 use Rattle.rows.proofs.fresh.Tie as tie
 
@@ -8,7 +9,7 @@ array-write-row : tie.Need-array-write-row
 array-write-row c = search needs
 
 returns : tie.Need-returns
-returns c = fresh-row (c .args .width)
+returns c = let e = fresh-row (c .args .width) in (e, λ h. same-fresh h e)
 
 pub fresh-spec : {M : Type 1} → statement M
 fresh-spec = tie.close (tie.spec array-write-row returns)

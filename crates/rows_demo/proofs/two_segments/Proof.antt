@@ -1,7 +1,7 @@
 -- `two_segments` is safe: a fresh row is a row, and it and its words stay such as spans are laid.
 use native.Mathlib.Omega.{arith}
 use borrow.Author.Needs.{needs}
-use Rattle.rows.proofs.Laws.{row-fresh, row-laid, words-fresh, words-laid}
+use Rattle.rows.proofs.Laws.{work-fresh, work-laid}
 use Rattle.rows_demo.proofs.two_segments.Statement.{statement}
 use Rattle.rows_demo.proofs.two_segments.Tie as tie
 
@@ -9,19 +9,19 @@ lay-requires : tie.Need-lay-requires
 lay-requires c κs =
     let f = c .before .before .before in
     let p = f .before .before .pre in
-    (row-fresh (p .0) (omega arith) (f .fresh .ensures), rw (p .1) words-fresh)
+    rw (p .1) (work-fresh (p .0) (omega arith) (f .fresh .ensures .0))
 
 lay-requires-2 : tie.Need-lay-requires-2
 lay-requires-2 c κs =
     let l = c .before .before .before .before .before in
     let p = lay-requires (l .before) κs in
-    (row-laid (p .0) (l .lay .ensures .0), words-laid (p .0) (p .1) (l .lay .ensures .0) (l .lay .ensures .1 .1 .0))
+    work-laid p (l .lay .ensures .0) (l .lay .ensures .1 .1 .0)
 
 returns : tie.Need-returns
 returns c =
     let l = c .before .before in
     let p = lay-requires-2 (l .before) (l .lay2 .lifetimes) in
-    (row-laid (p .0) (l .lay2 .ensures .0), words-laid (p .0) (p .1) (l .lay2 .ensures .0) (l .lay2 .ensures .1 .1 .0))
+    work-laid p (l .lay2 .ensures .0) (l .lay2 .ensures .1 .1 .0)
 
 pub two-segments-spec : {M : Type 1} → statement M
 two-segments-spec =

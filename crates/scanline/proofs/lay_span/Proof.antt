@@ -17,9 +17,7 @@ cast-lay-2 : tie.Need-cast-lay-2
 cast-lay-2 c = search needs
 
 lay-requires : tie.Need-lay-requires
-lay-requires c κs =
-    let w = c .before .before .before .before .before .pre .1 in
-    (record { fits = w .fits; unlit = w .unlit; row-is = w .row-is }, record { unlit = w .unlit; words-are = w .words-are })
+lay-requires c κs = c .before .before .before .before .before .pre .1
 
 same-length : tie.Need-same-length
 same-length c = search needs

@@ -51,7 +51,7 @@ fresh-requires : tie.Need-fresh-requires Inv-loop μ-loop
 fresh-requires c κs = search needs
 
 loop-holds : tie.Need-loop-holds Inv-loop μ-loop
-loop-holds c = count-starts (walk-starts (c .before .before .before .clear .kept .0) (c .before .before .before .clear .ensures) (c .fresh .ensures))
+loop-holds c = count-starts (walk-starts (c .before .before .before .clear .kept .0) (c .before .before .before .clear .ensures) (c .fresh .ensures .0))
 
 mul-n : tie.Need-mul-n Inv-loop μ-loop
 mul-n c = omega arith

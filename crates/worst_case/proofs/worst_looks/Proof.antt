@@ -1,17 +1,14 @@
--- `worst_looks` meets its contract: before each turn the row is that of the spans laid so far, its words are such, and the sum is theirs.
+-- `worst_looks` meets its contract: before each turn row and words are those of the spans laid so far, and the sum is theirs.
 use mathlib.Core.Path.{refl}
 use Prim.Native.Nat.{_-_}
 use native.Mathlib.Omega.{arith}
 use borrow.Author.Needs.{needs}
-use lib.ListN.{length}
-use Rattle.rows.specs.Span.{Words}
-use Rattle.rows.proofs.Laws.{words-fresh, words-laid}
-use Rattle.worst_case.proofs.Laying.{Laying, starts, is-row, looks-few, ends, goes-on}
+use Rattle.worst_case.proofs.Laying.{Laying, starts, under-work, looks-few, ends, goes-on}
 use Rattle.worst_case.proofs.worst_looks.Statement.{statement}
 use Rattle.worst_case.proofs.worst_looks.Tie as tie
 
 abbrev Inv-loop : tie.InvT-loop
-Inv-loop n cells₀ row₀ words₀ looked₀ k₀ cells row words looked k = Laying n row cells looked k × Words (length cells) words
+Inv-loop n cells₀ row₀ words₀ looked₀ k₀ cells row words looked k = Laying n row words cells looked k
 
 abbrev μ-loop : tie.MeasureT-loop
 μ-loop n cells₀ row₀ words₀ looked₀ k₀ cells row words looked k = n - k
@@ -20,7 +17,7 @@ fresh-requires : tie.Need-fresh-requires Inv-loop μ-loop
 fresh-requires c κs = search needs
 
 loop-holds : tie.Need-loop-holds Inv-loop μ-loop
-loop-holds c = (starts _ refl (c .fresh .ensures), words-fresh)
+loop-holds c = starts _ refl (c .fresh .ensures .0)
 
 add-k : tie.Need-add-k Inv-loop μ-loop
 add-k c = record { fits = omega (arith, c .before .before .before .fits .n .fits) }
@@ -32,7 +29,7 @@ slice-aggregate-lay : tie.Need-slice-aggregate-lay Inv-loop μ-loop
 slice-aggregate-lay c = search needs
 
 lay-requires : tie.Need-lay-requires Inv-loop μ-loop
-lay-requires c κs = let i = c .before .before .before .before .before .loop .inv in (is-row (i .0), i .1)
+lay-requires c κs = under-work (c .before .before .before .before .before .loop .inv)
 
 -- from after the laying back to the loop's test
 abbrev within : tie.After-struct-known Inv-loop μ-loop → tie.In-loop Inv-loop μ-loop
@@ -45,7 +42,7 @@ add-looked : tie.Need-add-looked Inv-loop μ-loop
 add-looked c =
     let i = within c in
     record {
-      fits = omega (arith, looks-few (i .before .loop .inv .0), c .struct-known .given .1 .1 .0 .fits, i .before .before .before .fits .n .fits);
+      fits = omega (arith, looks-few (i .before .loop .inv), c .struct-known .given .1 .1 .0 .fits, i .before .before .before .fits .n .fits);
     }
 
 loop-less : tie.Need-loop-less Inv-loop μ-loop
@@ -55,13 +52,10 @@ loop-again : tie.Need-loop-again Inv-loop μ-loop
 loop-again c =
     let l = c .before .before in
     let d = c .before .before .before .before .before .before in
-    let i = within c .before .loop .inv in (
-      goes-on (i .0) (d .worst-span .ensures .0) (d .worst-span .ensures .1) (l .lay .ensures .0) (l .lay .ensures .1 .0) (within c .loop-test .taken),
-      words-laid (is-row (i .0)) (i .1) (l .lay .ensures .0) (l .lay .ensures .1 .1 .0),
-    )
+    goes-on (within c .before .loop .inv) (d .worst-span .ensures .0) (d .worst-span .ensures .1) (l .lay .ensures .0) (l .lay .ensures .1 .0) (l .lay .ensures .1 .1 .0) (within c .loop-test .taken)
 
 returns : tie.Need-returns Inv-loop μ-loop
-returns c = ends (c .before .loop .inv .0) (c .loop-test .left)
+returns c = ends (c .before .loop .inv) (c .loop-test .left)
 
 pub worst-looks-spec : {M : Type 1} → statement M
 worst-looks-spec =
