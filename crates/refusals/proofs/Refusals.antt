@@ -116,17 +116,17 @@ below s p n cs =
 -- ---- the call's own numbers
 
 -- S seen by a camera with these axes, with buffers of the given lengths and the given counter
-abbrev lentTurned : Axes → ℕ → ℕ → ℕ → ℕ → ℕ → ℕ → Call
-lentTurned a w p n b u k =
+abbrev lentTurned : Axes → ℕ → ℕ → ℕ → ℕ → ℕ → ℕ → ℕ → Call
+lentTurned a w p n b u m k =
     record {
       scene = sceneS;
       station = units origin;
       camera = record { axes = a; window = record { width = w; height = 4; lens = 4 } };
-      lengths = record { picture = p; counts = n; patchCounts = b; unlit = u };
+      lengths = record { picture = p; counts = n; patchCounts = b; unlit = u; lit = m };
       counter = k;
     }
 
-abbrev lent : ℕ → ℕ → ℕ → ℕ → ℕ → ℕ → Call
+abbrev lent : ℕ → ℕ → ℕ → ℕ → ℕ → ℕ → ℕ → Call
 lent = lentTurned levelAxes
 
 -- a level camera's axes with another right, and with another up
@@ -251,7 +251,7 @@ cases =
     ∷ onCall (from (inf false) zeroMetres zeroMetres (usual sceneS)) (15 ∷ [])
     ∷ onCall (from nan nan nan (usual (likeS planeS none 1 5 4 offPlane))) (9 ∷ 15 ∷ [])
     ∷ onCall (from zeroMetres zeroMetres nan (fittingCall sceneS origin 0 4 4)) (15 ∷ 10 ∷ [])
-    ∷ onCall (from nan zeroMetres zeroMetres (lentTurned (withRight (at (pos 101))) 4 15 1025 1 1024 4294967295)) (15 ∷ 14 ∷ 11 ∷ 12 ∷ [])
+    ∷ onCall (from nan zeroMetres zeroMetres (lentTurned (withRight (at (pos 101))) 4 15 1025 1 1024 16 4294967295)) (15 ∷ 14 ∷ 11 ∷ 12 ∷ [])
     -- the view; 10 before 11
     ∷ onCall (fittingCall sceneS origin 256 1 4) []
     ∷ onCall (fittingCall sceneS origin 257 1 4) (10 ∷ [])
@@ -263,7 +263,7 @@ cases =
     ∷ onCall (fittingCall sceneS origin 4 4 0) (10 ∷ [])
     ∷ onCall (fittingCall sceneS (at (negℤ (pos 10000))) 4 4 4) []
     ∷ onCall (fittingCall sceneS (at (negℤ (pos 10001))) 4 4 4) (10 ∷ [])
-    ∷ onCall (lent 0 1 1025 1 1024 0) (10 ∷ 11 ∷ [])
+    ∷ onCall (lent 0 1 1025 1 1024 16 0) (10 ∷ 11 ∷ [])
     -- the axes: a part at the limit and beyond, right turned round, up along forward, all of it zero; 9 and 10 before 14, 14 before 11 and 12
     ∷ onCall (turnedCall (withRight (at (pos 100))) sceneS origin 4 4 4) []
     ∷ onCall (turnedCall (withRight (at (pos 101))) sceneS origin 4 4 4) (14 ∷ [])
@@ -273,18 +273,22 @@ cases =
     ∷ onCall (turnedCall (record { right = origin; forward = origin; up = origin }) sceneS origin 4 4 4) (14 ∷ [])
     ∷ onCall (turnedCall (withRight origin) (likeS planeS none 1 5 4 offPlane) origin 4 4 4) (9 ∷ 14 ∷ [])
     ∷ onCall (turnedCall (withRight (at (pos 101))) sceneS origin 4 4 0) (10 ∷ 14 ∷ [])
-    ∷ onCall (lentTurned (withRight (at (pos 101))) 4 15 1025 1 1024 4294967295) (14 ∷ 11 ∷ 12 ∷ [])
+    ∷ onCall (lentTurned (withRight (at (pos 101))) 4 15 1025 1 1024 16 4294967295) (14 ∷ 11 ∷ 12 ∷ [])
     -- the buffers' lengths; 11 before 12
-    ∷ onCall (lent 4 16 1025 1 1024 0) []
-    ∷ onCall (lent 4 15 1025 1 1024 0) (11 ∷ [])
-    ∷ onCall (lent 4 16 1024 1 1024 0) (11 ∷ [])
-    ∷ onCall (lent 4 16 1025 0 1024 0) (11 ∷ [])
-    ∷ onCall (lent 4 16 1025 2 1024 0) (11 ∷ [])
-    ∷ onCall (lent 4 16 1025 1 1025 0) (11 ∷ [])
-    ∷ onCall (lent 4 17 1025 1 1024 4294967295) (11 ∷ 12 ∷ [])
+    ∷ onCall (lent 4 16 1025 1 1024 16 0) []
+    ∷ onCall (lent 4 15 1025 1 1024 16 0) (11 ∷ [])
+    ∷ onCall (lent 4 16 1024 1 1024 16 0) (11 ∷ [])
+    ∷ onCall (lent 4 16 1025 0 1024 16 0) (11 ∷ [])
+    ∷ onCall (lent 4 16 1025 2 1024 16 0) (11 ∷ [])
+    ∷ onCall (lent 4 16 1025 1 1025 16 0) (11 ∷ [])
+    ∷ onCall (lent 5 20 1025 1 1024 16 0) []
+    ∷ onCall (lent 5 20 1025 1 1024 20 0) (11 ∷ [])
+    ∷ onCall (lent 4 16 1025 1 1024 15 0) (11 ∷ [])
+    ∷ onCall (lent 4 16 1025 1 1024 17 0) (11 ∷ [])
+    ∷ onCall (lent 4 17 1025 1 1024 16 4294967295) (11 ∷ 12 ∷ [])
     -- the counter
-    ∷ onCall (lent 4 16 1025 1 1024 4294967294) []
-    ∷ onCall (lent 4 16 1025 1 1024 4294967295) (12 ∷ [])
+    ∷ onCall (lent 4 16 1025 1 1024 16 4294967294) []
+    ∷ onCall (lent 4 16 1025 1 1024 16 4294967295) (12 ∷ [])
     ∷ []
 
 -- The questions that say no to each case are the ones named, and the answer is the first of them, or 0.
