@@ -221,12 +221,13 @@ static void check_stations(void)
     }
 }
 
-/* Every width, with S from where it reaches beyond the last column, which is lit then. */
+/* Every width, with S from where it reaches beyond the last column, which is lit then. The division
+ * rounds toward zero, so two units are taken off. */
 static void check_widths(void)
 {
     char name[20];
     for (int width = 1; width <= 256; width++) {
-        struct call c = ON_S((128 - width) * 25 / 64 - 1, (uint16_t)width, 2, 256);
+        struct call c = ON_S((128 - width) * 25 / 64 - 2, (uint16_t)width, 2, 256);
         int done = survey(&c, IN_UNITS, ALL) == RING_DONE && is_around(8, ALL);
         snprintf(name, sizeof name, "S, %d wide", width);
         check(done && agrees(&c) && is_lit(map + 4, (size_t)width - 1), name);
@@ -273,7 +274,7 @@ static void check_refusals(void)
 static void check_lengths(void)
 {
     static const size_t wrong[] = {15, 17, 0, 1, 4, 12, 20, 64, 256, 512};
-    static const size_t far[] = {65552, 4294967312, SIZE_MAX, SIZE_MAX / 16 + 17, 1024};
+    static const size_t far[] = {65552, 4294967312, SIZE_MAX, SIZE_MAX / 16 + 17, SIZE_MAX / 8 + 17, 1024};
     struct call c = ON_S(0, 4, 4, 4);
     for (size_t k = 0; k < sizeof wrong / sizeof *wrong; k++) {
         c.lit_len = wrong[k];
@@ -344,7 +345,7 @@ static void check_full(void)
 
 /* Lengths and rows, and whether the row is wholly inside. All bits are set in the map and around
  * it, so that a row that is read where there is none shows. Of the last ones 4 times the row, or 4
- * times the next, is no number of a size_t, and what is left of it is inside. */
+ * times the next, is no number of a size_t, and what is left of it is mostly inside. */
 static const struct { size_t len, row; int inside; } bare[] = {
     {0, 0, 0}, {0, 1, 0}, {1, 0, 0}, {3, 0, 0}, {4, 0, 1}, {4, 1, 0}, {5, 0, 1}, {5, 1, 0},
     {7, 0, 1}, {7, 1, 0}, {8, 1, 1}, {8, 2, 0}, {8, 3, 0}, {9, 1, 1}, {9, 2, 0}, {11, 2, 0},
@@ -354,6 +355,23 @@ static const struct { size_t len, row; int inside; } bare[] = {
     {8, SIZE_MAX / 4, 0}, {8, SIZE_MAX / 4 + 1, 0}, {8, SIZE_MAX / 4 + 2, 0},
     {8, SIZE_MAX / 2, 0}, {8, SIZE_MAX / 2 + 1, 0}, {8, SIZE_MAX / 2 + 2, 0},
     {4, SIZE_MAX / 4 * 3 + 3, 0}};
+
+/* Maps of more rows than a window has: a row in them is found, and the one after them is not. */
+static void check_long(void)
+{
+    static uint64_t words[65544];
+    static const struct { size_t len, row; int inside; } asked[] = {
+        {516, 128, 1}, {516, 129, 0}, {65544, 0, 1}, {65544, 16384, 1}, {65544, 16385, 1},
+        {65544, 16386, 0}};
+    for (size_t k = 0; k < sizeof words / sizeof *words; k++)
+        words[k] = ALL;
+    for (size_t k = 0; k < sizeof asked / sizeof *asked; k++) {
+        uint32_t due = asked[k].inside ? 256 : 0;
+        check(ring_row_lit(words, asked[k].len, asked[k].row) == due &&
+              ring_row_first_unlit(words, asked[k].len, 256, asked[k].row) == due,
+              "a row of a long map");
+    }
+}
 
 static void check_bare(void)
 {
@@ -384,6 +402,7 @@ int main(void)
     check_columns();
     check_full();
     check_bare();
+    check_long();
     printf("map: %d passed, %d failed\n", passed, failed);
     return failed || !passed;
 }

@@ -8,7 +8,7 @@ Reads a view and a scene as `ringbill` does, prints the bill as `ringbill` does 
 and writes the picture, if asked, as raw little-endian u16, row after row from the top. --patches
 prints after the bill each patch of the scene: its number, its panel and its cells. --rows prints
 after that each row of the picture: its number, how many of its cells are lit, which is that they
-show a panel, and its first unlit column. --metres puts a station of three doubles in metres in the
+show a panel, and its first unlit column if it has one. --metres puts a station of three doubles in metres in the
 place of the view's eye. --axes turns the camera: its vectors right, forward and up; without it the
 view is level, (1,0,0), (0,1,0), (0,0,1). Examples:
 

@@ -18,7 +18,7 @@ use Rattle.model.specs.Beside.{ShownBeside, cellLine}
 use Rattle.model.specs.Lent.{Lent}
 use Rattle.model.specs.Format.{decode}
 use Rattle.model.specs.Row.{rowOf, rowLength}
-use Rattle.model.specs.Map.{rowWords, rowBits, litColumn, mapRow, litAt, SameCells, wordsOf, insideMap, litCells, firstOf, firstUnlit}
+use Rattle.model.specs.Map.{rowWords, rowBits, mapRow, litAt, SameCells, wordsOf, insideMap, litCells, firstOf, firstUnlit}
 use Rattle.model.specs.Picture.{cells, picture, counts, countEntries, unlitLists, litMap}
 use Rattle.model.specs.Accepted.{AcceptedScene}
 use Rattle.model.specs.Questions.{Question, answer, sceneQuestions, callQuestions, questions, surveyAnswer}

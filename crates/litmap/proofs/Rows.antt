@@ -1,21 +1,21 @@
 -- A row of four words: its lit cells word by word, and its first unlit column.
-use mathlib.Core.Path.{_≡_, refl, sym, ap, ap₂, _∙_, subst}
+use mathlib.Core.Path.{_≡_, refl, sym, ap, ap₂, _∙_}
 use mathlib.Core.Logic.{_⊎_, inl, inr}
 use mathlib.Core.Bool.{Bool, true, false, cond, not}
 use mathlib.Core.List.{List, [], _∷_}
 use Prim.Native.Nat.{ℕ, zero, suc, _+_, _*_, _-_, _/_, _%_, _≤_, _<_, min}
 use native.Mathlib.Nat.{add-suc, suc-add, add-zero, zero-add}
 use native.Mathlib.Omega.{arith}
-use lib.Dec.{T, leb, ltb}
+use lib.Dec.{ltb}
 use lib.ListN.{length, getD, take, drop}
 use lib.Seq.{drop-cons}
 use native.Mathlib.Numerals.{add-one}
 use borrow.Author.Tests.{ltb-true, ltb-false, le-leb, lt-leb}
-use Rattle.model.specs.Lists.{range, addIf, tally}
+use Rattle.model.specs.Lists.{range, tally}
 use Rattle.model.specs.Map.{firstOf, bitOf, litAt, insideMap, litCells, firstUnlit}
 use Rattle.model.proofs.Ranges.{range-append}
 use Rattle.model.proofs.Totals.{tally-append}
-use Rattle.model.proofs.LitMap.{tally-same, first-same}
+use Rattle.model.proofs.LitMap.{lit-in-word, tally-same, first-same}
 use Rattle.litmap.specs.Words.{OnesIs, ClearIs}
 
 -- ---- sums and firsts over two ranges, one after the other
@@ -50,13 +50,6 @@ first-goes f a (suc m) n h = rw (suc-add m n) (go (f a) h (first-goes f (suc a) 
     go false h ih = ih (omega arith) ∙ ap (λ (k : ℕ). firstOf f k n) (suc-add a m ∙ sym (add-suc a m))
 
 -- ---- a word of the row
-lit-in-word : (ws : List ℕ) (k i : ℕ) → i < 64 → litAt ws (64 * k + i) ≡ bitOf (getD ws k 0) i
-unfolding litAt
-lit-in-word ws k i h =
-    let q : (64 * k + i) / 64 ≡ k = omega arith in
-    let r : (64 * k + i) % 64 ≡ i = omega arith in
-    ap₂ (λ (a b : ℕ). bitOf (getD ws a 0) b) q r
-
 word-tally : (ws : List ℕ) (k : ℕ) → tally (litAt ws) (range (64 * k) 64) ≡ tally (bitOf (getD ws k 0)) (range 0 64)
 word-tally ws k = tally-same (litAt ws) (bitOf (getD ws k 0)) (64 * k) 0 64 (λ i h. lit-in-word ws k i h ∙ ap (bitOf (getD ws k 0)) (sym (zero-add i)))
 

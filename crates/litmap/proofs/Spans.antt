@@ -1,6 +1,6 @@
 -- A span's bits in a word, and the span lit word after word.
 use mathlib.Core.Path.{_≡_, refl, sym, ap, ap₂, _∙_}
-use mathlib.Core.Logic.{_⊎_, inl, inr, ⊎-elim}
+use mathlib.Core.Logic.{_⊎_, inl, inr}
 use mathlib.Core.Bool.{Bool, true, false, not, _&&_, _||_, and-true, and-false, or-true, or-false}
 use mathlib.Core.List.{List}
 use Prim.Native.Nat.{ℕ, zero, suc, _+_, _-_, _*_, _/_, _%_, _^_, _≤_, _<_, min}
@@ -11,13 +11,13 @@ use lib.ListN.{length, getD, set, length-set}
 use lib.Seq.{ext-getD, getD-set-same, getD-set-other}
 use lib.Pow.{pow-pos, pow-lt, pow-mono, ones-split, high, low, ones-lt}
 use lib.Bits.{bitAnd, bitOr, and-lt, or-lt}
-use borrow.Author.Tests.{lt-ltb, le-ltb, le-leb, lt-leb, leb-true, eqb-true, eqb-false}
+use borrow.Author.Tests.{lt-ltb, le-ltb, le-leb, leb-true, eqb-true, eqb-false}
 use Rattle.model.specs.Row.{afterSpan}
-use Rattle.model.specs.Map.{bitOf, wordOf, litColumn, mapRow}
+use Rattle.model.specs.Map.{wordOf, litColumn, mapWord, mapRow}
 use Rattle.segments.specs.Columns.{inSpan}
 use Rattle.model.proofs.Tests.{lt-or-ge, both-true}
 use Rattle.model.proofs.Bits.{word-bit, word-small, word-congr, word-is}
-use Rattle.model.proofs.LitMap.{mapWord, map-length, map-word, map-congr}
+use Rattle.model.proofs.LitMap.{map-length, map-word, map-congr}
 use Rattle.segments.proofs.Tests.{same-le}
 use Rattle.segments.proofs.Cut.{span-ahead, span-behind}
 use Rattle.litmap.specs.Words.{Lights, LightsBelow}

@@ -7,12 +7,11 @@ use Prim.Native.Nat.{ℕ, zero, suc, _+_, _*_, _/_, _%_, _^_, _<_}
 use native.Mathlib.Nat.{div-one, zero-add, pow-suc, mod-lt, zero-div}
 use native.Mathlib.Omega.{arith}
 use lib.Dec.{eqb, lit<}
-use lib.ListN.{length, getD, length-map}
+use lib.ListN.{length, getD}
 use lib.Pow.{shr-shr}
 use Rattle.model.specs.Lists.{range, addIf}
 use Rattle.model.specs.Map.{bitOf, numberOf, wordOf}
-use Rattle.model.proofs.Ranges.{range-length}
-use Rattle.model.proofs.Tables.{length-table, table-at, same-table}
+use Rattle.model.proofs.Tables.{table-at, same-table}
 
 -- ---- one bit after the other
 

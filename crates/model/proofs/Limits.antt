@@ -204,7 +204,7 @@ formLimits =
     ∷ limit (λ n. eqb (length (rowOf 4 (λ i. true))) n) (256 ∷ []) (255 ∷ 257 ∷ [])
     ∷ limit (λ n. eqb (length (usedPart (replicate n 1) 0)) 256) (256 ∷ 257 ∷ []) (255 ∷ [])
     ∷ limit (λ n. eqb (length (usedPart (replicate n 1) 1)) 256) (512 ∷ 513 ∷ []) (511 ∷ [])
-    -- a row's words: all of 256 columns lit, and one beyond a word's end; row 1 of the map has the words from 4 on
+    -- a row's words: all of 256 columns lit, and one beyond a word's end; rows 0 and 1 at the map's end; a full row asked with any width
     ∷ limit (λ n. eqb (litCells (mapRow n (λ i. false)) 0) n) (64 ∷ 65 ∷ 256 ∷ []) (257 ∷ [])
     ∷ limit (λ n. eqb (getD (mapRow n (λ i. false)) 1 0) 1) (65 ∷ []) (64 ∷ 66 ∷ [])
     ∷ limit (λ n. eqb (litCells (replicate n 1) 0) 4) (4 ∷ 5 ∷ []) (3 ∷ [])

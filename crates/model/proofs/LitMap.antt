@@ -2,7 +2,7 @@
 use mathlib.Core.Path.{_≡_, refl, sym, ap, ap₂, subst, _∙_}
 use mathlib.Core.Logic.{_⊎_, inl, inr}
 use mathlib.Core.Bool.{Bool, true, false, cond, not, _&&_, Bool·not-not}
-use mathlib.Core.List.{List, map}
+use mathlib.Core.List.{List}
 use Prim.Native.Nat.{ℕ, zero, suc, _+_, _-_, _*_, _/_, _%_, _≤_, _<_}
 use native.Mathlib.Nat.{add-zero, zero-add}
 use native.Mathlib.Omega.{arith}
@@ -10,16 +10,12 @@ use lib.Dec.{T, ltb}
 use lib.ListN.{length, getD}
 use borrow.Author.Tests.{lt-ltb, le-ltb}
 use Rattle.model.specs.Lists.{range, addIf, tally}
-use Rattle.model.specs.Map.{rowWords, rowBits, bitOf, wordOf, litColumn, mapRow, litAt, firstOf}
+use Rattle.model.specs.Map.{rowWords, rowBits, bitOf, litColumn, mapWord, mapRow, litAt, firstOf}
 use Rattle.model.proofs.Tests.{lt-or-ge}
 use Rattle.model.proofs.Ranges.{range-append}
 use Rattle.model.proofs.Totals.{tally-append}
 use Rattle.model.proofs.Tables.{length-table, table-at, same-table}
 use Rattle.model.proofs.Bits.{word-bit, word-congr}
-
--- word k
-abbrev pub mapWord : ℕ → (ℕ → Bool) → ℕ → ℕ
-mapWord width unlit k = wordOf (λ (b : ℕ). litColumn width unlit (64 * k + b))
 
 module _ (width : ℕ) (unlit : ℕ → Bool) where
   pub map-length : length (mapRow width unlit) ≡ rowWords
@@ -37,6 +33,14 @@ module _ (width : ℕ) (unlit : ℕ → Bool) where
       ap (λ (w : ℕ). bitOf w (i % 64)) (map-word (i / 64) (omega arith))
       ∙ word-bit (λ (b : ℕ). litColumn width unlit (64 * (i / 64) + b)) (i % 64) (omega arith)
       ∙ ap (litColumn width unlit) e
+
+-- a column of word k
+pub lit-in-word : (ws : List ℕ) (k b : ℕ) → b < 64 → litAt ws (64 * k + b) ≡ bitOf (getD ws k 0) b
+unfolding litAt
+lit-in-word ws k b h =
+    let q : (64 * k + b) / 64 ≡ k = omega arith in
+    let r : (64 * k + b) % 64 ≡ b = omega arith in
+    ap₂ (λ (m n : ℕ). bitOf (getD ws m 0) n) q r
 
 -- a map depends on the columns below the width alone
 pub column-congr : (width : ℕ) (u v : ℕ → Bool) → ((i : ℕ) → i < width → u i ≡ v i) → (i : ℕ) → litColumn width u i ≡ litColumn width v i

@@ -32,9 +32,13 @@ wordOf test = numberOf (map test (range 0 64))
 abbrev pub litColumn : ℕ → (ℕ → Bool) → ℕ → Bool
 litColumn width unlit i = ltb i width && not (unlit i)
 
--- the four words of a row with these unlit columns: word k has the columns from 64 × k on
+-- word k of a row with these unlit columns: it has the columns from 64 × k on
+abbrev pub mapWord : ℕ → (ℕ → Bool) → ℕ → ℕ
+mapWord width unlit k = wordOf (λ (b : ℕ). litColumn width unlit (64 * k + b))
+
+-- and its four words
 unfoldable pub mapRow : ℕ → (ℕ → Bool) → List ℕ
-mapRow width unlit = map (λ (k : ℕ). wordOf (λ (b : ℕ). litColumn width unlit (64 * k + b))) (range 0 rowWords)
+mapRow width unlit = map (mapWord width unlit) (range 0 rowWords)
 
 -- column i in the words of a row: "bit i mod 64 of word i / 64 set when column i is lit". A word past the end reads 0.
 unfoldable pub litAt : List ℕ → ℕ → Bool

@@ -1,4 +1,4 @@
--- For callers: `Laws` (rows that are laid on) and `Same` (their map and list). The others serve the functions' proofs.
+-- For callers: `Laws` (rows under work that are laid on). `Same` says that map and list describe the same cells; the others serve the functions' proofs.
 mod Keeping
 mod Stepping
 mod Sweeping

@@ -1,25 +1,43 @@
 -- Document 02, F-8: "Map and list describe the same cells on a fresh row, and after every span if they did before it."
-use mathlib.Core.Path.{_≡_, refl, sym, _∙_}
-use mathlib.Core.Bool.{Bool, true, false, not, _&&_, and-true, true≢false}
+use mathlib.Core.Path.{_≡_, refl, sym, ap, _∙_}
+use mathlib.Core.Bool.{Bool, true, false, not, _&&_, true≢false}
 use mathlib.Core.List.{List, [], _∷_}
-use Prim.Native.Nat.{ℕ, _≤_, _<_}
-use native.Mathlib.Nat.{zero-add}
+use Prim.Native.Nat.{ℕ, _+_, _*_, _^_, _≤_, _<_}
 use native.Mathlib.Omega.{arith}
-use lib.ListN.{length}
+use lib.ListN.{length, getD}
+use lib.Seq.{ext-getD}
 use Rattle.model.specs.Lists.{range, tally}
-use Rattle.model.specs.Row.{rowOf, afterSpan}
-use Rattle.model.specs.Map.{mapRow, SameCells}
+use Rattle.model.specs.Row.{rowOf, usedPairs, inPairs, afterSpan}
+use Rattle.model.specs.Map.{litColumn, mapRow, SameCells}
 use Rattle.segments.specs.Columns.{inSpan}
-use Rattle.rows.specs.Span.{UnderWork, Lays}
+use Rattle.rows.specs.Span.{Row, UnderWork, Lays}
 use Rattle.model.proofs.Tests.{tally-none}
 use Rattle.model.proofs.Ranges.{in-range}
-use Rattle.model.proofs.LitMap.{map-congr}
+use Rattle.model.proofs.Bits.{word-is}
+use Rattle.model.proofs.LitMap.{map-length, map-word, lit-in-word, map-congr}
 use Rattle.segments.proofs.Tests.{failed}
 use Rattle.segments.proofs.Rows.{row-determines}
-use Rattle.segments.proofs.Mapped.{same-of-set, fresh-map}
+use Rattle.segments.proofs.Mapped.{pairs-column, same-of-set, fresh-map}
 
 pub same-fresh : {width : ℕ} {row : List ℕ} → width ≤ 256 → row ≡ rowOf width (λ (i : ℕ). true) → SameCells width row (0 ∷ 0 ∷ 0 ∷ 0 ∷ [])
 same-fresh {width} fits e = rw (e, fresh-map width) (same-of-set width fits (λ (i : ℕ). true))
+
+-- A row and four words of 64 bits that describe the same cells are those of one set of unlit columns: what laying asks is just that "they did before it".
+pub same-before :
+    {width : ℕ} {row words : List ℕ} → Row width row → length words ≡ 4 → ((k : ℕ) → k < 4 → getD words k 0 < 2 ^ 64) →
+    SameCells width row words → UnderWork width row words
+unfolding SameCells
+same-before {width} {row} {words} r long small same =
+    record { fits = r .fits; unlit = r .unlit; row-is = r .row-is; words-are = ext-getD 0 words (mapRow width (r .unlit)) (long ∙ sym (map-length width (r .unlit))) (λ k h. word k (omega arith)) }
+  where
+    column : (i : ℕ) → litColumn width (inPairs (usedPairs row)) i ≡ litColumn width (r .unlit) i
+    column i = ap (λ (ns : List ℕ). litColumn width (inPairs (usedPairs ns)) i) (r .row-is) ∙ pairs-column width (r .fits) (r .unlit) i
+
+    word : (k : ℕ) → k < 4 → getD words k 0 ≡ getD (mapRow width (r .unlit)) k 0
+    word k h =
+        word-is (getD words k 0) (small k h) (λ (b : ℕ). litColumn width (r .unlit) (64 * k + b))
+        (λ b l. sym (lit-in-word words k b l) ∙ same (64 * k + b) (omega arith) ∙ column (64 * k + b))
+        ∙ sym (map-word width (r .unlit) k h)
 
 pub same-after :
     {first last panel : ℕ} {row words cells row′ words′ cells′ : List ℕ} → UnderWork (length cells) row words →

@@ -49,7 +49,7 @@ fn light_new(words: &mut [u64; 4], lit: u16, width: usize, first: u16, last: u16
 }
 
 // Lays the span of the columns `first` to `last` on a row, in place, and paints the panel into those that were unlit.
-// `cells` is the row's part of the picture; its length is the width, and the span may end beyond it. `words` are those of the row in the lit map, in which the span is lit where it newly lit a cell. With `last` below
+// `cells` is the row's part of the picture; its length is the width, and the span may end beyond it. `words` are those of the row in the lit map, in which the span is lit when it newly lit a cell. With `last` below
 // `first` the span is empty: it is not laid and looks at no segment. The row and the words must describe the same cells, as a fresh row and this function leave them: its callers hold no
 // others, and a test of them would cost as much as the work.
 pub fn lay(

@@ -11,7 +11,6 @@ use Rattle.model.specs.Vector.{Vec}
 use Rattle.model.specs.Patch.{Patch}
 use Rattle.model.specs.Ray.{met}
 use Rattle.model.specs.Row.{rowOf}
-use Rattle.model.specs.Map.{mapRow}
 use Rattle.model.proofs.Tables.{length-table, table-at, same-table}
 use Rattle.rows.specs.Span.{UnderWork}
 use Rattle.scanline.specs.declared.Lighting.{Lighting}

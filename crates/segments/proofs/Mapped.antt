@@ -1,14 +1,13 @@
 -- The row and the lit map of a set of unlit columns describe the same cells; and the words of a fresh row.
 use mathlib.Core.Path.{_≡_, refl, sym, ap, _∙_}
 use mathlib.Core.Bool.{Bool, true, false, not, _&&_, and-false}
-use mathlib.Core.List.{List, [], _∷_, map}
-use Prim.Native.Nat.{ℕ, _+_, _*_, _≤_, _<_}
+use mathlib.Core.List.{[], _∷_}
+use Prim.Native.Nat.{ℕ, _+_, _*_, _≤_}
 use lib.Dec.{ltb}
-use Rattle.model.specs.Lists.{range}
 use Rattle.model.specs.Row.{rowOf, usedPairs, inPairs}
-use Rattle.model.specs.Map.{rowWords, litColumn, numberOf, wordOf, mapRow, SameCells}
+use Rattle.model.specs.Map.{rowWords, litColumn, numberOf, wordOf, mapWord, mapRow, SameCells}
 use Rattle.model.proofs.Bits.{word-congr}
-use Rattle.model.proofs.LitMap.{mapWord, map-bit}
+use Rattle.model.proofs.LitMap.{map-bit}
 use Rattle.model.proofs.Tables.{same-table}
 use Rattle.segments.proofs.Rows.{row-describes}
 

@@ -2,7 +2,6 @@
 use mathlib.Core.Path.{refl}
 use Prim.Native.Nat.{_-_}
 use native.Mathlib.Omega.{arith}
-use borrow.Author.Needs.{needs}
 use Rattle.litmap.proofs.Spans.{LitUpTo, light-starts, light-goes, light-ends}
 use Rattle.litmap.proofs.light_words.Statement.{statement}
 use Rattle.litmap.proofs.light_words.Tie as tie

@@ -1,6 +1,5 @@
 -- `span_bits` meets its contract: all ones shifted up, and all ones shifted down.
 use borrow.Author.Needs.{needs}
-use native.Mathlib.Omega.{arith}
 use Rattle.litmap.proofs.Spans.{span-word}
 use Rattle.litmap.proofs.span_bits.Statement.{statement}
 use Rattle.litmap.proofs.span_bits.Tie as tie

@@ -1,6 +1,5 @@
 -- `lay` meets its contract: an empty span changes nothing, any other is swept over the row.
 use mathlib.Core.Path.{sym}
-use native.Mathlib.Omega.{arith}
 use borrow.Author.Needs.{needs}
 use lib.ListN.{length}
 use Rattle.rows.proofs.Same.{same-after, words-now, words-stay}
