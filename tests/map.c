@@ -3,22 +3,13 @@
  * writes all of it and nothing around it; that a refusal leaves it; that question 11 asks for its
  * length; and what the calls on rows answer, on any map. Each check is counted, one that fails is
  * named. tests/map.py runs this with the library, and sees to it that it can fail. */
+#include "check.h"
 #include "ring.h"
 
 #include <stdio.h>
 #include <string.h>
 
 #define ALL UINT64_MAX
-
-static int passed, failed;
-
-static void check(int held, const char *name)
-{
-    passed += held;
-    failed += !held;
-    if (!held)
-        printf("FAILED: %s\n", name);
-}
 
 /* Scenes of one node at forward 100, with patches of four corners. */
 #define U16(n) (uint16_t)(n) & 255, (uint16_t)(n) >> 8
@@ -403,6 +394,5 @@ int main(void)
     check_full();
     check_bare();
     check_long();
-    printf("map: %d passed, %d failed\n", passed, failed);
-    return failed || !passed;
+    return checked("map");
 }

@@ -2,6 +2,7 @@
  * part of a station; that a refusal leaves what was lent; that question 15 stands just before
  * question 10; and that all else is the call in units. Each check is counted, one that fails is
  * named. tests/metres.py runs this with the library, and sees to it that it can fail. */
+#include "check.h"
 #include "ring.h"
 
 #include <stdio.h>
@@ -69,16 +70,6 @@ static struct metres along(int part, double value)
     struct metres station = {{0, 0, 0}};
     station.part[part] = value;
     return station;
-}
-
-static int passed, failed;
-
-static void check(int held, const char *name)
-{
-    passed += held;
-    failed += !held;
-    if (!held)
-        printf("FAILED: %s\n", name);
 }
 
 /* A scene of one node and one patch, a rectangle of panel 5: along one axis from one number to
@@ -304,6 +295,5 @@ int main(void)
     check_scene_first();
     check_call_after();
     check_units();
-    printf("metres: %d passed, %d failed\n", passed, failed);
-    return failed || !passed;
+    return checked("metres");
 }

@@ -62,20 +62,14 @@ pub tally-same : (f g : ℕ → Bool) (a b n : ℕ) → ((i : ℕ) → i < n →
 tally-same f g a b zero same = refl
 tally-same f g a b (suc n) same =
     ap₂ addIf (ap f (sym (add-zero a)) ∙ same 0 (omega arith) ∙ ap g (add-zero b))
-    (tally-same f g (suc a) (suc b) n (λ i h. ap f (next a i) ∙ same (suc i) (omega arith) ∙ ap g (sym (next b i))))
-  where
-    next : (a i : ℕ) → suc a + i ≡ a + suc i
-    next a i = omega arith
+    (tally-same f g (suc a) (suc b) n (λ i h. ap f (omega arith) ∙ same (suc i) (omega arith) ∙ ap g (omega arith)))
 
 pub first-same : (f g : ℕ → Bool) (a b n : ℕ) → ((i : ℕ) → i < n → f (a + i) ≡ g (b + i)) → a + firstOf g b n ≡ b + firstOf f a n
 first-same f g a b zero same = omega arith
 first-same f g a b (suc n) same =
     go (f a) (g b) (ap f (sym (add-zero a)) ∙ same 0 (omega arith) ∙ ap g (add-zero b))
-    (first-same f g (suc a) (suc b) n (λ i h. ap f (next a i) ∙ same (suc i) (omega arith) ∙ ap g (sym (next b i))))
+    (first-same f g (suc a) (suc b) n (λ i h. ap f (omega arith) ∙ same (suc i) (omega arith) ∙ ap g (omega arith)))
   where
-    next : (a i : ℕ) → suc a + i ≡ a + suc i
-    next a i = omega arith
-
     go : (s t : Bool) → s ≡ t → suc a + firstOf g (suc b) n ≡ suc b + firstOf f (suc a) n → a + cond t b (firstOf g (suc b) n) ≡ b + cond s a (firstOf f (suc a) n)
     go true true e h = omega arith
     go true false e h = absurd (subst T e tt)

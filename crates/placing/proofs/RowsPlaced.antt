@@ -20,7 +20,7 @@ use Rattle.model.proofs.LitMap.{map-length}
 use Rattle.segments.proofs.Rows.{row-length}
 use Rattle.segments.proofs.Full.{first-length}
 use Rattle.scanline.specs.Shown.{unlitAfter, RowPainted, RowLit}
-use Rattle.placing.specs.Framing.{RowsPainted, Framed, withRow, RowPlaced, RowDone, cellsOf, unlitOf, wordsIn, RowsUpTo}
+use Rattle.placing.specs.Framing.{RowsPainted, Framed, withRow, RowPlaced, RowDone, cellsOf, unlitOf, litOf, RowsUpTo}
 use Rattle.scanline.proofs.Columns.{each-lit}
 use Rattle.scanline.proofs.WalkPainted.{as-long}
 use Rattle.scanline.proofs.Counted.{lit-as-long}
@@ -141,9 +141,9 @@ module _ {eye : Vec} {ray : ℕ → ℕ → Vec} {walk : List Patch} {width heig
                 ∙ next (unlitOf eye ray walk width);
             lit-is =
                 ap (take ((j + 1) * rowWords)) (placed .words-are)
-                ∙ through-row rowWords j (wordsIn eye ray walk width j) lit (words-fit framed h) (map-length width _)
-                ∙ ap (_++ wordsIn eye ray walk width j) (inv .lit-is)
-                ∙ next (wordsIn eye ray walk width);
+                ∙ through-row rowWords j (litOf eye ray walk width j) lit (words-fit framed h) (map-length width _)
+                ∙ ap (_++ litOf eye ray walk width j) (inv .lit-is)
+                ∙ next (litOf eye ray walk width);
           }
         where
           next : (row : ℕ → List ℕ) → flatten (map row (range 0 j)) ++ row j ≡ flatten (map row (range 0 (j + 1)))
@@ -162,7 +162,7 @@ module _ {eye : Vec} {ray : ℕ → ℕ → Vec} {walk : List Patch} {width heig
             unlit-is =
                 ap (take (j * rowLength)) (placed .row-is) ∙ before-row rowLength j (unlitOf eye ray other width j) unlit (row-fits framed h) ∙ inv .unlit-is;
             lit-is =
-                ap (take (j * rowWords)) (placed .words-are) ∙ before-row rowWords j (wordsIn eye ray other width j) lit (words-fit framed h) ∙ inv .lit-is;
+                ap (take (j * rowWords)) (placed .words-are) ∙ before-row rowWords j (litOf eye ray other width j) lit (words-fit framed h) ∙ inv .lit-is;
           }
 
   pub rows-end :

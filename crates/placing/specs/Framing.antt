@@ -43,8 +43,8 @@ cellsOf eye ray walk width j = map (shownAfter eye (λ (i : ℕ). ray i j) walk)
 abbrev pub unlitOf : Vec → (ℕ → ℕ → Vec) → List Patch → ℕ → ℕ → List ℕ
 unlitOf eye ray walk width j = rowOf width (unlitAfter eye (λ (i : ℕ). ray i j) walk)
 
-abbrev pub wordsIn : Vec → (ℕ → ℕ → Vec) → List Patch → ℕ → ℕ → List ℕ
-wordsIn eye ray walk width j = mapRow width (unlitAfter eye (λ (i : ℕ). ray i j) walk)
+abbrev pub litOf : Vec → (ℕ → ℕ → Vec) → List Patch → ℕ → ℕ → List ℕ
+litOf eye ray walk width j = mapRow width (unlitAfter eye (λ (i : ℕ). ray i j) walk)
 
 -- the rows before row j are in their places
 pub record RowsUpTo
@@ -52,7 +52,7 @@ pub record RowsUpTo
   pub bound : j ≤ height
   pub picture-is : take (j * width) picture ≡ flatten (map (cellsOf eye ray walk width) (range 0 j))
   pub unlit-is : take (j * rowLength) unlit ≡ flatten (map (unlitOf eye ray walk width) (range 0 j))
-  pub lit-is : take (j * rowWords) lit ≡ flatten (map (wordsIn eye ray walk width) (range 0 j))
+  pub lit-is : take (j * rowWords) lit ≡ flatten (map (litOf eye ray walk width) (range 0 j))
 
 -- the rows of a picture, one after the other, of the unlit lists and of the lit map
 pub record RowsPainted

@@ -6,11 +6,13 @@ use text::put_number;
 use text::put_spaced;
 use text::put_text;
 ghost use mathlib.Core.Path.{_≡_};
-ghost use mathlib.Core.Bool.{cond};
+ghost use mathlib.Core.Bool.{Bool, cond};
 ghost use mathlib.Core.List.{[], _∷_};
-ghost use Prim.Native.Nat.{_+_, _*_, _≤_, _<_};
+ghost use Prim.Native.Nat.{ℕ, _+_, _*_, _≤_, _<_};
 ghost use lib.ListN.{length};
-ghost use Rattle.rows.specs.Span.{UnderWork};
+ghost use Rattle.model.specs.Row.{rowOf, afterSpan};
+ghost use Rattle.model.specs.Map.{mapRow};
+ghost use Rattle.rows.specs.Span.{UnderWork, Lays};
 
 // Each number after a space, which is at most eleven bytes.
 fn put_numbers(out: &mut [u8], at: usize, numbers: &[u16]) -> usize
@@ -139,7 +141,10 @@ pub fn lay_and_write(
     message: &[u8],
 )
     requires { ⌜ UnderWork (length (now cells)) (now row) (now words) ⌝ }
-    ensures { λ r. ⌜ UnderWork (length (now (cells .exit))) (now (row .exit)) (now (words .exit)) ⌝ }
+    ensures laid { λ r. ⌜ ((unlit : ℕ → Bool) → now (row .entry) ≡ rowOf (length (now (cells .entry))) unlit →
+        Lays unlit first last panel (now (cells .entry)) (now (row .exit)) (now (cells .exit))) ⌝ }
+    ensures mapped { λ r. ⌜ ((unlit : ℕ → Bool) → now (row .entry) ≡ rowOf (length (now (cells .entry))) unlit →
+        now (words .exit) ≡ mapRow (length (now (cells .entry))) (afterSpan unlit first last)) ⌝ }
 {
     let laid = rows::lay(row, words, cells, first, last, panel);
     write_row(number, &report(laid), row, words, cells, message);

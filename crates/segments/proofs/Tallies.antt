@@ -4,12 +4,14 @@ use mathlib.Core.Logic.{_⊎_, inl, inr}
 use mathlib.Core.Bool.{Bool, true, false, true≢false, _&&_, _||_}
 use mathlib.Core.List.{List, [], _∷_}
 use Prim.Native.Nat.{ℕ, zero, suc, _+_, _-_, _≤_, _<_, min, max}
+use native.Mathlib.Nat.{zero-add}
 use native.Mathlib.Omega.{arith}
 use borrow.Author.Tests.{le-leb}
 use Rattle.model.specs.Lists.{range, addIf, tally}
 use Rattle.model.proofs.Tests.{lt-or-ge, tally-none}
 use Rattle.model.proofs.Ranges.{range-length, in-range}
 use Rattle.model.proofs.Totals.{tally-most as list-most}
+use Rattle.model.proofs.LitMap.{tally-same}
 use Rattle.segments.specs.Columns.{inSpan}
 use Rattle.segments.proofs.Cut.{span-ahead, span-behind}
 
@@ -33,15 +35,8 @@ pub tally-most : (columns : ℕ → Bool) (width : ℕ) → tally columns (range
 tally-most columns width = omega (arith, list-most columns (range 0 width), range-length 0 width)
 
 -- they depend on nothing else of the set
-from-congr :
-    (u v : ℕ → Bool) (i n : ℕ) → ((j : ℕ) → i ≤ j → j < i + n → u j ≡ v j) →
-    tally u (range i n) ≡ tally v (range i n)
-from-congr u v i zero same = refl
-from-congr u v i (suc n) same =
-    rw (same i (omega arith) (omega arith), from-congr u v (suc i) n (λ j h l. same j (omega arith) (omega arith)))
-
 pub tally-congr : (u v : ℕ → Bool) (width : ℕ) → ((i : ℕ) → i < width → u i ≡ v i) → tally u (range 0 width) ≡ tally v (range 0 width)
-tally-congr u v width same = from-congr u v 0 width (λ i h l. same i (omega arith))
+tally-congr u v width same = tally-same u v 0 0 width (λ i h. rw zero-add (same i h))
 
 pub tally-clear : (u : ℕ → Bool) (width : ℕ) → ((i : ℕ) → i < width → u i ≡ false) → tally u (range 0 width) ≡ 0
 tally-clear u width clear =

@@ -1,4 +1,4 @@
--- `lay_and_write` meets its contract: a row and its words stay such as a span is laid.
+-- `lay_and_write` meets its contract: it leaves what laying the span leaves.
 use mathlib.Core.Path.{ap}
 use native.Mathlib.Omega.{arith}
 use borrow.Author.Needs.{needs}
@@ -18,7 +18,7 @@ write-row-requires c κs =
 returns : tie.Need-returns
 returns c =
     let l = c .before .before .before .before .before .before .before .before in
-    work-laid (l .before .before .before .before .before .before .pre) (l .lay .ensures .0) (l .lay .ensures .1 .1 .0)
+    (l .lay .ensures .0, l .lay .ensures .1 .1 .0)
 
 pub lay-and-write-spec : {M : Type 1} → statement M
 lay-and-write-spec =

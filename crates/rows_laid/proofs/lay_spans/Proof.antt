@@ -5,7 +5,7 @@ use native.Mathlib.Omega.{arith}
 use borrow.Author.Needs.{needs}
 use lib.ListN.{length}
 use Rattle.rows.specs.Span.{UnderWork}
-use Rattle.rows.proofs.Laws.{work-fresh}
+use Rattle.rows.proofs.Laws.{work-fresh, work-laid}
 use Rattle.rows_laid.proofs.lay_spans.Statement.{statement}
 use Rattle.rows_laid.proofs.lay_spans.Tie as tie
 
@@ -53,7 +53,7 @@ loop-again : tie.Need-loop-again Inv-loop μ-loop
 loop-again c =
     let l = c .before .before in
     let i = c .before .before .before .before .before .before .before .before .before .before .loop .inv in
-    (omega arith, omega arith, l .lay-and-write .ensures, l .lay-and-write .kept .1 .1 .1 .0 ∙ i .3)
+    (omega arith, omega arith, work-laid (i .2) (l .lay-and-write .ensures .0) (l .lay-and-write .ensures .1), l .lay-and-write .kept .1 .1 .1 .0 ∙ i .3)
 
 same-length : tie.Need-same-length Inv-loop μ-loop
 same-length c = c .before .loop .inv .3
