@@ -2,7 +2,7 @@
 use mathlib.Core.Path.{_≡_, refl}
 use mathlib.Core.List.{List, [], _++_}
 use Prim.Native.Nat.{ℕ}
-use lib.ListN.{take}
+use lib.ListN.{take, replicate}
 use Rattle.model.specs.Vector.{Vec, origin}
 use Rattle.model.proofs.Computing.{everything}
 use Rattle.model.proofs.Encode.{u16, point}
@@ -34,3 +34,8 @@ refused-empty = refl
 pub refused-short : bill (take 11 (inputOf origin 4 4 4 sceneS)) ≡ ascii "refused 1\n"
 unfolding digitsWithin decimal spaced numbers line refusal bill
 refused-short = refl
+
+-- ".. or over 57,388 bytes": one byte too many
+pub refused-long : bill (replicate 57389 0) ≡ ascii "refused 1\n"
+unfolding digitsWithin decimal spaced numbers line refusal bill
+refused-long = refl

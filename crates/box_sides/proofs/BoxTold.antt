@@ -1,7 +1,6 @@
 -- What the number of a box's corner tells of the patches enclosed.
 use mathlib.Core.Path.{_≡_, subst}
 use mathlib.Core.List.{[], _∷_, List·Memᴰ}
-use Prim.Native.Nat.{_≤_, _<_}
 use lib.IntN.{ℤ, pos, negℤ, _+ℤ_, _-ℤ_, _*ℤ_}
 use lib.Signed.{_<ℤ_, _≤ℤ_}
 use Rattle.integer.proofs.Identity.{ring, reify}

@@ -1,25 +1,24 @@
 -- Boxes, and what lies in them.
 use mathlib.Core.Path.{_≡_, ap, subst, _∙_}
 use mathlib.Core.Logic.{_⊎_, inl, inr}
-use Prim.Native.Nat.{_≤_, _<_}
 use lib.Dec.{lit<}
 use lib.IntN.{ℤ}
 use mir.Syntax.{w16, w64}
 use mir.Val.{toZ, ofZ}
-use lib.Signed.{_≤ℤ_, ≤ℤ-refl}
+use lib.Signed.{≤ℤ-refl}
 use Rattle.integer.specs.Magnitude.{Within}
 use Rattle.integer.proofs.Magnitude.{within-stored}
 use Rattle.integer.proofs.Order.{≤ℤ-trans}
 use Rattle.model.specs.Vector.{Vec}
 use Rattle.geometry.specs.Machine.{vecOf, Bounded}
 use Rattle.geometry.specs.declared.Vector.{Vector}
-use Rattle.boxes.specs.Boxes.{AtMost, InBox, Covers, BoxBounded, Extreme, ExtremeCorner, upward, downward, Joined, Common}
+use Rattle.boxes.specs.Boxes.{PartsAtMost, InBox, Covers, BoxBounded, Extreme, ExtremeCorner, upward, downward, Joined, Common}
 use Rattle.boxes.specs.declared.Bounds.{Bounds}
 
-pub at-most-refl : (u : Vec) → AtMost u u
+pub at-most-refl : (u : Vec) → PartsAtMost u u
 at-most-refl u = record { x-most = ≤ℤ-refl (u .x); y-most = ≤ℤ-refl (u .y); z-most = ≤ℤ-refl (u .z) }
 
-at-most-trans : {u v w : Vec} → AtMost u v → AtMost v w → AtMost u w
+at-most-trans : {u v w : Vec} → PartsAtMost u v → PartsAtMost v w → PartsAtMost u w
 at-most-trans h k =
     record { x-most = ≤ℤ-trans (h .x-most) (k .x-most); y-most = ≤ℤ-trans (h .y-most) (k .y-most); z-most = ≤ℤ-trans (h .z-most) (k .z-most) }
 
@@ -82,16 +81,16 @@ module _ (before : ℤ → ℤ → Type 0) where
 -- ---- two boxes
 
 module _ {u v r : Vector} where
-  first-above : ExtremeCorner upward u v r → AtMost (vecOf r) (vecOf u)
+  first-above : ExtremeCorner upward u v r → PartsAtMost (vecOf r) (vecOf u)
   first-above l = record { x-most = l .x-extreme .to-first; y-most = l .y-extreme .to-first; z-most = l .z-extreme .to-first }
 
-  second-above : ExtremeCorner upward u v r → AtMost (vecOf r) (vecOf v)
+  second-above : ExtremeCorner upward u v r → PartsAtMost (vecOf r) (vecOf v)
   second-above l = record { x-most = l .x-extreme .to-second; y-most = l .y-extreme .to-second; z-most = l .z-extreme .to-second }
 
-  first-below : ExtremeCorner downward u v r → AtMost (vecOf u) (vecOf r)
+  first-below : ExtremeCorner downward u v r → PartsAtMost (vecOf u) (vecOf r)
   first-below l = record { x-most = l .x-extreme .to-first; y-most = l .y-extreme .to-first; z-most = l .z-extreme .to-first }
 
-  second-below : ExtremeCorner downward u v r → AtMost (vecOf v) (vecOf r)
+  second-below : ExtremeCorner downward u v r → PartsAtMost (vecOf v) (vecOf r)
   second-below l = record { x-most = l .x-extreme .to-second; y-most = l .y-extreme .to-second; z-most = l .z-extreme .to-second }
 
 module _ {b c r : Bounds} where

@@ -13,20 +13,20 @@ use Rattle.geometry.specs.declared.Vector.{Vector}
 use Rattle.boxes.specs.declared.Bounds.{Bounds}
 
 -- on no axis is u above v
-pub record AtMost (u v : Vec) : Type 0 where
+pub record PartsAtMost (u v : Vec) : Type 0 where
   pub x-most : u .x ≤ℤ v .x
   pub y-most : u .y ≤ℤ v .y
   pub z-most : u .z ≤ℤ v .z
 
 -- the point c lies in the box b
 pub record InBox (b : Bounds) (c : Vec) : Type 0 where
-  pub low-most : AtMost (vecOf (b .low)) c
-  pub high-least : AtMost c (vecOf (b .high))
+  pub low-most : PartsAtMost (vecOf (b .low)) c
+  pub high-least : PartsAtMost c (vecOf (b .high))
 
 -- what lies in the box b lies in the box r
 pub record Covers (b r : Bounds) : Type 0 where
-  pub low-most : AtMost (vecOf (r .low)) (vecOf (b .low))
-  pub high-least : AtMost (vecOf (b .high)) (vecOf (r .high))
+  pub low-most : PartsAtMost (vecOf (r .low)) (vecOf (b .low))
+  pub high-least : PartsAtMost (vecOf (b .high)) (vecOf (r .high))
 
 pub record BoxBounded (b : Bounds) : Type 0 where
   pub low-bounded : Bounded 10000 (b .low)

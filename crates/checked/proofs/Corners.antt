@@ -25,7 +25,7 @@ module _ {bytes : List ℕ} {l : Layout} (w : Checked bytes l) {k : ℕ} where
   patch-is h = patch-numbered (w .laid) k h ∙ patch-corners (w .laid) k (w .inside .corners k h)
 
   -- the run of a patch's record names its corners
-  pub corners-are : k < l .patches → {r : PatchRecord} → patchRecordOf r ≡ patchNumber bytes l k → CornersAre bytes l k (r .corners)
+  corners-are : k < l .patches → {r : PatchRecord} → patchRecordOf r ≡ patchNumber bytes l k → CornersAre bytes l k (r .corners)
   corners-are h {r} e =
       record {
         value = ap (λ (q : format.PatchRecord). q .cornerRun) e;

@@ -23,7 +23,7 @@ pub record Rooted (nodes : List NodeRecord) : Type 0 where
   pub rising : (k : ℕ) → k < length nodes → (k < nodeNumbered nodes k .positive) × (k < nodeNumbered nodes k .negative)
   pub named : (j : ℕ) → 0 < j → j < length nodes → occurrences j (children nodes) ≡ 1
 
-pub everyNode-at :
+everyNode-at :
     (test : ℕ → NodeRecord → Bool) (a : ℕ) (nodes : List NodeRecord) →
     T (everyNode test a nodes) →
     (k : ℕ) → k < length nodes → T (test (a + k) (nodeNumbered nodes k))

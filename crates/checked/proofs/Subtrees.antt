@@ -69,7 +69,7 @@ module _ {A : Type 0} (own : ℕ → NodeRecord → List A) (nodes : List NodeRe
 
   module _ (r : Rooted nodes) where
     -- the bound on the depth has no part in the tree once it is large enough
-    pub deep-enough :
+    deep-enough :
         (depth depth′ k : ℕ) → length nodes ≤ depth + k → length nodes ≤ depth′ + k →
         treeOf own depth nodes k ≡ treeOf own depth′ nodes k
     deep-enough zero depth′ k h h′ = tree-leaf zero k (omega arith) ∙ sym (tree-leaf depth′ k (omega arith))

@@ -2,7 +2,7 @@
 use mathlib.Core.Path.{_≡_, refl, sym, ap, _∙_}
 use mathlib.Core.Bool.{Bool, true, false}
 use mathlib.Core.List.{List, map}
-use Prim.Native.Nat.{ℕ, zero, suc, _+_, _*_, _-_, _≤_, _<_}
+use Prim.Native.Nat.{ℕ, suc, _+_, _*_, _-_, _≤_, _<_}
 use native.Mathlib.Nat.{zero-add, add-zero, sub-zero}
 use native.Mathlib.Numerals.{add-one}
 use native.Mathlib.Decide.{ℕ-discrete, decLt}
@@ -14,6 +14,7 @@ use borrow.Author.Tests.{eq-eqb, ne-eqb}
 use Rattle.model.specs.Lists.{every, range, addIf, occurrences}
 use Rattle.model.specs.Format.{NodeRecord, decode}
 use Rattle.model.specs.Questions.{children}
+use Rattle.model.proofs.Tables.{zero-at}
 use Rattle.model.proofs.Loops.{range-passes, range-fails, range-same}
 use Rattle.format.specs.declared.layout.Layout.{Layout}
 use Rattle.format.specs.Layout.{LaidOut, nodeNumber}
@@ -41,18 +42,13 @@ pub record Counted (f : ℕ → NodeRecord) (n : ℕ) (times : List ℕ) (k : �
       j < 1024 →
       getD times j 0 + occurrences j (children (map f (range k (n - k)))) ≡ occurrences j (children (map f (range 0 n)))
 
-zeros : (n j : ℕ) → _≡_ {A = ℕ} (getD (replicate n 0) j 0) 0
-zeros zero j = refl
-zeros (suc n) zero = refl
-zeros (suc n) (suc j) = zeros n j
-
 pub none-counted : (f : ℕ → NodeRecord) (n : ℕ) → Counted f n (replicate 1024 0) 0
 none-counted f n =
     record {
       most = omega arith;
       long = length-replicate {A = ℕ} 1024 0;
-      low = λ j. omega (arith, zeros 1024 j);
-      total = λ j b. rw (zeros 1024 j, zero-add, sub-zero);
+      low = λ j. omega (arith, zero-at 1024 j);
+      total = λ j b. rw (zero-at 1024 j, zero-add, sub-zero);
     }
 
 add-if-low : (b : Bool) (n : ℕ) → addIf b n ≤ suc n

@@ -5,7 +5,7 @@ use Rattle.io.specs.Counts.{Counts}
 use Rattle.console.specs.declared.Got.{Got}
 use Rattle.console.specs.declared.Got.the-variants.{Bytes, Failed}
 
--- the bytes that were read stand at the start of the buffer; after a failed read nothing is said of it
+-- so many bytes, no more than the buffer has; what they are is free; after a failed read nothing is said
 abbrev pub ReadInto : Got → List ℕ → Type 0
 ReadInto (Bytes n) buffer = Counts n buffer
 ReadInto Failed buffer = Unit {0}

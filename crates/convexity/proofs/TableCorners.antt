@@ -5,7 +5,7 @@ use Prim.Native.Nat.{ℕ, suc, _+_, _≤_, _<_}
 use native.Mathlib.Omega.{arith}
 use Rattle.model.specs.Lists.{range}
 use Rattle.model.specs.Vector.{Vec}
-use Rattle.model.specs.Patch.{flat, strictlyConvex}
+use Rattle.model.specs.Patch.{liesOn, flat, strictlyConvex}
 use Rattle.model.specs.Format.{decode, patchNumbered}
 use Rattle.model.specs.Format as format
 use Rattle.geometry.specs.declared.Vector.{Vector}
@@ -21,7 +21,7 @@ use Rattle.small_polygons.specs.Four.{patchOfFour}
 use Rattle.convexity.specs.Cornered.{cornersFrom}
 
 panel-free : (m : ℕ) (corners : List Vec) → patchProper (record { panel = 0; corners = corners }) ≡ patchProper (record { panel = m; corners = corners })
-unfolding flat strictlyConvex
+unfolding liesOn flat strictlyConvex
 panel-free m corners = refl
 
 module _ (bytes : List ℕ) (l : Layout) (first : ℕ) where

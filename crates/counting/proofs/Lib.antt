@@ -1,3 +1,3 @@
--- Cells counted in four counters for each number, eight at a time where they hold one number.
-mod Gathered
-mod Counted
+-- The counts from the table of the patches' cells.
+mod Adding
+pub mod TableCounts

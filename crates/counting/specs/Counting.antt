@@ -1,36 +1,35 @@
--- Counting the cells of a picture: what it asks, and the parts that it is made of.
+-- The counts of a picture from the table of its patches' cells: what counting asks, and what it leaves.
 use mathlib.Core.Path.{_≡_}
-use mathlib.Core.List.{List}
-use Prim.Native.Nat.{ℕ, _+_, _*_, _≤_, _<_}
-use lib.ListN.{length, getD, take}
-use Rattle.model.specs.Lists.{occurrences}
+use mathlib.Core.Bool.{cond}
+use mathlib.Core.List.{List, map, sum}
+use Prim.Native.Nat.{ℕ, _+_, _≤_, _<_}
+use lib.Dec.{eqb}
+use lib.ListN.{length, getD}
+use Rattle.model.specs.Lists.{range}
+use Rattle.model.specs.Format.{decode, patchNumbered}
 use Rattle.model.specs.Picture.{countEntries}
+use Rattle.format.specs.declared.layout.Layout.{Layout}
+use Rattle.checked.specs.Checked.{Checked}
 
--- each cell's number has an entry, and a count of all cells fits one
-pub record Countable (cells totals : List ℕ) : Type 0 where
-  pub numbered : (k : ℕ) → k < length cells → getD cells k 0 < countEntries
-  pub few : length cells ≤ 32768
+-- the cells of the first k patches together
+unfoldable pub together : List ℕ → ℕ → ℕ
+together booked k = sum _+_ 0 (map (λ (m : ℕ). getD booked m 0) (range 0 k))
+
+-- those of panel n alone
+unfoldable pub ofPanel : (ℕ → ℕ) → List ℕ → ℕ → ℕ → ℕ
+ofPanel panel booked k n = sum _+_ 0 (map (λ (m : ℕ). cond (eqb (panel m) n) (getD booked m 0) 0) (range 0 k))
+
+-- a checked scene whose panels have entries, a table with an entry a patch, and no more cells in it than the picture has
+pub record Countable (bytes : List ℕ) (l : Layout) (booked : List ℕ) (cells : ℕ) (totals : List ℕ) : Type 0 where
+  pub scene : Checked bytes l
+  pub patches : length booked ≡ l .patches
+  pub numbered : (k : ℕ) → k < l .patches → patchNumbered (decode bytes) k .panel < countEntries
+  pub few : cells ≤ 32768
+  pub within : together booked (length booked) ≤ cells
   pub entries : length totals ≡ countEntries
 
--- the `count` cells from cell k on hold one number
-pub record Alike (cells : List ℕ) (k count : ℕ) : Type 0 where
-  pub some : 0 < count
-  pub inside : k + count ≤ length cells
-  pub same : (i : ℕ) → i < count → getD cells (k + i) 0 ≡ getD cells k 0
-
--- the sum of a number's four counters
-abbrev pub laneSum : List ℕ → ℕ → ℕ
-laneSum lanes n = getD lanes (4 * n) 0 + getD lanes (4 * n + 1) 0 + getD lanes (4 * n + 2) 0 + getD lanes (4 * n + 3) 0
-
--- The cells before cell k are counted: the counters of each number add up to how often it stands among them. Each cell's number has counters, and a count of all cells
--- fits one.
-pub record CountedTo (cells : List ℕ) (k : ℕ) (lanes : List ℕ) : Type 0 where
-  pub numbered : (i : ℕ) → i < length cells → getD cells i 0 < countEntries
-  pub few : length cells ≤ 32768
-  pub size : length lanes ≡ 4 * countEntries
-  pub sums : (n : ℕ) → n < countEntries → laneSum lanes n ≡ occurrences n (take k cells)
-
--- the totals of the numbers below n are the sums of their counters
-pub record Summed (lanes totals : List ℕ) (n : ℕ) : Type 0 where
+-- each panel has the cells of its patches, and "nothing" has the rest
+pub record Counted (panel : ℕ → ℕ) (booked : List ℕ) (cells : ℕ) (totals : List ℕ) : Type 0 where
   pub entries : length totals ≡ countEntries
-  pub sums : (m : ℕ) → m < n → getD totals m 0 ≡ laneSum lanes m
+  pub each : (n : ℕ) → 1 ≤ n → n < countEntries → getD totals n 0 ≡ ofPanel panel booked (length booked) n
+  pub rest : getD totals 0 0 + together booked (length booked) ≡ cells

@@ -86,6 +86,13 @@ module _ {n : ℕ} {q : Vec} {k : ℕ} where
   pub covers-rest : {p : Patch} {ps : List Patch} → PanelCovers ps n q k → PanelCovers (p ∷ ps) n q k
   covers-rest c = record { piece = c .piece; listed = List·Memᴰ·tail (c .listed); ofPanel = c .ofPanel; covers = c .covers }
 
+-- Lists of the same pieces cover the same points, in whatever order and however often these stand.
+pub same-pieces : {ps qs : List Patch} → ((p : Patch) → List·Memᴰ p ps ↔ List·Memᴰ p qs) → SameCover ps qs
+same-pieces same n q k h = (
+  λ c. record { piece = c .piece; listed = same (c .piece) .0 (c .listed); ofPanel = c .ofPanel; covers = c .covers },
+  λ c. record { piece = c .piece; listed = same (c .piece) .1 (c .listed); ofPanel = c .ofPanel; covers = c .covers },
+)
+
 -- the same by computing
 abbrev pub panelCovered : List Patch → ℕ → Vec → ℕ → Bool
 panelCovered ps n q k = any (λ (p : Patch). eqb (p .panel) n && covered p q k) ps

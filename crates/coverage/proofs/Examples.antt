@@ -1,21 +1,23 @@
 -- S's square cut in several ways, and scenes that cover other points: what each shows in a window whose lines run along the cuts, and which of them cover the same.
 use mathlib.Core.Path.{_≡_, refl}
 use mathlib.Core.Bool.{Bool, true, false}
-use mathlib.Core.List.{List, [], _∷_, _++_, map, flatten}
+use mathlib.Core.Logic.{_↔_, _⊎_, inl, inr}
+use mathlib.Core.List.{List, [], _∷_, _++_, map, flatten, List·Memᴰ, List·Memᴰ·head, List·Memᴰ·tail, List·Memᴰ·not-nil}
 use Prim.Native.Nat.{ℕ, _+_}
-use lib.Dec.{lit<}
+use lib.Dec.{T, lit<}
 use lib.IntN.{ℤ, pos, negℤ}
 use lib.ListN.{length, replicate}
 use lib.Signed.{ltZ-yes}
 use Rattle.model.specs.Vector.{Vec, Plane, vec, origin}
-use Rattle.model.specs.Patch.{Patch}
+use Rattle.model.specs.Patch.{Patch, Proper}
 use Rattle.model.specs.Format.{decode, patchTable}
 use Rattle.model.proofs.Computing.{everything}
 use Rattle.model.proofs.Encode.{PatchLine, sceneBytes}
-use Rattle.model.proofs.Scenes.{upright, none, nodeLine, patchLine, fittingCall, sceneS}
+use Rattle.model.proofs.Scenes.{upright, none, nodeLine, patchLine, fittingCall, sceneS, sceneTwice}
 use Rattle.model.proofs.Stations.{Bookings, booked}
-use Rattle.coverage.specs.Coverage.{covered, SameCover}
-use Rattle.coverage.proofs.Covered.{told-apart}
+use Rattle.coverage.specs.Coverage.{covered, PanelCovers, SameCover}
+use Rattle.coverage.proofs.Covered.{covers-cases, covers-first, same-pieces, told-apart}
+use Rattle.coverage.proofs.Hull.{same-corners}
 use Rattle.coverage.proofs.Rectangles.{rectangle, cut-in-two}
 
 -- ---- the scenes
@@ -55,6 +57,13 @@ highLeft = vec neg50 (pos 100) (pos 50)
 abbrev centre : Vec
 centre = vec (pos 0) (pos 100) (pos 0)
 
+-- the square as a piece, and the other way round
+abbrev around : Patch
+around = five (lowLeft ∷ lowRight ∷ highRight ∷ highLeft ∷ [])
+
+abbrev back : Patch
+back = five (highLeft ∷ highRight ∷ lowRight ∷ lowLeft ∷ [])
+
 -- four quarters
 abbrev quarters : List ℕ
 quarters =
@@ -88,7 +97,7 @@ overlapping =
     ∷ [])
 
 -- The plane x = 0 as root, with no patch, and a half below each of its sides: the left one is the positive.
-abbrev halves : List ℕ
+abbrev pub halves : List ℕ
 halves =
     sceneBytes
     (nodeLine middlePlane 1 2 0 0
@@ -100,6 +109,10 @@ halves =
   where
     middlePlane : Plane
     middlePlane = record { a = origin; b = vec (pos 0) (pos 0) (pos 1); c = vec (pos 0) (pos 1) (pos 0) }
+
+-- the square with its corners the other way round
+abbrev reversed : List ℕ
+reversed = onePlane (back ∷ [])
 
 -- two panels that overlap, whole, and each cut at x = 0
 abbrev twoPanels : List ℕ
@@ -204,11 +217,7 @@ offSquare =
 
 -- the square, the same from another corner on, and the same the other way round
 abbrev pub squares : List Patch
-squares =
-    five (lowLeft ∷ lowRight ∷ highRight ∷ highLeft ∷ [])
-    ∷ five (highRight ∷ highLeft ∷ lowLeft ∷ lowRight ∷ [])
-    ∷ five (highLeft ∷ highRight ∷ lowRight ∷ lowLeft ∷ [])
-    ∷ []
+squares = around ∷ five (highRight ∷ highLeft ∷ lowLeft ∷ lowRight ∷ []) ∷ back ∷ []
 
 unfoldable pub coversAt : Point → Patch → Bool
 coversAt q p = covered p (q .numerators) (q .denominator)
@@ -225,6 +234,44 @@ pub halves-cover : SameCover (patchTable (decode sceneS)) (patchTable (decode ha
 unfolding everything
 halves-cover =
     cut-in-two 5 {left = neg50} {middle = pos 0} {right = pos 50} {low = neg50} {high = pos 50} (ltZ-yes tt) (ltZ-yes tt) (ltZ-yes tt)
+
+-- So do S and S's square twice.
+pub twice-covers : SameCover (patchTable (decode sceneS)) (patchTable (decode sceneTwice))
+unfolding everything
+twice-covers = same-pieces (λ p. (List·Memᴰ·tail, once))
+  where
+    once : {p r : Patch} → List·Memᴰ p (r ∷ r ∷ []) → List·Memᴰ p (r ∷ [])
+    once (List·Memᴰ·head e) = List·Memᴰ·head e
+    once (List·Memᴰ·tail m) = m
+
+-- And S and its square with the corners the other way round.
+pub reversed-covers : SameCover (patchTable (decode sceneS)) (patchTable (decode reversed))
+unfolding everything patchLines
+reversed-covers n q k h = (
+  λ c. alone around back (same-corners properAround properBack turned q k .0) (covers-cases c),
+  λ c. alone back around (same-corners properAround properBack turned q k .1) (covers-cases c),
+)
+  where
+    alone :
+        (p r : Patch) → (T (covered p q k) → T (covered r q k)) →
+        ((r .panel ≡ n) × T (covered p q k)) ⊎ PanelCovers [] n q k → PanelCovers (r ∷ []) n q k
+    alone p r f (inl (e, t)) = covers-first e (f t)
+    alone p r f (inr c) = absurd (List·Memᴰ·not-nil (c .listed))
+
+    properAround : Proper around
+    properAround = record { counted = tt; isFlat = tt; isConvex = tt }
+
+    properBack : Proper back
+    properBack = record { counted = tt; isFlat = tt; isConvex = tt }
+
+    mirrored : {a b c d v : Vec} → List·Memᴰ v (a ∷ b ∷ c ∷ d ∷ []) → List·Memᴰ v (d ∷ c ∷ b ∷ a ∷ [])
+    mirrored (List·Memᴰ·head e) = List·Memᴰ·tail (List·Memᴰ·tail (List·Memᴰ·tail (List·Memᴰ·head e)))
+    mirrored (List·Memᴰ·tail (List·Memᴰ·head e)) = List·Memᴰ·tail (List·Memᴰ·tail (List·Memᴰ·head e))
+    mirrored (List·Memᴰ·tail (List·Memᴰ·tail (List·Memᴰ·head e))) = List·Memᴰ·tail (List·Memᴰ·head e)
+    mirrored (List·Memᴰ·tail (List·Memᴰ·tail (List·Memᴰ·tail (List·Memᴰ·head e)))) = List·Memᴰ·head e
+
+    turned : (c : Vec) → List·Memᴰ c (around .corners) ↔ List·Memᴰ c (back .corners)
+    turned c = (mirrored, mirrored)
 
 -- With the gap they do not: the point (1/2, 100, 0) is in it. Nor with the left half as panel 4.
 pub gap-uncovered : SameCover (patchTable (decode sceneS)) (patchTable (decode gap)) → ⊥

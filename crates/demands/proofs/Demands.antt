@@ -15,20 +15,20 @@ use Rattle.model.specs.Ray.{closest}
 use Rattle.model.specs.View.{Camera, View, viewWidth, viewHeight}
 use Rattle.model.specs.Station.{Station, eyeOf, viewAt}
 use Rattle.model.specs.Beside.{ShownBeside, cellLine}
-use Rattle.model.specs.Lent.{Lent}
-use Rattle.model.specs.Format.{decode}
-use Rattle.model.specs.Row.{rowOf, rowLength}
+use Rattle.model.specs.Lent.{Lent, lengthsOf}
+use Rattle.model.specs.Format.{decode, patchesIn}
+use Rattle.model.specs.Row.{rowOf, rowLength, listOf}
 use Rattle.model.specs.Map.{rowWords, rowBits, mapRow, litAt, SameCells, wordsOf, insideMap, litCells, firstOf, firstUnlit}
 use Rattle.model.specs.Picture.{cells, picture, counts, countEntries, unlitLists, litMap}
 use Rattle.model.specs.Accepted.{AcceptedScene}
-use Rattle.model.specs.Questions.{Question, answer, sceneQuestions, callQuestions, questions, surveyAnswer}
+use Rattle.model.specs.Questions.{Question, answer, sceneQuestions, sceneAnswer, lengthsFit, counterBelowEnd, callQuestions, questions, surveyAnswer}
 use Rattle.model.specs.Booking.{cellsWhere}
 use Rattle.model.specs.Survey.{callPicture, callCounts, callPatchCells, callUnlit, callLit}
 use Rattle.model.specs.Removal.{kept, TakenAway}
 use Rattle.model.proofs.Tests.{both}
 use Rattle.model.proofs.Ranges.{range-length, rows-part, rows-length, in-range}
 use Rattle.model.proofs.Totals.{total, total-cong}
-use Rattle.model.proofs.Answers.{AcceptedCall, accepted-call, all-yes, answer-yes, answer-done}
+use Rattle.model.proofs.Answers.{AcceptedCall, accepted-call, accepted-scene, all-yes, answer-yes, answer-done}
 use Rattle.model.proofs.Alike.{Sound}
 use Rattle.model.proofs.PatchTables.{table-sound, kept-sound}
 use Rattle.model.proofs.BesideCells.{beside-right, beside-only, beside-has}
@@ -47,10 +47,10 @@ use Rattle.model.proofs.PanelNumbers.{panel-bounded}
 use Rattle.contract.specs.Contract.{callOn, results, leftBy, Surveyed}
 use Rattle.coverage.specs.Coverage.{SameCover}
 use Rattle.coverage.proofs.Agreement.{same-cells}
-use Rattle.demands.specs.Demands.{patchesIn, listOf, cell, patchHas, RefusesRightly, ClosestPanels, ClosestSurveyed, ChosenTakenAway, DemandThree, SameSurvey, TwoCuttings, PairSurveyed}
+use Rattle.demands.specs.Demands.{cell, patchHas, RefusesRightly, ClosestPanels, ClosestSurveyed, ChosenTakenAway, DemandThree, SameSurvey, TwoCuttings, PairSurveyed}
 
 -- an accepted call leaves the results
-pub accepted-leaves :
+accepted-leaves :
     {bytes : List ℕ} {s : Station} {c : Camera} {before after : Lent} {result : ℕ} →
     Surveyed bytes s c before after result →
     result ≡ 0 →
@@ -66,6 +66,26 @@ accepted :
     result ≡ 0 →
     AcceptedCall (callOn bytes s c before)
 accepted {bytes} {s} {c} {before} h e = accepted-call (callOn bytes s c before) .0 (sym (h .answered) ∙ e)
+
+-- F-5 says "From every accepted view": a station and a camera are accepted with both scenes or with neither, for 15, 10 and 14 do not look at the scene.
+pub accepted-with-both :
+    (firstBytes secondBytes : List ℕ) (s : Station) (c : Camera) (before₁ before₂ : Lent) →
+    surveyAnswer (callOn firstBytes s c before₁) ≡ 0 →
+    sceneAnswer secondBytes ≡ 0 →
+    T (lengthsFit c (length (decode secondBytes .patches)) (lengthsOf before₂)) →
+    T (counterBelowEnd (before₂ .counter)) →
+    surveyAnswer (callOn secondBytes s c before₂) ≡ 0
+accepted-with-both firstBytes secondBytes s c before₁ before₂ e scene lengths counter =
+    let first = accepted-call (callOn firstBytes s c before₁) .0 e in
+    accepted-call (callOn secondBytes s c before₂) .1
+    (record {
+      scene = accepted-scene secondBytes .0 scene;
+      station = first .station;
+      view = first .view;
+      axes = first .axes;
+      lengths = lengths;
+      counter = counter;
+    })
 
 -- the answer is 0 exactly if every question says yes, where no question has the number 0
 all-yes-says : {A : Type 0} (qs : List (Question A)) (a : A) → T (every (λ (q : Question A). not (eqb (q .number) 0)) qs)
@@ -121,7 +141,8 @@ module _ (bytes : List ℕ) (s : Station) (c : Camera) (before : Lent) (accepted
       listOf (callUnlit (callOn bytes s c before)) j ≡ rowOf (viewWidth v) (noneAt j)
   unfolding callUnlit unlitLists callPicture
   unlit-row j h =
-      rows-part rowLength cellRow (λ k. row-length (viewWidth v) _) 0 (viewHeight v) j h
+      ap (λ (n : ℕ). take rowLength (drop n (unlitLists (viewWidth v) (viewHeight v) (λ (i j : ℕ). closest (v .eye) (cellLine (v .camera) i j) (patchesIn bytes))))) (mul-comm rowLength j)
+      ∙ rows-part rowLength cellRow (λ k. row-length (viewWidth v) _) 0 (viewHeight v) j h
       ∙ ap cellRow (zero-add j)
       ∙ row-congr (viewWidth v) _ _
       (λ i k. ap (λ (n : ℕ). eqb n 0) (sym (at i j k h)))

@@ -5,15 +5,15 @@ use mathlib.Core.Logic.{_↔_}
 use mathlib.Core.List.{List, map, sum}
 use Prim.Native.Nat.{ℕ, _+_, _*_, _≤_, _<_}
 use lib.Dec.{T, eqb}
-use lib.ListN.{length, getD, take, drop}
+use lib.ListN.{length, getD}
 use Rattle.model.specs.Lists.{every, range, tally, occurrences}
-use Rattle.model.specs.Patch.{Patch, numbered}
+use Rattle.model.specs.Patch.{numbered}
 use Rattle.model.specs.View.{Camera, View, viewWidth, viewHeight}
 use Rattle.model.specs.Station.{Station, eyeOf, viewAt}
 use Rattle.model.specs.Beside.{ShownBeside, HasBeside, cellLine}
 use Rattle.model.specs.Lent.{Lent}
-use Rattle.model.specs.Format.{decode, patchTable}
-use Rattle.model.specs.Row.{rowOf, rowLength}
+use Rattle.model.specs.Format.{patchesIn}
+use Rattle.model.specs.Row.{rowOf, rowLength, listOf}
 use Rattle.model.specs.Map.{rowWords, rowBits, litColumn, litAt, SameCells, wordsOf, litCells, firstOf, firstUnlit}
 use Rattle.model.specs.Picture.{countEntries}
 use Rattle.model.specs.Booking.{hasCell, cellsWhere}
@@ -22,14 +22,6 @@ use Rattle.model.specs.Questions.{Question, questions, surveyAnswer}
 use Rattle.model.specs.Removal.{isChosen, kept, TakenAway}
 use Rattle.contract.specs.Contract.{callOn, results, Surveyed}
 use Rattle.coverage.specs.Coverage.{SameCover}
-
--- the patches of a scene
-abbrev pub patchesIn : List ℕ → List Patch
-patchesIn bytes = patchTable (decode bytes)
-
--- row j's part of the unlit lists
-abbrev pub listOf : List ℕ → ℕ → List ℕ
-listOf unlit j = take rowLength (drop (j * rowLength) unlit)
 
 -- cell (i, j) of a view's picture
 abbrev pub cell : View → List ℕ → ℕ → ℕ → ℕ

@@ -6,8 +6,8 @@ use Prim.Native.Nat.{ℕ}
 use Rattle.model.specs.Lists.{every, range}
 use Rattle.model.specs.Vector as model
 use Rattle.model.specs.Vector.{turnedOver}
-use Rattle.model.specs.Patch.{Patch}
-use Rattle.model.specs.Tree.{Tree, leaf, contents, mapTree, liesOn, inFront, divides}
+use Rattle.model.specs.Patch.{Patch, liesOn}
+use Rattle.model.specs.Tree.{Tree, leaf, contents, mapTree, liesPositive, divides}
 use Rattle.model.specs.Format.{decode, patchNumbered}
 use Rattle.geometry.specs.Machine.{planeOf}
 use Rattle.format.specs.declared.records.Node.{Node}
@@ -102,8 +102,8 @@ divides-node {bytes} {n} is =
           ∙ ap₂
           (λ (front back : List Patch).
           every (liesOn s) (map f (range (n .patches .first) (n .patches .count)))
-          && every (inFront s) front
-          && every (inFront (turnedOver s)) back
+          && every (liesPositive s) front
+          && every (liesPositive (turnedOver s)) back
           && divides (patchTreeBelow bytes (n .positive))
           && divides (patchTreeBelow bytes (n .negative)))
           (contents-map f (treeBelow bytes (n .positive))) (contents-map f (treeBelow bytes (n .negative)));

@@ -11,8 +11,8 @@ use Rattle.integer.proofs.Order.{leZ-not}
 use Rattle.model.specs.Lists.{every, any}
 use Rattle.model.specs.Vector as model
 use Rattle.model.specs.Vector.{Vec, side, minus, dot, isZero, turnedOver}
-use Rattle.model.specs.Patch.{Patch}
-use Rattle.model.specs.Tree.{liesOn, inFront}
+use Rattle.model.specs.Patch.{Patch, liesOn}
+use Rattle.model.specs.Tree.{liesPositive}
 use Rattle.model.proofs.Vectors.{side-turned}
 use Rattle.halfspaces.specs.Sides.{PlaneIs, sideOf, onNegative, onPositive, held}
 use Rattle.halfspaces.specs.declared.planes.Plane.{Plane}
@@ -82,8 +82,8 @@ module _ {s : model.Plane} {r : Plane} (is : PlaneIs s r) where
           ∙ every-neither (onNegative r) (onPositive r) (p .corners)
           ∙ sym (ap₂ _&&_ (same-false (any (onNegative r) (p .corners))) (same-false (any (onPositive r) (p .corners))))
 
-  pub held-front : inFront s ≡ held r (record { negative = false; positive = true })
-  unfolding inFront held
+  pub held-front : liesPositive s ≡ held r (record { negative = false; positive = true })
+  unfolding liesPositive held
   held-front = λ i p. front p i
     where
       front : (p : Patch) →
@@ -95,8 +95,8 @@ module _ {s : model.Plane} {r : Plane} (is : PlaneIs s r) where
           ∙ every-not (onNegative r) (p .corners) ∙ sym (same-false (any (onNegative r) (p .corners))))
           ((λ i. any (λ (c : Vec). ltZ (pos 0) (side-is c i)) (p .corners)) ∙ sym (same-true (any (onPositive r) (p .corners))))
 
-  pub held-back : inFront (turnedOver s) ≡ held r (record { negative = true; positive = false })
-  unfolding inFront held
+  pub held-back : liesPositive (turnedOver s) ≡ held r (record { negative = true; positive = false })
+  unfolding liesPositive held
   held-back = λ i p. back p i
     where
       turned : (c : Vec) → side (turnedOver s) c ≡ negℤ (sideOf r c)

@@ -6,7 +6,8 @@ use lib.IntN.{ℤ}
 use Rattle.model.specs.Lists.{every, range}
 use Rattle.model.specs.Vector as model
 use Rattle.model.specs.Vector.{turnedOver}
-use Rattle.model.specs.Tree.{contents, liesOn, inFront}
+use Rattle.model.specs.Patch.{liesOn}
+use Rattle.model.specs.Tree.{contents, liesPositive}
 use Rattle.model.specs.Format.{decode, patchNumbered}
 use Rattle.geometry.specs.Machine.{planeOf}
 use Rattle.format.specs.declared.records.Node.{Node}
@@ -33,5 +34,5 @@ unfoldable pub nodeDivides : List ℕ → Node → Bool
 nodeDivides bytes n =
     let s : model.Plane = planeOf (n .a) (n .b) (n .c) in
     every (liesOn s) (map (patchNumbered (decode bytes)) (range (n .patches .first) (n .patches .count)))
-    && every (inFront s) (map (patchNumbered (decode bytes)) (contents (treeBelow bytes (n .positive))))
-    && every (inFront (turnedOver s)) (map (patchNumbered (decode bytes)) (contents (treeBelow bytes (n .negative))))
+    && every (liesPositive s) (map (patchNumbered (decode bytes)) (contents (treeBelow bytes (n .positive))))
+    && every (liesPositive (turnedOver s)) (map (patchNumbered (decode bytes)) (contents (treeBelow bytes (n .negative))))

@@ -33,19 +33,19 @@ module _ (cs : List Vec) (i : ℕ) (h : i < length cs) where
   from-corner : round cs i ≡ getD cs i origin ∷ (drop (suc i) cs ++ take i cs)
   from-corner = ap (λ (l : List Vec). l ++ take i cs) (drop-cons cs i origin h)
 
-  pub edge-from : firstEdge (round cs i) .from ≡ getD cs i origin
+  edge-from : firstEdge (round cs i) .from ≡ getD cs i origin
   edge-from = ap (λ (l : List Vec). firstEdge l .from) from-corner ∙ begins (drop (suc i) cs ++ take i cs)
     where
       begins : (rest : List Vec) → firstEdge (getD cs i origin ∷ rest) .from ≡ getD cs i origin
       begins [] = refl
       begins (w ∷ rest) = refl
 
-  pub edge-to-next : suc i < length cs → firstEdge (round cs i) .to ≡ getD cs (suc i) origin
+  edge-to-next : suc i < length cs → firstEdge (round cs i) .to ≡ getD cs (suc i) origin
   edge-to-next k =
       ap (λ (l : List Vec). firstEdge l .to)
       (from-corner ∙ ap (λ (l : List Vec). getD cs i origin ∷ (l ++ take i cs)) (drop-cons cs (suc i) origin k))
 
-  pub edge-to-first : 1 < length cs → length cs ≤ suc i → firstEdge (round cs i) .to ≡ getD cs 0 origin
+  edge-to-first : 1 < length cs → length cs ≤ suc i → firstEdge (round cs i) .to ≡ getD cs 0 origin
   edge-to-first k e =
       ap (λ (l : List Vec). firstEdge l .to)
       (from-corner ∙ ap (λ (l : List Vec). getD cs i origin ∷ (l ++ take i cs)) (drop-of-length-le cs e))
@@ -68,7 +68,7 @@ module _ (eye : Vec) (p : Patch) where
   oriented-at i h = ap (λ (l : List Vec). getD l i origin) oriented-table ∙ table-at fromCorner (length (p .corners)) i origin h
 
 -- ---- the corner at the next place is the edge's end
-pub next-end : (cs : List Vec) (i : ℕ) → i < length cs → 1 < length cs → getD cs (nextCorner (length cs) i) origin ≡ firstEdge (round cs i) .to
+next-end : (cs : List Vec) (i : ℕ) → i < length cs → 1 < length cs → getD cs (nextCorner (length cs) i) origin ≡ firstEdge (round cs i) .to
 next-end cs i h some = go (ltb (suc i) (length cs)) refl
   where
     go : (t : Bool) → ltb (suc i) (length cs) ≡ t → getD cs (cond t (suc i) 0) origin ≡ firstEdge (round cs i) .to

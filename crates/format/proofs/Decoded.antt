@@ -42,7 +42,7 @@ module _ {bytes : List ℕ} {l : Layout} (laid : LaidOut bytes l) where
       ap (inRun (record { first = a; count = b })) (laid .patches)
       ∙ run-of-table (patchNumber bytes l) (l .patches) a b h
 
-  pub corners-in :
+  corners-in :
       (a b : ℕ) →
       a + b ≤ l .corners →
       inRun (record { first = a; count = b }) (decode bytes .corners) ≡ map (cornerNumber bytes l) (range a b)

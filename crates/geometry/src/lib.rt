@@ -52,7 +52,7 @@ pub fn parts_up_to(n: u16, v: Vector) -> bool
 }
 
 // b − a
-pub fn from_to(a: Vector, b: Vector) -> Vector
+fn from_to(a: Vector, b: Vector) -> Vector
     requires { ⌜ Bounded 10000 a × Bounded 10000 b ⌝ }
     ensures { λ r. ⌜ VectorIs 20000 (minus (vecOf b) (vecOf a)) r ⌝ }
 {

@@ -1,7 +1,7 @@
 -- On which sides of a plane a patch has corners, and what that says of it.
 use mathlib.Core.Path.{_≡_, refl, sym, ap, ap₂, subst, _∙_}
-use mathlib.Core.Bool.{Bool, true, false, _&&_, _||_, Bool·beq, or-true, or-false, or-assoc}
-use mathlib.Core.List.{List, [], _∷_, _++_, map, map-append}
+use mathlib.Core.Bool.{Bool, true, false, _&&_, _||_, Bool·beq, or-true, or-false}
+use mathlib.Core.List.{List, [], _∷_, map, map-append}
 use Prim.Native.Nat.{ℕ, _+_, _≤_, _<_}
 use native.Mathlib.Omega.{arith}
 use lib.IntN.{ℤ, pos}
@@ -17,6 +17,7 @@ use Rattle.halfspaces.specs.Sides.{sideOf, onNegative, onPositive, Sides
 use Rattle.checked.specs.Checked.{CornersAre}
 use Rattle.halfspaces.specs.declared.planes.Plane.{Plane}
 use Rattle.halfspaces.specs.declared.planes.Sides.{Sides}
+use Rattle.model.proofs.Tests.{any-append}
 use Rattle.model.proofs.Ranges.{range-append}
 
 -- ---- one corner more
@@ -41,10 +42,6 @@ pub left-false : {a : Bool} (b : Bool) → a ≡ false → a ≡ (a && b)
 left-false b e = rw e
 
 -- ---- the corners of a patch, one after another
-
-any-append : {A : Type 0} (test : A → Bool) (s t : List A) → any test (s ++ t) ≡ (any test s || any test t)
-any-append test [] t = refl
-any-append test (a ∷ s) t = ap (λ (b : Bool). test a || b) (any-append test s t) ∙ sym (or-assoc (test a) (any test s) (any test t))
 
 -- while the corners of a run are looked at: on which sides the first k lie
 pub record Found (s : Plane) (corner : ℕ → Vec) (first count : ℕ) (found : Sides) (k : ℕ) : Type 0 where

@@ -1,4 +1,3 @@
 -- Laws that the proofs of this crate cite.
 mod Caps
-mod Told
 mod Inputs

@@ -1,16 +1,17 @@
 // The survey that an input asks for: an eye and a window (12 bytes), and a scene.
 use call::area;
-use header::read_header;
-use header::sizes::HEADER_SIZE;
-use header::sizes::MOST_PATCHES;
-use header::sizes::PATCH_SIZE;
 use little_endian::i16_at;
 use little_endian::u16_at;
+use room::buffer;
+use room::capped;
+use room::map;
+use room::patches_told;
+use room::table;
 ghost use mathlib.Core.Path.{_≡_};
-ghost use Prim.Native.Nat.{_+_, _≤_, min};
+ghost use Prim.Native.Nat.{_+_, _≤_};
 ghost use lib.ListN.{length};
-ghost use Rattle.model.specs.Format.{u16At, decode};
-ghost use Rattle.model.specs.Questions.{sceneAnswer, surveyAnswer};
+ghost use Rattle.model.specs.Format.{u16At};
+ghost use Rattle.model.specs.Questions.{surveyAnswer};
 ghost use Rattle.input.specs.Input.{inputCall, inputCounts};
 
 // a field of two bytes
@@ -19,47 +20,6 @@ pub fn word(bytes: &[u8], at: usize) -> u16
     ensures { λ r. ⌜ r ≡ u16At (now (bytes .entry)) at ⌝ }
 {
     u16_at(bytes, at) as u16
-}
-
-// What is wanted of a buffer, as far as it goes: where that is less, a question before 11 has said no.
-fn capped(wanted: usize, room: usize) -> usize
-    ensures { λ r. ⌜ r ≡ min wanted room ⌝ }
-    ensures { λ r. ⌜ r ≤ room ⌝ }
-{
-    if wanted < room { wanted } else { room }
-}
-
-// How many patches the scene's header tells of, as far as there is room. A scene without a header is refused, so any number will do.
-fn patches_told(scene: &[u8]) -> usize
-    ensures { λ r. ⌜ (sceneAnswer (now (scene .entry)) ≡ 0 → r ≡ length (decode (now (scene .entry)) .patches)) ⌝ }
-    ensures { λ r. ⌜ r ≤ 1024 ⌝ }
-{
-    if scene.len() < HEADER_SIZE {
-        return 0;
-    }
-    let h = read_header(scene);
-    capped(h.patches.size / PATCH_SIZE, MOST_PATCHES)
-}
-
-// Room for the largest picture, and for the unlit lists of its rows. The contract gives the length, which lending a part needs.
-fn buffer() -> [u16; 32768]
-    ensures { λ r. ⌜ 32768 ≡ length r ⌝ }
-{
-    [0; 32768]
-}
-
-// Room for the cells of the most patches.
-fn table() -> [u32; 1024]
-    ensures { λ r. ⌜ 1024 ≡ length r ⌝ }
-{
-    [0; 1024]
-}
-
-// Room for the lit map of the most rows.
-fn map() -> [u64; 512]
-    ensures { λ r. ⌜ 512 ≡ length r ⌝ }
-{
-    [0; 512]
 }
 
 // The survey of an input of an eye, a window and a scene, seen by a level camera, with the station counter at 0: the answer, and the counts.

@@ -60,7 +60,7 @@ pub ring : (ρ : List ℤ) {x y : ℤ} → (r : Sides ρ x y) × T (isZero (apar
 ring ρ p = by-zero (sym (apart-val (p .0)) ∙ isZero-val ρ (apart (p .0)) (p .1))
 
 -- Equations that follow from others: their difference is a sum of multiples of the others' differences, which `ring` shows.
-pub multiple : (k : ℤ) {u v : ℤ} → u ≡ v → k *ℤ (u -ℤ v) ≡ pos zero
+multiple : (k : ℤ) {u v : ℤ} → u ≡ v → k *ℤ (u -ℤ v) ≡ pos zero
 multiple k {u} {v} e = ap (λ z. k *ℤ (z -ℤ v)) e ∙ ap (λ z. k *ℤ z) (+ℤ-invr v) ∙ *ℤ-zero k
 
 pub combine₁ : {l r : ℤ} (k : ℤ) {u v : ℤ} → u ≡ v → l -ℤ r ≡ k *ℤ (u -ℤ v) → l ≡ r

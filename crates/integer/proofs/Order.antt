@@ -36,7 +36,7 @@ ltZ-suc (negsuc zero) (negsuc (suc b)) = sym (leb·suc-zero (suc b))
 ltZ-suc (negsuc (suc a)) (negsuc zero) = sym (leb·suc-suc zero a ∙ leb·zero a)
 ltZ-suc (negsuc (suc a)) (negsuc (suc b)) = sym (leb·suc-suc (suc b) a)
 
-pub ltZ-shift : (c a b : ℤ) → ltZ (a +ℤ c) (b +ℤ c) ≡ ltZ a b
+ltZ-shift : (c a b : ℤ) → ltZ (a +ℤ c) (b +ℤ c) ≡ ltZ a b
 ltZ-shift c a b = induct (λ c. ltZ (a +ℤ c) (b +ℤ c) ≡ ltZ a b)
     (ap₂ ltZ (+ℤ-idr a) (+ℤ-idr b))
     (λ k ih. ap₂ ltZ (+ℤ-sucℤ a k) (+ℤ-sucℤ b k) ∙ ltZ-suc (a +ℤ k) (b +ℤ k) ∙ ih)
@@ -173,11 +173,8 @@ true-T false h = absurd h
 pub lt-ltZ : {a b : ℤ} → a <ℤ b → ltZ a b ≡ true
 lt-ltZ {a} {b} h = true-T (ltZ a b) (h .lt)
 
-pub le-leZ : {a b : ℤ} → a ≤ℤ b → leZ a b ≡ true
+le-leZ : {a b : ℤ} → a ≤ℤ b → leZ a b ≡ true
 le-leZ {a} {b} h = true-T (leZ a b) (h .le)
-
-pub lt-leZ : {a b : ℤ} → b <ℤ a → leZ a b ≡ false
-lt-leZ {a} {b} h = leZ-not a b ∙ ap not (lt-ltZ h)
 
 pub le-ltZ : {a b : ℤ} → b ≤ℤ a → ltZ a b ≡ false
 le-ltZ {a} {b} h = go (ltZ a b) (sym (leZ-not b a) ∙ le-leZ h)

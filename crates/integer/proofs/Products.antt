@@ -94,9 +94,6 @@ zero-product a b e = go (compared (pos zero) a)
     go (above h) = inr (*-zero-cancel (neg-of-neg h) (negℤ-*ℤ a b ∙ ap negℤ e))
 
 -- an order, by a positive multiple of the difference
-pub <-by-multiple : {a b k w : ℤ} → pos zero <ℤ k → pos zero <ℤ w → k *ℤ (b -ℤ a) ≡ w → a <ℤ b
-<-by-multiple p h e = <-by (*-pos-cancel p (subst (λ z. pos zero <ℤ z) (sym e) h)) refl
-
 pub ≤-by-multiple : {a b k w : ℤ} → pos zero <ℤ k → pos zero ≤ℤ w → k *ℤ (b -ℤ a) ≡ w → a ≤ℤ b
 ≤-by-multiple p h e = ≤-by (*-nonneg-cancel p (subst (λ z. pos zero ≤ℤ z) (sym e) h)) refl
 

@@ -32,7 +32,7 @@ pub *ℤ-distribl : (a b c : ℤ) → a *ℤ (b +ℤ c) ≡ a *ℤ b +ℤ a *ℤ
 *ℤ-distribl a b c = *ℤ-comm a (b +ℤ c) ∙ *ℤ-distribr b c a ∙ ap₂ _+ℤ_ (*ℤ-comm b a) (*ℤ-comm c a)
 
 -- what cancels against b is its negation
-pub negℤ-unique : (a b : ℤ) → a +ℤ b ≡ pos zero → a ≡ negℤ b
+negℤ-unique : (a b : ℤ) → a +ℤ b ≡ pos zero → a ≡ negℤ b
 negℤ-unique a b e = sym (+ℤ-negℤ-cancel a b) ∙ ap (λ x. x -ℤ b) e ∙ +ℤ-idl (negℤ b)
 
 pub negℤ-*ℤ : (a b : ℤ) → negℤ a *ℤ b ≡ negℤ (a *ℤ b)

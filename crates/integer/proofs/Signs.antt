@@ -9,12 +9,11 @@ use lib.Dec.{T, lt→ltb, ltb→lt}
 use lib.IntN.{ℤ, pos, negsuc, negℤ, natAbs, _+ℤ_, _*ℤ_, zero-*ℤ, *ℤ-zero, *ℤ-comm, pos-ne-negsuc}
 use lib.Signed.{ltZ, _≤ℤ_, _<ℤ_, ltZ-yes, clashℤ}
 use Rattle.integer.specs.Magnitude.{signOf}
-use Rattle.integer.proofs.Ring.{one-*ℤ}
 use Rattle.integer.proofs.Identity.{ring, reify}
 use Rattle.integer.proofs.Order.{<-by, ≤-by, <→≤, +-pos-nonneg, Compared, below, same, above, compared}
 use Rattle.integer.proofs.Products.{*-pos, *-nonneg, *-pos-cancel, *-nonneg-cancel, zero-product, sq-pos, pos→≢}
 
-pub sign-neg : (a : ℤ) → signOf (negℤ a) ≡ negℤ (signOf a)
+sign-neg : (a : ℤ) → signOf (negℤ a) ≡ negℤ (signOf a)
 unfolding signOf
 sign-neg (pos zero) = refl
 sign-neg (pos (suc n)) = refl
@@ -25,7 +24,7 @@ unfolding signOf
 sign-of-ℕ zero h = absurd (omega arith)
 sign-of-ℕ (suc n) h = refl
 
-pub sign-* : (a b : ℤ) → signOf (a *ℤ b) ≡ signOf a *ℤ signOf b
+sign-* : (a b : ℤ) → signOf (a *ℤ b) ≡ signOf a *ℤ signOf b
 unfolding signOf
 sign-* (pos zero) b = ap signOf (zero-*ℤ b) ∙ sym (zero-*ℤ (signOf b))
 sign-* (pos (suc m)) (pos zero) = ap signOf (*ℤ-zero (pos (suc m)))
@@ -35,20 +34,7 @@ sign-* (negsuc m) (pos zero) = ap signOf (*ℤ-zero (negsuc m))
 sign-* (negsuc m) (pos (suc n)) = sign-neg (pos (suc m * suc n)) ∙ ap negℤ (sign-of-ℕ (suc m * suc n) (mul-pos (zero-lt-suc m) (zero-lt-suc n)))
 sign-* (negsuc m) (negsuc n) = sign-of-ℕ (suc m * suc n) (mul-pos (zero-lt-suc m) (zero-lt-suc n))
 
--- the sign times the number is the magnitude, and times the magnitude the number
-pub sign-abs : (a : ℤ) → signOf a *ℤ a ≡ pos (natAbs a)
-unfolding signOf
-sign-abs (pos zero) = refl
-sign-abs (pos (suc n)) = one-*ℤ (pos (suc n))
-sign-abs (negsuc n) = one-*ℤ (pos (suc n))
-
-pub sign-natAbs : (a : ℤ) → signOf a *ℤ pos (natAbs a) ≡ a
-unfolding signOf
-sign-natAbs (pos zero) = refl
-sign-natAbs (pos (suc n)) = one-*ℤ (pos (suc n))
-sign-natAbs (negsuc n) = ap negℤ (one-*ℤ (pos (suc n)))
-
-pub sign-pos : (a : ℤ) → (signOf a ≡ pos 1) ↔ (pos zero <ℤ a)
+sign-pos : (a : ℤ) → (signOf a ≡ pos 1) ↔ (pos zero <ℤ a)
 unfolding signOf
 sign-pos a = (λ e. to a e, λ h. from a (h .lt))
   where
@@ -60,28 +46,6 @@ sign-pos a = (λ e. to a e, λ h. from a (h .lt))
     from : (a : ℤ) → T (ltZ (pos zero) a) → signOf a ≡ pos 1
     from (pos n) t = sign-of-ℕ n (ltb→lt zero n t)
     from (negsuc n) t = absurd t
-
-pub sign-negative : (a : ℤ) → (signOf a ≡ negsuc 0) ↔ (a <ℤ pos zero)
-unfolding signOf
-sign-negative a = (λ e. to a e, λ h. from a (h .lt))
-  where
-    to : (a : ℤ) → signOf a ≡ negsuc 0 → a <ℤ pos zero
-    to (pos zero) e = absurd (pos-ne-negsuc 0 0 e)
-    to (pos (suc n)) e = absurd (pos-ne-negsuc 1 0 e)
-    to (negsuc n) e = ltZ-yes tt
-
-    from : (a : ℤ) → T (ltZ a (pos zero)) → signOf a ≡ negsuc 0
-    from (pos n) t = absurd (omega (arith, ltb→lt n zero t))
-    from (negsuc n) t = refl
-
-pub sign-zero : (a : ℤ) → (signOf a ≡ pos 0) ↔ (a ≡ pos 0)
-unfolding signOf
-sign-zero a = (λ e. to a e, λ e. ap signOf e)
-  where
-    to : (a : ℤ) → signOf a ≡ pos 0 → a ≡ pos 0
-    to (pos zero) e = refl
-    to (pos (suc n)) e = absurd (omega (arith, ap natAbs e))
-    to (negsuc n) e = absurd (omega (arith, ap natAbs e))
 
 -- ---- both positive or both negative
 pub record SameSign (a b : ℤ) : Type 0 where
@@ -111,7 +75,7 @@ pub same-pos : {s a : ℤ} → pos zero <ℤ s → SameSign s a → pos zero <�
 same-pos p h = *-pos-cancel p (h .agree)
 
 -- by the sign
-pub same-sign : {a b : ℤ} → SameSign a b → signOf a ≡ signOf b
+same-sign : {a b : ℤ} → SameSign a b → signOf a ≡ signOf b
 unfolding signOf
 same-sign {a} {b} h = go a b (sym (sign-* a b) ∙ sign-pos (a *ℤ b) .1 (h .agree))
   where
@@ -126,7 +90,7 @@ same-sign {a} {b} h = go a b (sym (sign-* a b) ∙ sign-pos (a *ℤ b) .1 (h .ag
     go (negsuc m) (pos (suc n)) e = absurd (pos-ne-negsuc 1 0 (sym e))
     go (negsuc m) (negsuc n) e = refl
 
-pub sign-same : {a b : ℤ} → signOf a ≡ signOf b → a ≢ pos zero → SameSign a b
+sign-same : {a b : ℤ} → signOf a ≡ signOf b → a ≢ pos zero → SameSign a b
 sign-same {a} {b} e f =
     record { agree = sign-pos (a *ℤ b) .0 (sign-* a b ∙ ap (λ z. signOf a *ℤ z) (sym e) ∙ sym (sign-* a a) ∙ sign-pos (a *ℤ a) .1 (sq-pos f)) }
 

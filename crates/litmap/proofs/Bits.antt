@@ -66,7 +66,7 @@ not-digit n m e = go (digit m)
     go (inl f) = let g : n % 2 ≡ 1 = omega arith in rw (f, g)
     go (inr f) = let g : n % 2 ≡ 0 = omega arith in rw (f, g)
 
-pub bit-not : (k b w : ℕ) → b < k → w < 2 ^ k → bitOf ((2 ^ k - 1) - w) b ≡ not (bitOf w b)
+bit-not : (k b w : ℕ) → b < k → w < 2 ^ k → bitOf ((2 ^ k - 1) - w) b ≡ not (bitOf w b)
 bit-not zero b w h l = absurd (omega arith)
 bit-not (suc k) zero w h l =
     let p = pow-suc 2 k in
@@ -139,7 +139,7 @@ first-later f i (suc k) = go (f (suc i)) (first-later f (suc i) k)
     go true e = refl
     go false e = e
 
-pub trailing-first : (k n : ℕ) → trailingZeros k n ≡ firstOf (bitOf n) 0 k
+trailing-first : (k n : ℕ) → trailingZeros k n ≡ firstOf (bitOf n) 0 k
 unfolding trailingZeros
 trailing-first zero n = refl
 trailing-first (suc k) n =
@@ -160,7 +160,7 @@ add-digit n m = go (digit n)
     go (inl e) = rw e (omega arith)
     go (inr e) = rw e (omega arith)
 
-pub ones-tally : (k n : ℕ) → n < 2 ^ k → ones n ≡ tally (bitOf n) (range 0 k)
+ones-tally : (k n : ℕ) → n < 2 ^ k → ones n ≡ tally (bitOf n) (range 0 k)
 unfolding ones
 ones-tally zero n h = let e : n ≡ 0 = omega arith in ap ones e
 ones-tally (suc k) n h =

@@ -1,18 +1,17 @@
 -- A row of four words: its lit cells word by word, and its first unlit column.
-use mathlib.Core.Path.{_≡_, refl, sym, ap, ap₂, _∙_}
+use mathlib.Core.Path.{_≡_, refl, sym, ap, _∙_}
 use mathlib.Core.Logic.{_⊎_, inl, inr}
 use mathlib.Core.Bool.{Bool, true, false, cond, not}
 use mathlib.Core.List.{List, [], _∷_}
-use Prim.Native.Nat.{ℕ, zero, suc, _+_, _*_, _-_, _/_, _%_, _≤_, _<_, min}
+use Prim.Native.Nat.{ℕ, zero, suc, _+_, _*_, _-_, _/_, _≤_, _<_, min}
 use native.Mathlib.Nat.{add-suc, suc-add, add-zero, zero-add}
 use native.Mathlib.Omega.{arith}
-use lib.Dec.{ltb}
 use lib.ListN.{length, getD, take, drop}
 use lib.Seq.{drop-cons}
-use native.Mathlib.Numerals.{add-one}
-use borrow.Author.Tests.{ltb-true, ltb-false, le-leb, lt-leb}
+use borrow.Author.Tests.{le-leb, lt-leb}
 use Rattle.model.specs.Lists.{range, tally}
 use Rattle.model.specs.Map.{firstOf, bitOf, litAt, insideMap, litCells, firstUnlit}
+use Rattle.model.proofs.Tests.{lt-or-ge}
 use Rattle.model.proofs.Ranges.{range-append}
 use Rattle.model.proofs.Totals.{tally-append}
 use Rattle.model.proofs.LitMap.{lit-in-word, tally-same, first-same}
@@ -59,7 +58,7 @@ word-first ws k =
     (λ i h. ap not (lit-in-word ws k i h ∙ ap (bitOf (getD ws k 0)) (sym (zero-add i)))) ∙ zero-add _)
 
 -- ---- the lit cells of four words
-pub row-sum : (ws : List ℕ) →
+row-sum : (ws : List ℕ) →
     tally (litAt ws) (range 0 256)
     ≡ tally (bitOf (getD ws 0 0)) (range 0 64) + tally (bitOf (getD ws 1 0)) (range 0 64) + tally (bitOf (getD ws 2 0)) (range 0 64) + tally (bitOf (getD ws 3 0)) (range 0 64)
 row-sum ws =
@@ -80,7 +79,7 @@ module _ (ws : List ℕ) where
   abbrev whole : ℕ
   whole = firstOf unlit 0 256
 
-  pub in-first : clear 0 < 64 → clear 0 ≡ whole
+  in-first : clear 0 < 64 → clear 0 ≡ whole
   in-first h =
       let e : firstOf unlit 0 64 ≡ clear 0 = word-first ws 0 ∙ zero-add _ in
       sym (first-stops unlit 0 64 192 (omega arith) ∙ e)
@@ -90,16 +89,16 @@ module _ (ws : List ℕ) where
       let e : firstOf unlit 0 64 ≡ clear 0 = word-first ws 0 ∙ zero-add _ in
       first-goes unlit 0 64 192 (omega arith)
 
-  pub in-second : 64 ≤ clear 0 → clear 1 < 64 → 64 + clear 1 ≡ whole
+  in-second : 64 ≤ clear 0 → clear 1 < 64 → 64 + clear 1 ≡ whole
   in-second h k = sym (not-first h ∙ first-stops unlit 64 64 128 (omega (arith, word-first ws 1)) ∙ word-first ws 1)
 
   not-second : 64 ≤ clear 0 → 64 ≤ clear 1 → whole ≡ firstOf unlit 128 128
   not-second h k = not-first h ∙ first-goes unlit 64 64 128 (omega (arith, word-first ws 1))
 
-  pub in-third : 64 ≤ clear 0 → 64 ≤ clear 1 → clear 2 < 64 → 128 + clear 2 ≡ whole
+  in-third : 64 ≤ clear 0 → 64 ≤ clear 1 → clear 2 < 64 → 128 + clear 2 ≡ whole
   in-third h k l = sym (not-second h k ∙ first-stops unlit 128 64 64 (omega (arith, word-first ws 2)) ∙ word-first ws 2)
 
-  pub in-fourth : 64 ≤ clear 0 → 64 ≤ clear 1 → 64 ≤ clear 2 → 192 + clear 3 ≡ whole
+  in-fourth : 64 ≤ clear 0 → 64 ≤ clear 1 → 64 ≤ clear 2 → 192 + clear 3 ≡ whole
   in-fourth h k l = sym (not-second h k ∙ first-goes unlit 128 64 64 (omega (arith, word-first ws 2)) ∙ word-first ws 3)
 
 -- ---- the same for any width
@@ -111,16 +110,9 @@ first-upto f a (suc n) = go (f a) (first-upto f (suc a) n)
     go true h = omega arith
     go false h = omega arith
 
-less-or-not : (a b : ℕ) → (a < b) ⊎ (b ≤ a)
-less-or-not a b = go (ltb a b) refl
-  where
-    go : (t : Bool) → ltb a b ≡ t → (a < b) ⊎ (b ≤ a)
-    go true e = inl (ltb-true a b e)
-    go false e = inr (ltb-false a b e)
-
 -- where the column n passes, a search beyond it finds no more
-pub first-width : (f : ℕ → Bool) (n w : ℕ) → f n ≡ true → firstOf f 0 w ≡ min w (firstOf f 0 n)
-first-width f n w e = go (less-or-not n w)
+first-width : (f : ℕ → Bool) (n w : ℕ) → f n ≡ true → firstOf f 0 w ≡ min w (firstOf f 0 n)
+first-width f n w e = go (lt-or-ge n w)
   where
     short : w ≤ n → (firstOf f 0 w < w) ⊎ (w ≤ firstOf f 0 w) → firstOf f 0 w ≡ min w (firstOf f 0 n)
     short h (inl k) =
@@ -146,33 +138,28 @@ first-width f n w e = go (less-or-not n w)
         omega (arith, first-upto f 0 n)
 
     go : (n < w) ⊎ (w ≤ n) → firstOf f 0 w ≡ min w (firstOf f 0 n)
-    go (inl h) = long h (less-or-not (firstOf f 0 n) n)
-    go (inr h) = short h (less-or-not (firstOf f 0 w) w)
+    go (inl h) = long h (lt-or-ge (firstOf f 0 n) n)
+    go (inr h) = short h (lt-or-ge (firstOf f 0 w) w)
 
 -- ---- the words of a row of the map
-pub four-words : (lit : List ℕ) (j : ℕ) → 4 * (j + 1) ≤ length lit →
+four-words : (lit : List ℕ) (j : ℕ) → 4 * (j + 1) ≤ length lit →
     take 4 (drop (4 * j) lit) ≡ getD lit (4 * j) 0 ∷ getD lit (4 * j + 1) 0 ∷ getD lit (4 * j + 2) 0 ∷ getD lit (4 * j + 3) 0 ∷ []
 four-words lit j h =
+    let second : suc (4 * j) ≡ 4 * j + 1 = omega arith in
+    let third : suc (4 * j + 1) ≡ 4 * j + 2 = omega arith in
+    let fourth : suc (4 * j + 2) ≡ 4 * j + 3 = omega arith in
     ap (take 4) (drop-cons lit (4 * j) 0 (omega arith))
-    ∙ ap (λ (ws : List ℕ). getD lit (4 * j) 0 ∷ take 3 ws) (ap (λ (k : ℕ). drop k lit) (sym (add-one (4 * j))) ∙ drop-cons lit (4 * j + 1) 0 (omega arith))
-    ∙ ap (λ (ws : List ℕ). getD lit (4 * j) 0 ∷ getD lit (4 * j + 1) 0 ∷ take 2 ws) (ap (λ (k : ℕ). drop k lit) (omega-suc (4 * j + 1) (4 * j + 2) (omega arith)) ∙ drop-cons lit (4 * j + 2) 0 (omega arith))
-    ∙ ap (λ (ws : List ℕ). getD lit (4 * j) 0 ∷ getD lit (4 * j + 1) 0 ∷ getD lit (4 * j + 2) 0 ∷ take 1 ws) (ap (λ (k : ℕ). drop k lit) (omega-suc (4 * j + 2) (4 * j + 3) (omega arith)) ∙ drop-cons lit (4 * j + 3) 0 (omega arith))
-  where
-    omega-suc : (a b : ℕ) → suc a ≡ b → suc a ≡ b
-    omega-suc a b e = e
+    ∙ ap (λ (ws : List ℕ). getD lit (4 * j) 0 ∷ take 3 ws) (ap (λ (k : ℕ). drop k lit) second ∙ drop-cons lit (4 * j + 1) 0 (omega arith))
+    ∙ ap (λ (ws : List ℕ). getD lit (4 * j) 0 ∷ getD lit (4 * j + 1) 0 ∷ take 2 ws) (ap (λ (k : ℕ). drop k lit) third ∙ drop-cons lit (4 * j + 2) 0 (omega arith))
+    ∙ ap (λ (ws : List ℕ). getD lit (4 * j) 0 ∷ getD lit (4 * j + 1) 0 ∷ getD lit (4 * j + 2) 0 ∷ take 1 ws) (ap (λ (k : ℕ). drop k lit) fourth ∙ drop-cons lit (4 * j + 3) 0 (omega arith))
 
-no-fifth : (ws : List ℕ) → length ws ≡ 4 → litAt ws 256 ≡ false
+no-fifth : (a b c d : ℕ) → litAt (a ∷ b ∷ c ∷ d ∷ []) 256 ≡ false
 unfolding litAt
-no-fifth [] e = absurd (omega arith)
-no-fifth (a ∷ []) e = absurd (omega arith)
-no-fifth (a ∷ b ∷ []) e = absurd (omega arith)
-no-fifth (a ∷ b ∷ c ∷ []) e = absurd (omega arith)
-no-fifth (a ∷ b ∷ c ∷ d ∷ []) e = refl
-no-fifth (a ∷ b ∷ c ∷ d ∷ x ∷ ws) e = absurd (omega arith)
+no-fifth a b c d = refl
 
-pub any-width : (a b c d w : ℕ) →
+any-width : (a b c d w : ℕ) →
     firstOf (λ (i : ℕ). not (litAt (a ∷ b ∷ c ∷ d ∷ []) i)) 0 w ≡ min w (firstOf (λ (i : ℕ). not (litAt (a ∷ b ∷ c ∷ d ∷ []) i)) 0 256)
-any-width a b c d w = first-width (λ (i : ℕ). not (litAt (a ∷ b ∷ c ∷ d ∷ []) i)) 256 w (ap not (no-fifth (a ∷ b ∷ c ∷ d ∷ []) refl))
+any-width a b c d w = first-width (λ (i : ℕ). not (litAt (a ∷ b ∷ c ∷ d ∷ []) i)) 256 w (ap not (no-fifth a b c d))
 
 -- ---- as the code goes from word to word
 module _ (a b c d : ℕ) where

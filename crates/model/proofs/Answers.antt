@@ -51,8 +51,8 @@ all-yes q qs a f e = go (q .test a) e
     go true e = (tt, e)
     go false e = absurd (f e)
 
-numbered : {n : ℕ} → suc n ≢ 0
-numbered e = omega arith
+not-0 : {n : ℕ} → suc n ≢ 0
+not-0 e = omega arith
 
 pub answer-done : {A : Type 0} (a : A) → answer [] a ≡ 0
 unfolding answer
@@ -64,15 +64,15 @@ accepted-scene bytes = (said, asked)
   where
     said : sceneAnswer bytes ≡ 0 → AcceptedScene bytes
     said e =
-        let a = all-yes _ _ bytes numbered e in
-        let b = all-yes _ _ bytes numbered (a .1) in
-        let c = all-yes _ _ bytes numbered (b .1) in
-        let d = all-yes _ _ bytes numbered (c .1) in
-        let f = all-yes _ _ bytes numbered (d .1) in
-        let g = all-yes _ _ bytes numbered (f .1) in
-        let h = all-yes _ _ bytes numbered (g .1) in
-        let i = all-yes _ _ bytes numbered (h .1) in
-        let j = all-yes _ _ bytes numbered (i .1) in
+        let a = all-yes _ _ bytes not-0 e in
+        let b = all-yes _ _ bytes not-0 (a .1) in
+        let c = all-yes _ _ bytes not-0 (b .1) in
+        let d = all-yes _ _ bytes not-0 (c .1) in
+        let f = all-yes _ _ bytes not-0 (d .1) in
+        let g = all-yes _ _ bytes not-0 (f .1) in
+        let h = all-yes _ _ bytes not-0 (g .1) in
+        let i = all-yes _ _ bytes not-0 (h .1) in
+        let j = all-yes _ _ bytes not-0 (i .1) in
         record {
           header = a .0;
           sections = b .0;
@@ -136,8 +136,8 @@ refused-on-scene (q ∷ qs) rest c f = go (q .test (c .scene)) f (refused-on-sce
 scene-numbers : Numbered sceneQuestions
 unfolding sceneQuestions
 scene-numbers = (
-  numbered,
-  (numbered, (numbered, (numbered, (numbered, (numbered, (numbered, (numbered, (numbered, tt)))))))),
+  not-0,
+  (not-0, (not-0, (not-0, (not-0, (not-0, (not-0, (not-0, (not-0, tt)))))))),
 )
 
 -- A call's answer: the scene's, and where that is 0 the answer of the questions on the call.
@@ -167,16 +167,16 @@ accepted-call c = (said, asked)
       where
         go : (n : ℕ) → sceneAnswer (c .scene) ≡ n → sceneAnswer (c .scene) ≡ 0
         go zero h = h
-        go (suc n) h = sym (scene-first c (λ z. numbered (sym h ∙ z))) ∙ e
+        go (suc n) h = sym (scene-first c (λ z. not-0 (sym h ∙ z))) ∙ e
 
     said : surveyAnswer c ≡ 0 → AcceptedCall c
     said e =
         let s = scene-zero e in
-        let a = all-yes _ _ c numbered (sym (call-next c s) ∙ e) in
-        let b = all-yes _ _ c numbered (a .1) in
-        let d = all-yes _ _ c numbered (b .1) in
-        let f = all-yes _ _ c numbered (d .1) in
-        let g = all-yes _ _ c numbered (f .1) in
+        let a = all-yes _ _ c not-0 (sym (call-next c s) ∙ e) in
+        let b = all-yes _ _ c not-0 (a .1) in
+        let d = all-yes _ _ c not-0 (b .1) in
+        let f = all-yes _ _ c not-0 (d .1) in
+        let g = all-yes _ _ c not-0 (f .1) in
         record {
           scene = accepted-scene (c .scene) .0 s;
           station = a .0;

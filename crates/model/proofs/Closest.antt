@@ -8,9 +8,18 @@ use Prim.Native.Nat.{ℕ}
 use lib.Dec.{T}
 use Rattle.model.specs.Vector.{Vec}
 use Rattle.model.specs.Patch.{Patch}
-use Rattle.model.specs.Ray.{met, precedes, nearest, closestPatch, panelOf, closest, IsClosest, noneMet, shows, IsClosestPatch}
+use Rattle.model.specs.Ray.{met, precedes, nearest, closestPatch, panelOf, closest, IsClosest, noneMet, shows}
 use Rattle.model.proofs.Tests.{is-true, of-cons, of-append, of-one}
 use Rattle.model.proofs.Precedes.{precedes-asym, precedes-irrefl, not-precedes, not-precedes-trans, level-panels}
+
+-- The closest patch, as a relation: it is met, no met patch of the list precedes it, and it precedes every met patch that stands before it in the list.
+pub record IsClosestPatch (eye d : Vec) (ps : List Patch) (p : Patch) : Type 0 where
+  pub before : List Patch
+  pub after : List Patch
+  pub place : ps ≡ before ++ p ∷ after
+  pub isMet : T (met eye d p)
+  pub least : (q : Patch) → List·Memᴰ q ps → T (met eye d q) → T (precedes eye d q p) → ⊥
+  pub earliest : (q : Patch) → List·Memᴰ q before → T (met eye d q) → T (precedes eye d p q)
 
 -- two elements of a list, each with what stands before it: they are one, or one stands before the other
 parted :

@@ -10,11 +10,11 @@ use native.Mathlib.Omega.{arith}
 use lib.Dec.{T, leb, leb→le}
 use Rattle.model.specs.Vector.{Vec}
 use Rattle.model.specs.Patch.{Patch}
-use Rattle.model.specs.Ray.{met, precedes, nearest, closestPatch, IsClosestPatch, firstMet}
+use Rattle.model.specs.Ray.{met, precedes, nearest, closestPatch, firstMet}
 use Rattle.model.specs.Questions.{neverFalling}
 use Rattle.model.proofs.Tests.{is-true, both, of-cons, of-append}
 use Rattle.model.proofs.Precedes.{nearer, Before, precedes-true, precedes-asym}
-use Rattle.model.proofs.Closest.{Found, Hides, closestPatch-behind, closestPatch-before, closestPatch-alone, closestPatch-found, closestPatch-member, closestPatch-is, closestPatch-some}
+use Rattle.model.proofs.Closest.{IsClosestPatch, Found, Hides, closestPatch-behind, closestPatch-before, closestPatch-alone, closestPatch-found, closestPatch-member, closestPatch-is, closestPatch-some}
 
 -- the first that is there
 abbrev pub orElse : {A : Type 0} → Option A → Option A → Option A

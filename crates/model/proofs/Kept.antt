@@ -61,7 +61,7 @@ samePoints-refl (v ∷ vs) =
     (by-parts v v .1 (no-difference (v .x), no-difference (v .y), no-difference (v .z)), samePoints-refl vs)
 
 -- the test says exactly that the patches are equal
-pub samePatch-is : (p q : Patch) → T (samePatch p q) ↔ (p ≡ q)
+samePatch-is : (p q : Patch) → T (samePatch p q) ↔ (p ≡ q)
 unfolding samePatch
 samePatch-is p q = (there, λ e. subst (λ (r : Patch). T (samePatch p r)) e itself)
   where
@@ -80,7 +80,7 @@ samePatch-is p q = (there, λ e. subst (λ (r : Patch). T (samePatch p r)) e its
 -- ---- members
 
 -- a patch is listed at all exactly where it is a member
-pub listed : (p : Patch) (ps : List Patch) → (0 < timesListed p ps) ↔ List·Memᴰ p ps
+listed : (p : Patch) (ps : List Patch) → (0 < timesListed p ps) ↔ List·Memᴰ p ps
 unfolding timesListed
 listed p ps = (
   λ h. let s = tally-some (samePatch p) ps .0 h in Memᴰ·cast (samePatch-is p (s .0) .0 (s .2)) (s .1),

@@ -1,8 +1,8 @@
--- Every limit that stands in the definitions as a number, tried by computing: the numbers at the limit pass, the next ones do not.
+-- Every limit that stands in this crate's definitions as a number, tried by computing: the numbers at the limit pass, the next ones do not.
 use mathlib.Core.Bool.{Bool, true, not, cond, _&&_, false}
 use mathlib.Core.List.{List, [], _∷_, _++_}
 use mathlib.Core.Option.{some}
-use Prim.Native.Nat.{ℕ, suc, _+_, _%_}
+use Prim.Native.Nat.{ℕ, suc, _+_, _-_, _%_}
 use lib.Dec.{T, eqb, leb}
 use lib.IntN.{ℤ, pos, negℤ, _-ℤ_}
 use lib.Signed.{leZ}
@@ -38,12 +38,11 @@ holdsAt l = every (l .test) (l .passing) && every (λ (n : ℕ). not (l .test n)
 
 -- ---- questions 1 and 2, by the header
 
--- a scene of some length, whose header says that length: all its sections are empty
+-- a scene of some length, whose header says that length: all its sections are empty (`take` walks the header only, as a walk of 57,376 bytes is dear)
 abbrev long : ℕ → List ℕ
 long n =
-    take n
-    (headerBytes (record { version = 1; reserved = 0; whole = n; start = 32; nodeSize = 0; patchSize = 0; cornerSize = 0 })
-    ++ replicate n 0)
+    take n (headerBytes (record { version = 1; reserved = 0; whole = n; start = 32; nodeSize = 0; patchSize = 0; cornerSize = 0 }))
+    ++ replicate (n - 32) 0
 
 abbrev sections : ℕ → ℕ → ℕ → ℕ → List ℕ
 sections s n p c =

@@ -43,7 +43,7 @@ lit-in-word ws k b h =
     ap₂ (λ (m n : ℕ). bitOf (getD ws m 0) n) q r
 
 -- a map depends on the columns below the width alone
-pub column-congr : (width : ℕ) (u v : ℕ → Bool) → ((i : ℕ) → i < width → u i ≡ v i) → (i : ℕ) → litColumn width u i ≡ litColumn width v i
+column-congr : (width : ℕ) (u v : ℕ → Bool) → ((i : ℕ) → i < width → u i ≡ v i) → (i : ℕ) → litColumn width u i ≡ litColumn width v i
 column-congr width u v same i = go (lt-or-ge i width)
   where
     go : (i < width) ⊎ (width ≤ i) → litColumn width u i ≡ litColumn width v i

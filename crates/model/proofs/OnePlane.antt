@@ -10,9 +10,8 @@ use lib.Signed.{_<ℤ_}
 use Rattle.integer.proofs.Identity.{ring, reify, combine₂}
 use Rattle.integer.proofs.Products.{pos→≢, squares, *-cancel-≡}
 use Rattle.model.specs.Vector.{Vec, Plane, minus, dot, isZero, planeNormal, side}
-use Rattle.model.specs.Patch.{Patch, corner, patchPlane, normal, Proper}
+use Rattle.model.specs.Patch.{Patch, corner, patchPlane, normal, liesOn, Proper}
 use Rattle.model.specs.Ray.{eyeProduct, met, distance, below}
-use Rattle.model.specs.Tree.{liesOn}
 use Rattle.model.specs.Questions.{offOneLine}
 use Rattle.model.proofs.Tests.{both}
 use Rattle.model.proofs.Vectors.{parallel, side-from}
@@ -37,7 +36,7 @@ normal-off-line s t = go (squares (n .x) (n .y) (n .z))
         (both (isZero (n .x)) (isZero (n .y)) .1 (is-zero (n .x) .1 a, is-zero (n .y) .1 b), is-zero (n .z) .1 c)))
 
 -- A patch on a plane with the eye is seen edge-on.
-pub edge-on : (s : Plane) (eye : Vec) {p : Patch} → Proper p → T (offOneLine s) → T (liesOn s p) → side s eye ≡ pos 0 → eyeProduct eye p ≡ pos 0
+edge-on : (s : Plane) (eye : Vec) {p : Patch} → Proper p → T (offOneLine s) → T (liesOn s p) → side s eye ≡ pos 0 → eyeProduct eye p ≡ pos 0
 edge-on s eye {p} proper off t e =
     let on = lies-on-says s p .0 t in
     *-cancel-≡ (dot (planeNormal s) (planeNormal s)) (pos→≢ (normal-off-line s off))

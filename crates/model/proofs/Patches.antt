@@ -12,7 +12,7 @@ use lib.Signed.{_<ℤ_, ltZ-yes}
 use Rattle.integer.proofs.Signs.{SameSign}
 use Rattle.model.specs.Lists.{every}
 use Rattle.model.specs.Vector.{Vec, origin, minus, dot, isZero, side}
-use Rattle.model.specs.Patch.{Patch, Edge, corner, patchPlane, normal, firstEdge, edges, flat, turnsTowards, strictlyConvex, Proper}
+use Rattle.model.specs.Patch.{Patch, Edge, corner, patchPlane, normal, firstEdge, edges, liesOn, flat, turnsTowards, strictlyConvex, Proper}
 use Rattle.model.specs.Ray.{eyeProduct, edgeVector, edgeNumber, sameSign, met}
 use Rattle.model.proofs.Tests.{both, every-true}
 use Rattle.model.proofs.Vectors.{det, level-from}
@@ -50,7 +50,7 @@ module _ {p : Patch} (h : Proper p) where
 
   -- every corner lies in the plane of the first three
   pub corner-level : {c : Vec} → List·Memᴰ c (p .corners) → side (patchPlane p) c ≡ pos 0
-  unfolding flat
+  unfolding liesOn flat
   corner-level {c} m =
       is-zero (side (patchPlane p) c) .0 (every-true (λ (q : Vec). isZero (side (patchPlane p) q)) (p .corners) .0 (h .isFlat) c m)
 

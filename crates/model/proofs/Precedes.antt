@@ -42,7 +42,7 @@ not-less : (m n : ℕ) → (T (ltb m n) → ⊥) → n ≤ m
 not-less m n f = nltb→le m n (not-T (ltb m n) f)
 
 -- "not below" goes through a fraction that is not 0
-pub not-below-trans :
+not-below-trans :
     (f g h : Fraction) →
     0 < natAbs (g .numerator) →
     (T (below f g) → ⊥) →

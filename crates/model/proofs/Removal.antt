@@ -25,7 +25,7 @@ use Rattle.model.proofs.Kept.{kept-members, taken-members}
 
 module _ (chosen : ℕ → Bool) (eye d : Vec) where
   -- what is kept never shows a chosen panel
-  pub kept-unchosen : (ps : List Patch) → T (isChosen chosen (closest eye d (kept chosen ps))) → ⊥
+  kept-unchosen : (ps : List Patch) → T (isChosen chosen (closest eye d (kept chosen ps))) → ⊥
   kept-unchosen ps = go (closest-right eye d (kept chosen ps))
     where
       go : {n : ℕ} → IsClosest eye d (kept chosen ps) n → T (isChosen chosen n) → ⊥
@@ -50,7 +50,7 @@ module _ (chosen : ℕ → Bool) (eye d : Vec) where
         (λ p. taken-members chosen first second taken p .1)
 
     -- and shows the same as the first exactly where the first shows no chosen panel
-    pub second-same : (closest eye d second ≡ closest eye d first) ↔ (T (isChosen chosen (closest eye d first)) → ⊥)
+    second-same : (closest eye d second ≡ closest eye d first) ↔ (T (isChosen chosen (closest eye d first)) → ⊥)
     second-same = (
       λ e t. kept-unchosen first (subst (λ (n : ℕ). T (isChosen chosen n)) (sym e ∙ second-shows) t),
       λ f. second-shows ∙ sym (kept-shows first f),

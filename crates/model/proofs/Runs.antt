@@ -38,7 +38,7 @@ module _ (end : ℕ) where
       let u = both (eqb (r .first) start) (runsFollow (start + r .count) end rs) .0 t in
       (eqb→eq (r .first) start (u .0), u .1)
 
-  pub starts-before : (start : ℕ) (rs : List Run) → T (runsFollow start end rs) → start ≤ end
+  starts-before : (start : ℕ) (rs : List Run) → T (runsFollow start end rs) → start ≤ end
   unfolding runsFollow
   starts-before start [] t = omega (arith, eqb→eq)
   starts-before start (r ∷ rs) t = omega (arith, starts-before (start + r .count) rs (first-follows start r rs t .1))

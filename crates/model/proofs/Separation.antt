@@ -14,9 +14,9 @@ use Rattle.integer.proofs.Products.{*-pos, *-nonneg, *-pos-cancel, pos→≢, n
 use Rattle.integer.proofs.Signs.{SameSign, same-sym, same-≢, same-refl}
 use Rattle.integer.proofs.Magnitude.{size-product, size-positive}
 use Rattle.model.specs.Vector.{Vec, Plane, dot, planeNormal, side, turnedOver}
-use Rattle.model.specs.Patch.{Patch, normal, Proper}
+use Rattle.model.specs.Patch.{Patch, normal, liesOn, Proper}
 use Rattle.model.specs.Ray.{eyeProduct, met, distance, below}
-use Rattle.model.specs.Tree.{liesOn, inFront}
+use Rattle.model.specs.Tree.{liesPositive}
 use Rattle.model.proofs.Sides.{sideMet, side-met-turned, distance-positive, met-in-front, met-on-plane}
 
 -- ---- fractions of numbers with one sign, by their magnitudes
@@ -86,13 +86,13 @@ abbrev squaredSide : Plane → Vec → Vec → Patch → ℤ
 squaredSide s eye d p = sideMet eye d s p *ℤ dot d (normal p)
 
 module _ (s : Plane) (eye d : Vec) {p : Patch} (proper : Proper p) (h : T (met eye d p)) where
-  in-front : T (inFront s p) → pos 0 <ℤ squaredSide s eye d p
+  in-front : T (liesPositive s p) → pos 0 <ℤ squaredSide s eye d p
   in-front t = met-in-front eye d proper h s t .agree
 
   on-plane : T (liesOn s p) → squaredSide s eye d p ≡ pos 0
   on-plane t = ap (_*ℤ dot d (normal p)) (met-on-plane eye d proper h s t) ∙ zero-*ℤ (dot d (normal p))
 
-  behind : T (inFront (turnedOver s) p) → squaredSide s eye d p <ℤ pos 0
+  behind : T (liesPositive (turnedOver s) p) → squaredSide s eye d p <ℤ pos 0
   behind t =
       <-by (met-in-front eye d proper h (turnedOver s) t .agree)
       (turn (sideMet eye d s p) (dot d (normal p)) (side-met-turned eye d s p))
@@ -100,7 +100,7 @@ module _ (s : Plane) (eye d : Vec) {p : Patch} (proper : Proper p) (h : T (met e
       turn : (S δ : ℤ) {S′ : ℤ} → S′ ≡ negℤ S → pos 0 -ℤ S *ℤ δ ≡ S′ *ℤ δ
       turn S δ {S′} e = combine₁ (negℤ δ) e (ring (S ∷ δ ∷ S′ ∷ []) (search reify depth 40 fits 200000, tt))
 
-  not-in-front : T (liesOn s p) ⊎ T (inFront (turnedOver s) p) → squaredSide s eye d p ≤ℤ pos 0
+  not-in-front : T (liesOn s p) ⊎ T (liesPositive (turnedOver s) p) → squaredSide s eye d p ≤ℤ pos 0
   not-in-front (inl t) = ≡→≤ (on-plane t)
   not-in-front (inr t) = <→≤ (behind t)
 
@@ -119,14 +119,14 @@ module _
         (distance-positive eye d P hp) (distance-positive eye d Q hq) l r k)
 
     -- what is in front of the plane is met before what is on it or behind it
-    pub front-first : T (inFront s p) → T (liesOn s q) ⊎ T (inFront (turnedOver s) q) → T (below (distance eye d p) (distance eye d q))
+    pub front-first : T (liesPositive s p) → T (liesOn s q) ⊎ T (liesPositive (turnedOver s) q) → T (below (distance eye d p) (distance eye d q))
     front-first t u =
         let l = in-front s eye d P hp t in
         let r = not-in-front s eye d Q hq u in
         separated (<→≤ l) r (≤ℤ-<ℤ-trans r l)
 
     -- what is on the plane is met before what is behind it
-    pub own-before-back : T (liesOn s p) → T (inFront (turnedOver s) q) → T (below (distance eye d p) (distance eye d q))
+    pub own-before-back : T (liesOn s p) → T (liesPositive (turnedOver s) q) → T (below (distance eye d p) (distance eye d q))
     own-before-back t u =
         let l = ≡→≤ (sym (on-plane s eye d P hp t)) in
         let r = behind s eye d Q hq u in

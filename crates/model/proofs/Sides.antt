@@ -12,9 +12,9 @@ use Rattle.integer.proofs.Products.{*-pos, *-nonneg, sq-pos, neg-of-neg}
 use Rattle.integer.proofs.Signs.{SameSign, same-sym, same-trans}
 use Rattle.model.specs.Lists.{every, any}
 use Rattle.model.specs.Vector.{Vec, Plane, minus, dot, isZero, planeNormal, side, turnedOver, plus, times}
-use Rattle.model.specs.Patch.{Patch, corner, normal, Proper}
+use Rattle.model.specs.Patch.{Patch, corner, normal, liesOn, Proper}
 use Rattle.model.specs.Ray.{eyeProduct, met}
-use Rattle.model.specs.Tree.{liesOn, inFront}
+use Rattle.model.specs.Tree.{liesPositive}
 use Rattle.model.proofs.Tests.{both, every-true, any-true}
 use Rattle.model.proofs.Vectors.{det-swap, dot-sum, dot-times, side-turned, side-from}
 use Rattle.model.proofs.Patches.{is-zero, first-corner, corner-height, met-says}
@@ -35,8 +35,8 @@ record InFront (s : Plane) (p : Patch) : Type 0 where
   isCorner : List·Memᴰ m (p .corners)
   before : pos 0 <ℤ side s m
 
-in-front-says : (s : Plane) (p : Patch) → T (inFront s p) → InFront s p
-unfolding inFront
+in-front-says : (s : Plane) (p : Patch) → T (liesPositive s p) → InFront s p
+unfolding liesPositive
 in-front-says s p t =
     let parts = both (every (λ (c : Vec). leZ (pos 0) (side s c)) (p .corners)) (any (λ (c : Vec). ltZ (pos 0) (side s c)) (p .corners)) .0 t in
     let found = any-true (λ (c : Vec). ltZ (pos 0) (side s c)) (p .corners) .0 (parts .1) in
@@ -99,7 +99,7 @@ module _ (eye d : Vec) {p : Patch} (proper : Proper p) (h : T (met eye d p)) whe
           square
 
   -- a patch in front of a plane is met in front of it
-  pub met-in-front : (s : Plane) → T (inFront s p) → SameSign (sideMet eye d s p) (dot d (normal p))
+  pub met-in-front : (s : Plane) → T (liesPositive s p) → SameSign (sideMet eye d s p) (dot d (normal p))
   met-in-front s t =
       let f = in-front-says s p t in
       same-trans

@@ -1,16 +1,16 @@
--- Document 01's starred stations, over scene bytes: one list under one statement; stations in metres, of turned cameras and of joints under three more; and three of booked cells.
+-- What is seen of calls over scene bytes, and the stations that the model's own edits are told by: four quarters, S from stations in metres, and S's lit map. `worked` has the others.
 use mathlib.Core.Path.{_≡_, refl}
 use mathlib.Core.Bool.{cond}
 use mathlib.Core.List.{List, [], _∷_, map, sum}
 use Prim.Native.Nat.{ℕ, _+_}
 use lib.Dec.{eqb}
-use lib.IntN.{ℤ, pos, negsuc}
+use lib.IntN.{ℤ, pos}
 use lib.Ieee.{Float, binary64, ofBits}
 use lib.ListN.{length, getD, replicate}
 use Rattle.model.specs.Lists.{range}
-use Rattle.model.specs.Vector.{vec, origin}
+use Rattle.model.specs.Vector.{origin}
 use Rattle.model.specs.Patch.{numbered}
-use Rattle.model.specs.View.{Axes, levelAxes}
+use Rattle.model.specs.View.{levelAxes}
 use Rattle.model.specs.Station.{metres}
 use Rattle.model.specs.Row.{usedPart}
 use Rattle.model.specs.Map.{wordsOf, litCells, firstUnlit}
@@ -18,7 +18,7 @@ use Rattle.model.specs.Call.{Call}
 use Rattle.model.specs.Questions.{surveyAnswer}
 use Rattle.model.specs.Survey.{callPatches, callPicture, callCounts, callPatchCells, callUnlit, callLit}
 use Rattle.model.proofs.Computing.{everything}
-use Rattle.model.proofs.Scenes.{sceneS, sceneT, sceneTless5, sceneTless7, scene3and5, sceneQuarters, sceneWall, sceneTwice, scenePieces, sceneNear, sceneWedge, sceneStrip, sceneWalls, noNodes, sOfHalfWidth, stationCall, turnedCall, fittingCall, usual}
+use Rattle.model.proofs.Scenes.{sceneS, sceneQuarters, sOfHalfWidth, stationCall, fittingCall, usual}
 
 -- what is seen of a call: its answer (0 is "done"), its picture, the used pairs of some rows, and the counts of some panels (of "nothing" at 0)
 pub record Outcome : Type 0 where
@@ -37,19 +37,21 @@ pub record Tried : Type 0 where
 -- what the definitions say of it
 unfoldable pub seen : Tried → Outcome
 seen s =
+    let lists = callUnlit (s .call) in
+    let counted = callCounts (s .call) in
     record {
       result = surveyAnswer (s .call);
       shown = callPicture (s .call);
-      rows = map (usedPart (callUnlit (s .call))) (s .rowsAsked);
-      cells = map (λ (n : ℕ). getD (callCounts (s .call)) n 0) (s .panelsAsked);
+      rows = map (usedPart lists) (s .rowsAsked);
+      cells = map (λ (n : ℕ). getD counted n 0) (s .panelsAsked);
     }
 
 -- "rows 1 and 2 read 0 5 5 0, rows 0 and 3 are 0", for any panel
-abbrev middle : ℕ → List ℕ
+abbrev pub middle : ℕ → List ℕ
 middle n = 0 ∷ 0 ∷ 0 ∷ 0 ∷ 0 ∷ n ∷ n ∷ 0 ∷ 0 ∷ n ∷ n ∷ 0 ∷ 0 ∷ 0 ∷ 0 ∷ 0 ∷ []
 
 -- sixteen 0s
-abbrev blank : List ℕ
+abbrev pub blank : List ℕ
 blank = replicate 16 0
 
 -- an accepted call
@@ -57,24 +59,7 @@ abbrev pub shows : Call → List ℕ → List ℕ → List (List ℕ) → List �
 shows c p js rs ns ks =
     record { call = c; rowsAsked = js; panelsAsked = ns; said = record { result = 0; shown = p; rows = rs; cells = ks } }
 
-abbrev pub stations : List Tried
-stations =
-    shows (usual sceneS) (middle 5) (1 ∷ 0 ∷ []) ((0 ∷ 1 ∷ 3 ∷ 1 ∷ []) ∷ (0 ∷ 4 ∷ []) ∷ []) (5 ∷ 0 ∷ [])
-    (4 ∷ 12 ∷ [])
-    ∷ shows (usual (sOfHalfWidth (pos 25))) (0 ∷ 0 ∷ 0 ∷ 0 ∷ 0 ∷ 5 ∷ 0 ∷ 0 ∷ 0 ∷ 0 ∷ 0 ∷ 0 ∷ 0 ∷ 0 ∷ 0 ∷ 0 ∷ []) (1 ∷ 0 ∷ [])
-    ((0 ∷ 1 ∷ 2 ∷ 2 ∷ []) ∷ (0 ∷ 4 ∷ []) ∷ []) (5 ∷ 0 ∷ []) (1 ∷ 15 ∷ [])
-    ∷ shows (usual (sOfHalfWidth (pos 26))) (middle 5) [] [] (5 ∷ []) (4 ∷ [])
-    ∷ shows (fittingCall sceneS (vec (pos 0) (pos 100) (pos 0)) 4 4 4) blank [] [] [] []
-    ∷ shows (fittingCall sceneS (vec (pos 0) (pos 200) (pos 0)) 4 4 4) blank [] [] [] []
-    ∷ shows (usual sceneT) (middle 7) [] [] (7 ∷ 5 ∷ []) (4 ∷ 0 ∷ [])
-    ∷ shows (usual sceneTless5) (middle 7) [] [] [] []
-    ∷ shows (usual sceneTless7) (middle 5) [] [] [] []
-    ∷ shows (usual scene3and5) (middle 3) [] [] [] []
-    ∷ shows (usual noNodes) blank [] [] [] []
-    ∷ shows (fittingCall sceneS origin 1 1 4) (5 ∷ []) [] [] [] []
-    ∷ []
-
--- Beside them, since no starred station tells left from right or top from bottom: cells stand row after row from the top, each row from the left.
+-- No starred station tells left from right or top from bottom: cells stand row after row from the top, each row from the left.
 abbrev pub quarters : Tried
 quarters =
     shows (fittingCall sceneQuarters origin 4 2 4) (1 ∷ 1 ∷ 2 ∷ 2 ∷ 3 ∷ 3 ∷ 4 ∷ 4 ∷ []) (0 ∷ []) ([] ∷ []) (1 ∷ 0 ∷ [])
@@ -118,75 +103,6 @@ mapOf c js =
       firsts = map (firstUnlit (callLit c) (c .camera .window .width)) js;
     }
 
--- 64 columns that are all lit
-abbrev fullWord : ℕ
-fullWord = 18446744073709551615
-
--- ---- cameras that look any way
-
--- rolled by a quarter turn: its right points down, its up to the right
-abbrev rolled : Axes
-rolled =
-    record {
-      right = vec (pos 0) (pos 0) (negsuc 0);
-      forward = vec (pos 0) (pos 1) (pos 0);
-      up = vec (pos 1) (pos 0) (pos 0);
-    }
-
--- upside down
-abbrev halfTurn : Axes
-halfTurn =
-    record {
-      right = vec (negsuc 0) (pos 0) (pos 0);
-      forward = vec (pos 0) (pos 1) (pos 0);
-      up = vec (pos 0) (pos 0) (negsuc 0);
-    }
-
--- forward askew to right, which nothing forbids
-abbrev askew : Axes
-askew =
-    record {
-      right = vec (pos 1) (pos 0) (pos 0);
-      forward = vec (pos 1) (pos 1) (pos 0);
-      up = vec (pos 0) (pos 0) (pos 1);
-    }
-
--- looking to the right of the bore
-abbrev sideways : Axes
-sideways =
-    record {
-      right = vec (pos 0) (negsuc 0) (pos 0);
-      forward = vec (pos 1) (pos 0) (pos 0);
-      up = vec (pos 0) (pos 0) (pos 1);
-    }
-
-abbrev turnedQuarters : Axes → List ℕ → Tried
-turnedQuarters a p = shows (turnedCall a sceneQuarters origin 4 2 4) p [] [] [] []
-
-abbrev pub turned : List Tried
-turned =
-    turnedQuarters rolled (2 ∷ 2 ∷ 4 ∷ 4 ∷ 1 ∷ 1 ∷ 3 ∷ 3 ∷ [])
-    ∷ turnedQuarters halfTurn (4 ∷ 4 ∷ 3 ∷ 3 ∷ 2 ∷ 2 ∷ 1 ∷ 1 ∷ [])
-    ∷ turnedQuarters askew (2 ∷ 2 ∷ 0 ∷ 0 ∷ 4 ∷ 4 ∷ 0 ∷ 0 ∷ [])
-    ∷ shows (turnedCall sideways sceneWall origin 4 4 4) (middle 9) [] [] (9 ∷ []) (4 ∷ [])
-    ∷ shows (usual sceneWall) blank [] [] [] []
-    ∷ []
-
--- ---- sight lines along joints
-
--- 3 by 3, lens 4, eye (0,0,0): the lines of the middle column and of the middle row run through x = 0 and z = 0
-abbrev middleLines : Axes → List ℕ → List ℕ → Tried
-middleLines a bytes p = shows (turnedCall a bytes origin 3 3 4) p [] [] [] []
-
-abbrev pub jointed : List Tried
-jointed =
-    middleLines levelAxes sceneQuarters (1 ∷ 2 ∷ 2 ∷ 3 ∷ 4 ∷ 4 ∷ 3 ∷ 4 ∷ 4 ∷ [])
-    ∷ middleLines rolled sceneQuarters (2 ∷ 4 ∷ 4 ∷ 1 ∷ 3 ∷ 3 ∷ 1 ∷ 3 ∷ 3 ∷ [])
-    ∷ middleLines levelAxes sceneWalls (0 ∷ 9 ∷ 9 ∷ 0 ∷ 9 ∷ 9 ∷ 0 ∷ 9 ∷ 9 ∷ [])
-    ∷ middleLines levelAxes sceneWedge (replicate 9 0)
-    ∷ middleLines levelAxes sceneStrip (0 ∷ 0 ∷ 0 ∷ 0 ∷ 6 ∷ 0 ∷ 0 ∷ 0 ∷ 0 ∷ [])
-    ∷ []
-
 -- ---- cells booked patch by patch
 
 -- what is seen of a call's patches: its answer and picture, the cells of each patch and, of some panels, the counts and the sums over their patches
@@ -199,36 +115,23 @@ pub record Bookings : Type 0 where
 
 unfoldable pub booked : Call → List ℕ → Bookings
 booked c panels =
+    let totals = callCounts c in
+    let patchTotals = callPatchCells c in
     record {
       result = surveyAnswer c;
       shown = callPicture c;
-      each = callPatchCells c;
-      counted = map (λ (n : ℕ). getD (callCounts c) n 0) panels;
-      added = map (λ (n : ℕ). sum _+_ 0 (map (ofPanel n) (range 0 (length (callPatches c))))) panels;
+      each = patchTotals;
+      counted = map (λ (n : ℕ). getD totals n 0) panels;
+      added = map (λ (n : ℕ). sum _+_ 0 (map (ofPanel patchTotals n) (range 0 (length (callPatches c))))) panels;
     }
   where
-    ofPanel : ℕ → ℕ → ℕ
-    ofPanel n k = cond (eqb (numbered (callPatches c) k .panel) n) (getD (callPatchCells c) k 0) 0
+    ofPanel : List ℕ → ℕ → ℕ → ℕ
+    ofPanel cells n k = cond (eqb (numbered (callPatches c) k .panel) n) (getD cells k 0) 0
 
--- What the definitions say of each starred station is what document 01 says of it; of half-width 25 what document 02's F-3 makes of it.
-pub starred-stations : map seen stations ≡ map (λ (s : Tried). s .said) stations
-unfolding everything seen
-starred-stations = refl
-
--- S in 4 by 4 cells; in one row of 65, which is lit over a word's end; and seen from the right in one row of 130, of which the left half is lit: words and their bits stand from the left.
+-- S in 4 by 4 cells
 pub map-of-S : mapOf (usual sceneS) (0 ∷ 1 ∷ []) ≡ record { result = 0; words = (0 ∷ 0 ∷ 0 ∷ 0 ∷ []) ∷ (6 ∷ 0 ∷ 0 ∷ 0 ∷ []) ∷ []; counted = 0 ∷ 2 ∷ []; firsts = 0 ∷ 0 ∷ [] }
 unfolding everything mapOf
 map-of-S = refl
-
-pub map-of-a-full-row :
-    mapOf (fittingCall sceneS origin 65 1 4096) (0 ∷ []) ≡ record { result = 0; words = (fullWord ∷ 1 ∷ 0 ∷ 0 ∷ []) ∷ []; counted = 65 ∷ []; firsts = 65 ∷ [] }
-unfolding everything mapOf
-map-of-a-full-row = refl
-
-pub map-from-the-right :
-    mapOf (fittingCall sceneS (vec (pos 50) (pos 0) (pos 0)) 130 1 130) (0 ∷ []) ≡ record { result = 0; words = (fullWord ∷ 1 ∷ 0 ∷ 0 ∷ []) ∷ []; counted = 65 ∷ []; firsts = 65 ∷ [] }
-unfolding everything mapOf
-map-from-the-right = refl
 
 pub rows-from-the-top : seen quarters ≡ quarters .said
 unfolding everything seen
@@ -237,49 +140,3 @@ rows-from-the-top = refl
 pub metre-stations : map seen inMetres ≡ map (λ (s : Tried). s .said) inMetres
 unfolding everything seen ofBits
 metre-stations = refl
-
--- The same quarters as turned cameras see them, and a wall that only a turned camera sees.
-pub turned-stations : map seen turned ≡ map (λ (s : Tried). s .said) turned
-unfolding everything seen
-turned-stations = refl
-
--- Four panels that meet in a corner, seen level and rolled; of two walls that meet in an edge on the sight lines, the nearer one; a wedge that the lines just
--- beside pass above, as the step down is small beside the step to the right; and a strip that the lines of one row only touch.
-pub joint-stations : map seen jointed ≡ map (λ (s : Tried). s .said) jointed
-unfolding everything seen
-joint-stations = refl
-
--- S's square twice: the earlier patch has all cells.
-pub square-twice :
-    booked (usual sceneTwice) (5 ∷ []) ≡
-    record { result = 0; shown = middle 5; each = 4 ∷ 0 ∷ []; counted = 4 ∷ []; added = 4 ∷ [] }
-unfolding everything booked
-square-twice = refl
-
--- Overlapping pieces of two panels on one plane: the lower panel has a cell before the other, the earlier patch before the later of its panel.
-pub pieces-overlap :
-    booked (fittingCall scenePieces origin 8 4 4) (3 ∷ 5 ∷ []) ≡
-    record {
-      result = 0;
-      shown =
-          0 ∷ 0 ∷ 5 ∷ 5 ∷ 5 ∷ 5 ∷ 0 ∷ 0 ∷ 0 ∷ 0 ∷ 3 ∷ 3 ∷ 5 ∷ 5 ∷ 0 ∷ 0 ∷ 0 ∷ 0 ∷ 3 ∷ 3 ∷ 5 ∷ 5 ∷ 0 ∷ 0 ∷ 0 ∷ 0 ∷ 5 ∷ 5 ∷ 5 ∷ 5 ∷ 0 ∷ 0 ∷ [];
-      each = 2 ∷ 2 ∷ 12 ∷ 0 ∷ [];
-      counted = 4 ∷ 12 ∷ [];
-      added = 4 ∷ 12 ∷ [];
-    }
-unfolding everything booked
-pieces-overlap = refl
-
--- A panel in two nodes: the nearer piece has its cells, though it stands later in the table.
-pub nearer-piece :
-    booked (fittingCall sceneNear origin 8 8 8) (5 ∷ []) ≡
-    record {
-      result = 0;
-      shown =
-          0 ∷ 0 ∷ 0 ∷ 0 ∷ 0 ∷ 0 ∷ 0 ∷ 0 ∷ 0 ∷ 0 ∷ 0 ∷ 0 ∷ 0 ∷ 0 ∷ 0 ∷ 0 ∷ 0 ∷ 0 ∷ 5 ∷ 5 ∷ 5 ∷ 5 ∷ 0 ∷ 0 ∷ 0 ∷ 0 ∷ 5 ∷ 5 ∷ 5 ∷ 5 ∷ 0 ∷ 0 ∷ 0 ∷ 0 ∷ 5 ∷ 5 ∷ 5 ∷ 5 ∷ 0 ∷ 0 ∷ 0 ∷ 0 ∷ 5 ∷ 5 ∷ 5 ∷ 5 ∷ 0 ∷ 0 ∷ 0 ∷ 0 ∷ 0 ∷ 0 ∷ 0 ∷ 0 ∷ 0 ∷ 0 ∷ 0 ∷ 0 ∷ 0 ∷ 0 ∷ 0 ∷ 0 ∷ 0 ∷ 0 ∷ [];
-      each = 12 ∷ 4 ∷ [];
-      counted = 16 ∷ [];
-      added = 16 ∷ [];
-    }
-unfolding everything booked
-nearer-piece = refl

@@ -4,7 +4,7 @@ use mathlib.Core.List.{List, _∷_, map}
 use Prim.Native.Nat.{ℕ, zero, suc, _+_, _≤_, _<_}
 use native.Mathlib.Nat.{zero-add, add-zero}
 use native.Mathlib.Omega.{arith}
-use lib.ListN.{length, getD, take, drop, length-map}
+use lib.ListN.{length, getD, take, drop, replicate, length-map}
 use Rattle.model.specs.Lists.{range}
 use Rattle.model.proofs.Ranges.{range-length, range-at}
 
@@ -36,3 +36,9 @@ same-table f g i j zero h = refl
 same-table f g i j (suc n) h =
     ap₂ _∷_ (ap f (sym (add-zero i)) ∙ h 0 (omega arith) ∙ ap g (add-zero j))
     (same-table f g (suc i) (suc j) n (λ k b. ap f (omega arith) ∙ h (suc k) (omega arith) ∙ ap g (omega arith)))
+
+-- a table of zeros
+pub zero-at : (n k : ℕ) → _≡_ {A = ℕ} (getD (replicate n 0) k 0) 0
+zero-at zero k = refl
+zero-at (suc n) zero = refl
+zero-at (suc n) (suc k) = zero-at n k

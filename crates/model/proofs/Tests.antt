@@ -1,7 +1,7 @@
 -- Tests as facts: orders, `&&`, `||`, and tests and tallies over lists.
-use mathlib.Core.Path.{_≡_, refl, sym, subst}
+use mathlib.Core.Path.{_≡_, refl, sym, ap, subst, _∙_}
 use mathlib.Core.Logic.{_↔_, Iff·trans, _⊎_, inl, inr, ⊎-elim}
-use mathlib.Core.Bool.{Bool, true, false, _&&_, _||_}
+use mathlib.Core.Bool.{Bool, true, false, _&&_, _||_, or-assoc}
 use mathlib.Core.List.{List, [], _∷_, _++_, List·Memᴰ, List·Memᴰ·head, List·Memᴰ·tail, List·Memᴰ·cases-cons, List·Memᴰ·not-nil}
 use Prim.Native.Nat.{ℕ, _≤_, _<_}
 use native.Mathlib.Nat.{not-suc-le-zero, eq-zero-or-pos}
@@ -103,6 +103,10 @@ module _ {A : Type 0} (test : A → Bool) where
       back f (x, m, t) =
           ⊎-elim (λ (e : x ≡ a). inl (subst (λ (y : A). T (test y)) e t)) (λ (k : List·Memᴰ x xs). inr (f (x, k, t)))
           (List·Memᴰ·cases-cons m)
+
+  pub any-append : (s t : List A) → any test (s ++ t) ≡ (any test s || any test t)
+  any-append [] t = refl
+  any-append (a ∷ s) t = ap (λ (b : Bool). test a || b) (any-append s t) ∙ sym (or-assoc (test a) (any test s) (any test t))
 
   -- a count is above 0 exactly where an element passes
   pub tally-some : (xs : List A) → (0 < tally test xs) ↔ ((x : A) × List·Memᴰ x xs × T (test x))

@@ -1,7 +1,7 @@
 -- Sums over lists, and how tallies add up.
 use mathlib.Core.Path.{_≡_, refl, sym, ap, ap₂, _∙_}
 use mathlib.Core.Logic.{_⊎_, inl, inr}
-use mathlib.Core.Bool.{Bool, true, false, cond}
+use mathlib.Core.Bool.{Bool, true, false, not, cond}
 use mathlib.Core.List.{List, [], _∷_, _++_, map, flatten, sum, List·Memᴰ, List·Memᴰ·head, List·Memᴰ·tail}
 use Prim.Native.Nat.{ℕ, zero, suc, _+_, _*_, _≤_, _<_}
 use native.Mathlib.Nat.{zero-add, add-zero, zero-mul, mul-one, suc-add, eq-or-lt-of-le}
@@ -27,7 +27,7 @@ module _ {A : Type 0} where
   total-zero [] = refl
   total-zero (a ∷ l) = zero-add _ ∙ total-zero l
 
-  total-add : (f g : A → ℕ) (l : List A) → total (λ (a : A). f a + g a) l ≡ total f l + total g l
+  pub total-add : (f g : A → ℕ) (l : List A) → total (λ (a : A). f a + g a) l ≡ total f l + total g l
   unfolding total
   total-add f g [] = refl
   total-add f g (a ∷ l) = let h : total (λ (a : A). f a + g a) l ≡ total f l + total g l = total-add f g l in omega arith
@@ -77,6 +77,15 @@ module _ {A : Type 0} (test : A → Bool) where
 pub tally-all : {A : Type 0} (l : List A) → tally (λ (a : A). true) l ≡ length l
 tally-all [] = refl
 tally-all (a ∷ l) = ap suc (tally-all l)
+
+-- an element passes a test or fails it
+pub tally-split : {A : Type 0} (test : A → Bool) (l : List A) → tally test l + tally (λ (a : A). not (test a)) l ≡ length l
+tally-split test [] = refl
+tally-split test (a ∷ l) = step (test a) (tally-split test l)
+  where
+    step : (b : Bool) → tally test l + tally (λ a. not (test a)) l ≡ length l → addIf b (tally test l) + addIf (not b) (tally (λ a. not (test a)) l) ≡ suc (length l)
+    step true h = omega arith
+    step false h = omega arith
 
 -- ---- the number where a test passes, 0 elsewhere
 

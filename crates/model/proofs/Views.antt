@@ -9,7 +9,7 @@ use lib.Signed.{_<ℤ_}
 use Rattle.integer.proofs.Identity.{ring, reify}
 use Rattle.integer.proofs.Products.{*-pos}
 use Rattle.model.specs.Vector.{Vec, vec, plus, times}
-use Rattle.model.specs.View.{Window, Axes, View, levelAxes, direction}
+use Rattle.model.specs.View.{Window, Axes, View, levelAxes, levelDirection, direction}
 use Rattle.model.specs.Station.{eyeOf}
 use Rattle.model.specs.Beside.{stepped, fine, cellLine}
 use Rattle.model.specs.Picture.{picture, cellPanel, unlitLists}
@@ -23,11 +23,7 @@ use Rattle.model.proofs.CallLimits.{view-bounded, axes-bounded}
 
 -- ---- the old view
 
--- document 01: "The cell's direction is (2i + 1 − width, lens, height − 1 − 2j), from the eye onward."
-abbrev pub levelDirection : Window → ℕ → ℕ → Vec
-levelDirection w i j = vec (pos (2 * i + 1) -ℤ pos (w .width)) (pos (w .lens)) (pos (w .height) -ℤ pos (1 + 2 * j))
-
--- the line beside it that a cell is read along: the camera's right and up are the axes x and z
+-- the line beside document 01's direction that a cell is read along: the camera's right and up are the axes x and z
 abbrev pub levelLine : Window → ℕ → ℕ → Vec
 levelLine w i j = stepped levelAxes (levelDirection w i j) 2 fine 2 (fine * fine)
 
@@ -61,7 +57,7 @@ module _ (c : Call) (level : c .camera .axes ≡ levelAxes) where
   level-answer =
       sym (without-same c 14 questions (subst (λ (a : Axes). T (axesProper a && true)) (sym level) (both (axesProper levelAxes) true .1 (level-proper, tt))))
 
-  pub level-directions : direction (c .camera) ≡ levelDirection (c .camera .window)
+  level-directions : direction (c .camera) ≡ levelDirection (c .camera .window)
   level-directions =
       ap (λ (a : Axes). direction (record { axes = a; window = c .camera .window })) level
       ∙ fun-ext (λ i. fun-ext (λ j. level-direction (c .camera .window) i j))

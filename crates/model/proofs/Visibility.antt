@@ -9,9 +9,9 @@ use lib.IntN.{pos}
 use lib.Signed.{_≤ℤ_, ltZ, ltZ-no}
 use Rattle.model.specs.Lists.{every}
 use Rattle.model.specs.Vector.{Vec, Plane, side, turnedOver}
-use Rattle.model.specs.Patch.{Patch, Proper}
+use Rattle.model.specs.Patch.{Patch, liesOn, Proper}
 use Rattle.model.specs.Ray.{met, precedes, closestPatch, panelOf, closest, firstMet}
-use Rattle.model.specs.Tree.{Tree, leaf, node, contents, order, liesOn, inFront, divides}
+use Rattle.model.specs.Tree.{Tree, leaf, node, contents, order, liesPositive, divides}
 use Rattle.model.specs.Questions.{offOneLine, neverFalling}
 use Rattle.model.proofs.Tests.{is-true, both, every-true, of-append}
 use Rattle.model.proofs.Sides.{lies-on-turned, eye-turned}
@@ -41,28 +41,28 @@ contents-proper (node s own front back) h =
 -- what question 9 says of one node
 pub record Divided (s : Plane) (own : List Patch) (front back : Tree Patch) : Type 0 where
   pub ownSide : (p : Patch) → List·Memᴰ p own → T (liesOn s p)
-  pub frontSide : (p : Patch) → List·Memᴰ p (contents front) → T (inFront s p)
-  pub backSide : (p : Patch) → List·Memᴰ p (contents back) → T (inFront (turnedOver s) p)
+  pub frontSide : (p : Patch) → List·Memᴰ p (contents front) → T (liesPositive s p)
+  pub backSide : (p : Patch) → List·Memᴰ p (contents back) → T (liesPositive (turnedOver s) p)
   pub frontDivides : T (divides front)
   pub backDivides : T (divides back)
 
-pub divided :
+divided :
     (s : Plane) (own : List Patch) (front back : Tree Patch) →
     T (divides (node s own front back)) →
     Divided s own front back
 unfolding divides
 divided s own front back t =
     let a : Bool = every (liesOn s) own in
-    let b : Bool = every (inFront s) (contents front) in
-    let c : Bool = every (inFront (turnedOver s)) (contents back) in
+    let b : Bool = every (liesPositive s) (contents front) in
+    let c : Bool = every (liesPositive (turnedOver s)) (contents back) in
     let u = both (a && b && c && divides front) (divides back) .0 t in
     let v = both (a && b && c) (divides front) .0 (u .0) in
     let w = both (a && b) c .0 (v .0) in
     let x = both a b .0 (w .0) in
     record {
       ownSide = every-true (liesOn s) own .0 (x .0);
-      frontSide = every-true (inFront s) (contents front) .0 (x .1);
-      backSide = every-true (inFront (turnedOver s)) (contents back) .0 (w .1);
+      frontSide = every-true (liesPositive s) (contents front) .0 (x .1);
+      backSide = every-true (liesPositive (turnedOver s)) (contents back) .0 (w .1);
       frontDivides = v .1;
       backDivides = u .1;
     }
@@ -74,9 +74,9 @@ module _ (eye d : Vec) where
       (near-proper : (p : Patch) → List·Memᴰ p near → Proper p)
       (own-proper : (p : Patch) → List·Memᴰ p own → Proper p)
       (far-proper : (p : Patch) → List·Memᴰ p far → Proper p)
-      (near-side : (p : Patch) → List·Memᴰ p near → T (inFront s p))
+      (near-side : (p : Patch) → List·Memᴰ p near → T (liesPositive s p))
       (own-side : (p : Patch) → List·Memᴰ p own → T (liesOn s p))
-      (far-side : (p : Patch) → List·Memᴰ p far → T (inFront (turnedOver s) p))
+      (far-side : (p : Patch) → List·Memᴰ p far → T (liesPositive (turnedOver s) p))
     where
       near-own : Separated eye d near own
       near-own p q m k t u =

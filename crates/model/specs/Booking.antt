@@ -50,7 +50,8 @@ unfoldable pub patchCells : Vec → ℕ → ℕ → (ℕ → ℕ → Vec) → Li
 patchCells eye width height direction ps =
     map (λ (k : ℕ). cellsWhere width height (λ (i j : ℕ). hasCell eye (direction i j) ps k)) (range 0 (length ps))
 
--- patch n is the first of a list of patch numbers that a ray meets: what the painting says of a walk front to back
+-- Patch n is the first of a list of patch numbers that a ray meets: what the painting says of a walk front to back. Contracts inside the library cite it, and no public
+-- call's does.
 unfoldable pub firstIs : Vec → Vec → (ℕ → Patch) → List ℕ → ℕ → Bool
 firstIs eye d patch [] n = false
 firstIs eye d patch (k ∷ ks) n = cond (met eye d (patch k)) (eqb k n) (firstIs eye d patch ks n)

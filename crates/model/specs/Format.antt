@@ -10,10 +10,11 @@ use Rattle.model.specs.Vector.{Vec, Plane, vec, origin}
 use Rattle.model.specs.Patch.{Patch, numbered}
 use Rattle.model.specs.Tree.{Tree, leaf, node, mapTree}
 
--- "Every field has its least significant byte first." A byte past the end reads 0.
+-- a byte by its place; one past the end reads 0
 abbrev pub byteAt : List ℕ → ℕ → ℕ
 byteAt bytes at = getD bytes at 0
 
+-- numbers of two and of four bytes: "Every field has its least significant byte first."
 unfoldable pub u16At : List ℕ → ℕ → ℕ
 u16At bytes at = byteAt bytes at + 256 * byteAt bytes (at + 1)
 
@@ -156,11 +157,15 @@ patchOf corners r = record { panel = r .panel; corners = inRun (r .cornerRun) co
 unfoldable pub patchTable : Scene → List Patch
 patchTable s = map (patchOf (s .corners)) (s .patches)
 
+-- the patches of a scene's bytes
+abbrev pub patchesIn : List ℕ → List Patch
+patchesIn bytes = patchTable (decode bytes)
+
 -- a patch by its number
 unfoldable pub patchNumbered : Scene → ℕ → Patch
 patchNumbered s k = numbered (patchTable s) k
 
--- what a number that no node has reads as
+-- what a number that no node has would read as: it is never read, and any value will do
 unfoldable pub emptyNode : NodeRecord
 emptyNode =
     record {

@@ -36,7 +36,7 @@ litColumn width unlit i = ltb i width && not (unlit i)
 abbrev pub mapWord : ℕ → (ℕ → Bool) → ℕ → ℕ
 mapWord width unlit k = wordOf (λ (b : ℕ). litColumn width unlit (64 * k + b))
 
--- and its four words
+-- and its four words: all columns for a width up to 256, which question 10 sees to; what is past 256 columns is cut off
 unfoldable pub mapRow : ℕ → (ℕ → Bool) → List ℕ
 mapRow width unlit = map (mapWord width unlit) (range 0 rowWords)
 
@@ -48,10 +48,11 @@ litAt words i = bitOf (getD words (i / 64) 0) (i % 64)
 unfoldable pub SameCells : ℕ → List ℕ → List ℕ → Type 0
 SameCells width row words = (i : ℕ) → i < rowBits → litAt words i ≡ litColumn width (inPairs (usedPairs row)) i
 
--- row j's words in a map, and whether it has them all: "a row not wholly inside the map answers 0 to both"
+-- row j's words in a map
 abbrev pub wordsOf : List ℕ → ℕ → List ℕ
 wordsOf lit j = take rowWords (drop (rowWords * j) lit)
 
+-- the map has all of them: "a row not wholly inside the map answers 0 to both"
 abbrev pub insideMap : List ℕ → ℕ → Bool
 insideMap lit j = leb (rowWords * (j + 1)) (length lit)
 

@@ -18,6 +18,8 @@ pub record Patch : Type 0 where
 abbrev pub numbered : List Patch → ℕ → Patch
 numbered ps k = getD ps k (record { panel = 0; corners = [] })
 
+-- A corner by its place. A place past the end reads as the origin, which does no harm: question 6 comes before question 8, which reads the first three, and a patch with fewer than three corners is
+-- never met.
 abbrev pub corner : Patch → ℕ → Vec
 corner p k = getD (p .corners) k origin
 
@@ -53,9 +55,13 @@ edges cs = map (λ (k : ℕ). firstEdge (round cs k)) (range 0 (length cs))
 abbrev pub cornersCounted : Patch → Bool
 cornersCounted p = leb 3 (length (p .corners)) && leb (length (p .corners)) 8
 
+-- all corners are on a plane
+unfoldable pub liesOn : Plane → Patch → Bool
+liesOn s p = every (λ (c : Vec). isZero (side s c)) (p .corners)
+
 -- "every corner is on their plane"
 unfoldable pub flat : Patch → Bool
-flat p = every (λ (q : Vec). isZero (side (patchPlane p) q)) (p .corners)
+flat p = liesOn (patchPlane p) p
 
 -- "n · ((w − v) × (q − v)) is above 0"
 abbrev pub turnsTowards : Vec → Edge → Vec → Bool

@@ -30,6 +30,7 @@ unfoldable pub answer : {A : Type 0} → List (Question A) → A → ℕ
 answer [] a = 0
 answer (q ∷ qs) a = elim (q .test a) [ true ↦ answer qs a | false ↦ q .number ]
 
+-- a number from low to high
 abbrev pub within : ℕ → ℕ → ℕ → Bool
 within low high n = leb low n && leb n high
 
@@ -101,7 +102,7 @@ unfoldable pub everyNode : (ℕ → NodeRecord → Bool) → ℕ → List NodeRe
 everyNode test k [] = true
 everyNode test k (n ∷ ns) = test k n && everyNode test (suc k) ns
 
--- all children that are named
+-- both child fields of every node, 65,535 among them
 unfoldable pub children : List NodeRecord → List ℕ
 children [] = []
 children (n ∷ ns) = n .positive ∷ n .negative ∷ children ns
@@ -160,7 +161,8 @@ panelsProper s = panelsInRange s && panelsNeverFall s
 unfoldable pub patchesProper : Scene → Bool
 patchesProper s = every (λ (p : Patch). flat p && strictlyConvex p) (patchTable s)
 
--- 9. the planes divide the patches as the tree says
+-- 9. "Has each patch of a node all corners on the node's plane, each patch in or below its positive child no corner on the negative side and at least one on the positive, and the
+-- mirror of this in or below the negative child?" Said of the scene's tree: `divides` in Tree.
 unfoldable pub planesDivide : Scene → Bool
 planesDivide s = divides (patchTree s)
 
@@ -178,7 +180,7 @@ sceneQuestions =
     ∷ record { number = 9; test = λ bytes. planesDivide (decode bytes) }
     ∷ []
 
--- the first no among questions 1 to 9
+-- the number of the first no among questions 1 to 9, and 0 where none of them says no
 unfoldable pub sceneAnswer : List ℕ → ℕ
 sceneAnswer bytes = answer sceneQuestions bytes
 
@@ -243,7 +245,7 @@ unfoldable pub questions : List (Question Call)
 questions = map onScene sceneQuestions ++ callQuestions
 
 -- Numbers that questions had once. Document 02, F-6: "so question 13 is struck and its number is never used again." Each list of questions that gives answers is held
--- to it, as `none-struck` holds this one.
+-- to it, as `none-struck` holds `questions`, and with it `sceneQuestions`.
 abbrev pub struck : List ℕ
 struck = 13 ∷ []
 

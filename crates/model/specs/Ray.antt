@@ -1,8 +1,7 @@
 -- Lines from the eye: which patches they meet, how far away, and the closest panel along a line. Tree and walk have no part in it. (A cell is read by the lines just beside
 -- its sight line: Beside.)
-use mathlib.Core.Path.{_≡_}
 use mathlib.Core.Bool.{Bool, true, false, not, cond, _&&_, _||_}
-use mathlib.Core.List.{List, [], _∷_, _++_, List·Memᴰ}
+use mathlib.Core.List.{List, [], _∷_, List·Memᴰ}
 use mathlib.Core.Option.{Option, none, some}
 use Prim.Native.Nat.{ℕ, _*_, _≤_}
 use lib.Dec.{T, ltb}
@@ -44,8 +43,8 @@ pub record Fraction : Type 0 where
 abbrev pub distance : Vec → Vec → Patch → Fraction
 distance eye d p = record { numerator = eyeProduct eye p; denominator = dot d (normal p) }
 
--- f is below g. "The definition compares it exactly": both numbers of a fraction have one sign where a flat, convex patch is met ("above 0 where the patch is met"),
--- so their magnitudes are cross-multiplied.
+-- f is below g. "The definition compares it exactly": both numbers of a fraction have one sign where a flat, convex patch is met ("above 0 where the patch is met";
+-- `distance-positive` in proofs/Sides), so their magnitudes are cross-multiplied.
 abbrev pub below : Fraction → Fraction → Bool
 below f g = ltb (natAbs (f .numerator) * natAbs (g .denominator)) (natAbs (g .numerator) * natAbs (f .denominator))
 
@@ -90,16 +89,7 @@ pub data IsClosest (eye d : Vec) (ps : List Patch) : ℕ → Type 0 where
       p .panel ≤ q .panel) →
       IsClosest eye d ps (p .panel)
 
--- And of the patch itself: no met patch of the list precedes it, and it precedes every met patch that stands before it in the list.
-pub record IsClosestPatch (eye d : Vec) (ps : List Patch) (p : Patch) : Type 0 where
-  pub before : List Patch
-  pub after : List Patch
-  pub place : ps ≡ before ++ p ∷ after
-  pub isMet : T (met eye d p)
-  pub least : (q : Patch) → List·Memᴰ q ps → T (met eye d q) → T (precedes eye d q p) → ⊥
-  pub earliest : (q : Patch) → List·Memᴰ q before → T (met eye d q) → T (precedes eye d p q)
-
--- the first patch of a list that a ray meets: what a walk front to back shows
+-- The first patch of a list that a ray meets: what a walk front to back shows. Contracts inside the library cite it, and no public call's does.
 unfoldable pub firstMet : Vec → Vec → List Patch → Option Patch
 firstMet eye d [] = none
 firstMet eye d (p ∷ ps) = cond (met eye d p) (some p) (firstMet eye d ps)

@@ -3,12 +3,13 @@ use mathlib.Core.Path.{_≡_}
 use mathlib.Core.Bool.{Bool, true, false, cond, _&&_}
 use mathlib.Core.List.{List, [], _∷_}
 use Prim.Native.Nat.{ℕ}
-use lib.Dec.{eqb, leb}
+use lib.Dec.{eqb}
 use lib.IntN.{_-ℤ_}
 use Rattle.model.specs.Lists.{tally}
 use Rattle.model.specs.Vector.{Vec, isZero}
 use Rattle.model.specs.Patch.{Patch}
 use Rattle.model.specs.Format.{highestPanel}
+use Rattle.model.specs.Questions.{within}
 
 abbrev pub samePoint : Vec → Vec → Bool
 samePoint v w = isZero (v .x -ℤ w .x) && isZero (v .y -ℤ w .y) && isZero (v .z -ℤ w .z)
@@ -29,7 +30,7 @@ timesListed p ps = tally (samePatch p) ps
 
 -- "Chosen panels are any numbers from 1 to 1,024, on patches or not"
 abbrev pub isChosen : (ℕ → Bool) → ℕ → Bool
-isChosen chosen n = leb 1 n && leb n highestPanel && chosen n
+isChosen chosen n = within 1 highestPanel n && chosen n
 
 -- "the panels kept are all others": the patches of the panels kept
 unfoldable pub kept : (ℕ → Bool) → List Patch → List Patch

@@ -1,5 +1,4 @@
 -- A row's unlit cells as pairs of offset and length.
-use mathlib.Core.Path.{_≡_}
 use mathlib.Core.Bool.{Bool, true, false, not, cond, _&&_, _||_}
 use mathlib.Core.List.{List, [], _∷_, _++_, map}
 use Prim.Native.Nat.{ℕ, zero, suc, _+_, _*_}
@@ -42,7 +41,7 @@ rowPairs = 128
 abbrev pub rowLength : ℕ
 rowLength = 256
 
--- "A row under work holds 128 pairs, unused ones 0 and 0."
+-- "A row under work holds 128 pairs, unused ones 0 and 0." It has room for all segments for a width up to 256, which question 10 sees to; what is past 128 pairs is cut off.
 unfoldable pub rowOf : ℕ → (ℕ → Bool) → List ℕ
 rowOf width unlit = take rowLength (numbersOf (segments width unlit) ++ replicate rowLength 0)
 
@@ -59,16 +58,15 @@ inPairs [] i = false
 inPairs (offset ∷ []) i = false
 inPairs (offset ∷ count ∷ pairs) i = (leb offset i && ltb i (offset + count)) || inPairs pairs i
 
--- a row describes a set of unlit columns: they are the columns of its used pairs
-abbrev pub Describes : ℕ → (ℕ → Bool) → List ℕ → Type 0
-Describes width unlit row = (i : ℕ) → inPairs (usedPairs row) i ≡ (ltb i width && unlit i)
-
 -- the unlit columns that a span from column `first` to column `last` leaves
 abbrev pub afterSpan : (ℕ → Bool) → ℕ → ℕ → ℕ → Bool
 afterSpan unlit first last i = unlit i && not (leb first i && leb i last)
 
--- "In the lent lists row j has the 256 numbers from 256 × j. A row's used pairs are handed out as that part of the lent list .. a row not wholly inside the
--- list gives the empty part."
+-- "In the lent lists row j has the 256 numbers from 256 × j."
+abbrev pub listOf : List ℕ → ℕ → List ℕ
+listOf lists j = take rowLength (drop (rowLength * j) lists)
+
+-- "A row's used pairs are handed out as that part of the lent list. They end before the row's first pair of length 0, or with the row; a row not wholly inside the list gives
+-- the empty part."
 unfoldable pub usedPart : List ℕ → ℕ → List ℕ
-usedPart lists j =
-    cond (leb (rowLength * (j + 1)) (length lists)) (usedPairs (take rowLength (drop (rowLength * j) lists))) []
+usedPart lists j = cond (leb (rowLength * (j + 1)) (length lists)) (usedPairs (listOf lists j)) []

@@ -20,7 +20,7 @@ pub record IsNearest (a : ℤ) (b : ℕ) (n : ℤ) : Type 0 where
   pub near : 2 * natAbs (n *ℤ pos b -ℤ a) ≤ b
   pub halfway : 2 * natAbs (n *ℤ pos b -ℤ a) ≡ b → natAbs n % 2 ≡ 0
 
--- it, for a fraction that is not below 0: twice what the division leaves is held against the divisor
+-- That number, for a fraction that is not below 0: twice what the division leaves is held against the divisor.
 unfoldable pub nearestWhole : ℕ → ℕ → ℕ
 nearestWhole a b =
     cond (ltb (a % b * 2) b) (a / b) (cond (ltb b (a % b * 2)) (a / b + 1) (a / b + a / b % 2))
@@ -29,7 +29,7 @@ nearestWhole a b =
 abbrev pub signed : Bool → ℕ → ℤ
 signed minus n = cond minus (negℤ (pos n)) (pos n)
 
--- "Each becomes the whole number nearest to its exact value times 200, halfway to the even one." A finite double is m × 2 ^ e, which is m × up e over down e, with its
+-- "Each becomes the whole number nearest to its exact value times 200, halfway to the even one." Document 01: "One length unit is 5 mm", so a metre has 200. A finite double is m × 2 ^ e, which is m × up e over down e, with its
 -- sign; "Both zeros give 0", for a size of 0 is not below 0. One that is not finite has no such number.
 unfoldable pub wholeUnits : Float → Option ℤ
 wholeUnits nan = none

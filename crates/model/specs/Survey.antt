@@ -2,7 +2,7 @@
 use mathlib.Core.List.{List}
 use Prim.Native.Nat.{ℕ}
 use Rattle.model.specs.Patch.{Patch}
-use Rattle.model.specs.Format.{decode, patchTable}
+use Rattle.model.specs.Format.{patchesIn}
 use Rattle.model.specs.Picture.{picture, cellPanel, counts, unlitLists, litMap, nextCounter}
 use Rattle.model.specs.Booking.{patchCells}
 use Rattle.model.specs.Station.{eyeOf}
@@ -10,7 +10,7 @@ use Rattle.model.specs.Call.{Call, callLine}
 
 -- the scene's patches, in the order of its patch records
 abbrev pub callPatches : Call → List Patch
-callPatches c = patchTable (decode (c .scene))
+callPatches c = patchesIn (c .scene)
 
 unfoldable pub callPicture : Call → List ℕ
 callPicture c = picture (eyeOf (c .station)) (c .camera .window .width) (c .camera .window .height) (callLine c) (callPatches c)

@@ -46,11 +46,11 @@ pub record Plane : Type 0 where
 abbrev pub planeNormal : Plane → Vec
 planeNormal s = cross (minus (s .b) (s .a)) (minus (s .c) (s .a))
 
--- "The sign is exact at and around zero and at the ends of the range."
--- "For points a, b, c the side number of p is (p − a) · ((b − a) × (c − a)). Above 0 is the positive side, below 0 the negative, 0 is on the plane."
+-- "For points a, b, c the side number of p is (p − a) · ((b − a) × (c − a)). Above 0 is the positive side, below 0 the negative, 0 is on the plane. The sign is exact at and
+-- around zero and at the ends of the range."
 abbrev pub side : Plane → Vec → ℤ
 side s p = dot (minus p (s .a)) (planeNormal s)
 
--- the plane turned over, by exchanging its second and third point: each side number becomes its opposite
+-- the plane turned over, by exchanging its second and third point: each side number becomes its opposite (`side-turned` in proofs/Vectors)
 abbrev pub turnedOver : Plane → Plane
 turnedOver s = record { a = s .a; b = s .c; c = s .b }

@@ -38,6 +38,10 @@ direction c i j =
     (times (pos (c .window .lens)) (c .axes .forward)))
     (times (pos (c .window .height) -ℤ pos (1 + 2 * j)) (c .axes .up))
 
+-- "The cell's direction is (2i + 1 − width, lens, height − 1 − 2j), from the eye onward.": what `direction` comes to in the old view (`level-direction` in proofs/Views).
+abbrev pub levelDirection : Window → ℕ → ℕ → Vec
+levelDirection w i j = vec (pos (2 * i + 1) -ℤ pos (w .width)) (pos (w .lens)) (pos (w .height) -ℤ pos (1 + 2 * j))
+
 -- a camera at an eye: what every statement about a picture speaks of
 pub record View : Type 0 where
   pub eye : Vec

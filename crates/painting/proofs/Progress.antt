@@ -10,6 +10,7 @@ use lib.IntN.{ℤ}
 use lib.ListN.{length, getD, take, drop, replicate, take-append-drop, drop-of-length-le}
 use borrow.Author.Tests.{lt-ltb, eqb-true, eqb-false}
 use Rattle.model.proofs.Tests.{lt-or-ge}
+use Rattle.model.proofs.Tables.{zero-at}
 use Rattle.model.specs.Format.{decode, patchNumbered}
 use Rattle.geometry.specs.Machine.{vecOf}
 use Rattle.geometry.specs.Raster.{lineAt}
@@ -21,7 +22,7 @@ use Rattle.placing.specs.Booked.{AtMost, BookedUpTo}
 use Rattle.painting.specs.Bands.{BandPainted, BandBooked}
 use Rattle.readiness.specs.Ready.{ReadyUpTo}
 use Rattle.placing.proofs.RowsPlaced.{still-framed, rows-start, rows-end}
-use Rattle.placing.proofs.RowsBooked.{all-zero, book-start}
+use Rattle.placing.proofs.RowsBooked.{book-start}
 use Rattle.readiness.proofs.ReadyWalk.{ready-none}
 
 pub record Progress
@@ -51,7 +52,7 @@ module _ {bytes : List ℕ} {l : Layout} {s : Sight} {order : List ℕ} {edges :
         same-entries = refl;
         ready-is = ready-none bytes l s order edges rows;
         rows-are = rows-start picture unlit lit;
-        low = λ k h. omega (arith, ap (λ (l : List ℕ). getD l k 0) e ∙ all-zero n k);
+        low = λ k h. omega (arith, ap (λ (l : List ℕ). getD l k 0) e ∙ zero-at n k);
         booked-are =
             subst (λ (l : List ℕ). BookedUpTo (vecOf (s .eye)) (lineAt (s .raster)) (patchNumbered (decode bytes)) order (s .raster .width) l 0) (sym e)
             (book-start n);

@@ -50,14 +50,14 @@ carried-from before (x ∷ y ∷ ys) p i l size h t =
       read = t;
     })
 
-pub carried :
+carried :
     {total : List ℕ} {i : ℕ} {p : Segment} {row row′ : List ℕ} {offset count : ℕ} → Carry total i p row → i < 128 →
     Reads row i offset count → row′ ≡ written row i p → Carried total (i + 1) (record { offset = offset; count = count }) row′
 carried {total} {i} {p} {row} {row′} g h r w =
     rw (w, ← read-segment r, g .total-is, g .row-is) (carried-from (g .before) (g .after) p i (g .place) (g .size) h (g .tidy))
 
 -- behind the last pair nothing is left in hand
-pub settled : {total : List ℕ} {i : ℕ} {p : Segment} {row : List ℕ} → Carry total i p row → 128 ≤ i → row ≡ total
+settled : {total : List ℕ} {i : ℕ} {p : Segment} {row : List ℕ} → Carry total i p row → 128 ≤ i → row ≡ total
 settled {total} {i} {p} g h = g .row-is ∙ go (g .after) (g .size) ∙ sym (g .total-is)
   where
     go : (after : List ℕ) → 2 * i + length after ≡ 256 → g .before ++ after ≡ g .before ++ take (length after) (p .offset ∷ p .count ∷ after)
@@ -65,7 +65,7 @@ settled {total} {i} {p} g h = g .row-is ∙ go (g .after) (g .size) ∙ sym (g .
     go (x ∷ xs) e = absurd (omega arith)
 
 -- an unused pair in hand: what follows is unused
-pub unused : {total : List ℕ} {i : ℕ} {p : Segment} {row : List ℕ} → Carried total i p row → p .count ≡ 0 → row ≡ total
+unused : {total : List ℕ} {i : ℕ} {p : Segment} {row : List ℕ} → Carried total i p row → p .count ≡ 0 → row ≡ total
 unused {total} {i} {p} {row} g e =
     let a : List ℕ = g .on .after in
     let z = g .read .0 e in
@@ -78,7 +78,7 @@ unused {total} {i} {p} {row} g e =
     ∙ sym (z .1) in
     g .on .row-is ∙ ap (λ (xs : List ℕ). g .on .before ++ xs) (sym t) ∙ sym (g .on .total-is)
 
-pub carry-starts :
+carry-starts :
     {width k : ℕ} {row : List ℕ} {done rest : List Segment} (s : Segment) → Holds width k row done rest →
     length done + length rest < 128 → Carry (rowFrom (done ++ s ∷ rest)) k s row
 unfolding numbersOf

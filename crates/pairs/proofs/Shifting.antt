@@ -46,7 +46,7 @@ shifted-from before x y (a ∷ b ∷ ys) i l size h t =
       read = t;
     }
 
-pub shifted :
+shifted :
     {total : List ℕ} {i : ℕ} {row row′ : List ℕ} {offset count : ℕ} → Gap total i row → i < 127 →
     Reads row (i + 1) offset count → row′ ≡ written row i (record { offset = offset; count = count }) → Shifted total (i + 1) count row′
 shifted {total} {i} {row} {row′} {offset} {count} g h r w =
@@ -55,7 +55,7 @@ shifted {total} {i} {row} {row′} {offset} {count} g h r w =
     rw w (subst (λ (s : Segment). Shifted total (i + 1) (s .count) (written row i s)) (read-segment r) f)
 
 -- at the last pair nothing is left to move
-pub closed :
+closed :
     {total : List ℕ} {i : ℕ} {row : List ℕ} → Gap total i row → 127 ≤ i → written row 127 (record { offset = 0; count = 0 }) ≡ total
 closed {total} {i} {row} g h =
     ap (λ (r : List ℕ). written r 127 z) (g .row-is) ∙ go (g .after) (g .size) ∙ sym (g .total-is)
@@ -73,7 +73,7 @@ zeros-more : (n : ℕ) → 0 ∷ 0 ∷ zeros n ≡ zeros n ++ 0 ∷ 0 ∷ []
 zeros-more n = let e : suc (suc n) ≡ n + 2 = omega arith in ap zeros e ∙ sym (replicate-append-replicate n 2 (ℕ.zero))
 
 -- an unused pair was moved: what follows is unused
-pub unused : {total : List ℕ} {i count : ℕ} {row : List ℕ} → Shifted total i count row → count ≡ 0 → row ≡ total
+unused : {total : List ℕ} {i count : ℕ} {row : List ℕ} → Shifted total i count row → count ≡ 0 → row ≡ total
 unused {total} {i} {count} {row} g e =
     let a : List ℕ = g .on .after in
     let y : g .on .y ≡ 0 = sym (g .count-is) ∙ e in
@@ -86,7 +86,7 @@ unused {total} {i} {count} {row} g e =
     ∙ ap (λ (xs : List ℕ). g .on .before ++ (xs ++ 0 ∷ 0 ∷ [])) (sym (z .1))
     ∙ sym (g .on .total-is)
 
-pub gap-opens :
+gap-opens :
     {width k : ℕ} {row : List ℕ} {done : List Segment} {s : Segment} {rest : List Segment} →
     Holds width k row done (s ∷ rest) → Gap (rowFrom (done ++ rest)) k row
 unfolding numbersOf

@@ -18,13 +18,14 @@ use Rattle.model.specs.Patch.{Patch}
 use Rattle.model.specs.Booking.{firstIs, cellsWhere}
 use Rattle.model.proofs.Tests.{lt-or-ge}
 use Rattle.model.proofs.Ranges.{range-append}
+use Rattle.model.proofs.Tables.{zero-at}
 use Rattle.segments.proofs.Tallies.{tally-most, tally-clear}
 use Rattle.scanline.specs.Shown.{RowLit}
 use Rattle.placing.specs.Booked.{addedTo, AtMost, Bookable, Books, BookedUpTo}
 use Rattle.placing.proofs.FirstBooked.{rowCells, row-more, row-stays}
 
 -- the last of the numbers of a table, added
-sum-last : (f : ℕ → ℕ) (k : ℕ) → sum _+_ 0 (map f (range 0 (k + 1))) ≡ sum _+_ 0 (map f (range 0 k)) + f k
+pub sum-last : (f : ℕ → ℕ) (k : ℕ) → sum _+_ 0 (map f (range 0 (k + 1))) ≡ sum _+_ 0 (map f (range 0 k)) + f k
 unfolding sum
 sum-last f k =
     ap (λ (l : List ℕ). sum _+_ 0 (map f l)) (range-append 0 k 1)
@@ -39,7 +40,7 @@ unfolding addedTo
 added-more order lits k n = sum-last (λ (m : ℕ). cond (eqb (getD order m 0) n) (getD lits m 0) 0) k
 
 -- an entry to which a number is added, among the others
-grown : (l : List ℕ) (m v n : ℕ) → m < length l → getD (set l m (getD l m 0 + v)) n 0 ≡ getD l n 0 + cond (eqb m n) v 0
+pub grown : (l : List ℕ) (m v n : ℕ) → m < length l → getD (set l m (getD l m 0 + v)) n 0 ≡ getD l n 0 + cond (eqb m n) v 0
 grown l m v n h = go (ℕ-discrete n m)
   where
     go : Dec (n ≡ m) → getD (set l m (getD l m 0 + v)) n 0 ≡ getD l n 0 + cond (eqb m n) v 0
@@ -120,15 +121,10 @@ booked-as {booked = booked} same b = record { same = b .same; each = λ n l. b .
 
 -- ---- all rows
 
-pub all-zero : (n k : ℕ) → _≡_ {A = ℕ} (getD (replicate n 0) k 0) 0
-all-zero zero k = refl
-all-zero (suc n) zero = refl
-all-zero (suc n) (suc k) = all-zero n k
-
 module _ {eye : Vec} {ray : ℕ → ℕ → Vec} {patch : ℕ → Patch} {order : List ℕ} {width : ℕ} where
   pub book-start : (n : ℕ) → BookedUpTo eye ray patch order width (replicate n 0) 0
   unfolding cellsWhere sum
-  book-start n = record { each = λ k l. all-zero n k }
+  book-start n = record { each = λ k l. zero-at n k }
 
   pub book-go :
       {booked booked′ : List ℕ} {j : ℕ} → BookedUpTo eye ray patch order width booked j →

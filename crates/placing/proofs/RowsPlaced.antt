@@ -1,26 +1,32 @@
 -- The rows of a picture, of the unlit lists and of the lit map, put in their places one after the other.
 use mathlib.Core.Path.{_≡_, refl, sym, ap, ap₂, subst, _∙_}
-use mathlib.Core.Bool.{Bool}
-use mathlib.Core.List.{List, _++_, map, flatten, append-nil, append-assoc}
+use mathlib.Core.Bool.{Bool, true}
+use mathlib.Core.List.{List, [], _∷_, _++_, map, flatten, append-nil, append-assoc}
 use Prim.Native.Nat.{ℕ, zero, suc, _+_, _-_, _*_, _≤_, _<_}
 use native.Mathlib.Nat.{add-zero, zero-add, zero-mul, mul-comm, mul-le-mul-right}
 use native.Mathlib.Numerals.{add-one}
 use native.Mathlib.Omega.{arith}
 use lib.ListN.{length, getD, take, drop, length-take, length-drop, length-append}
 use lib.Dec.{eqb}
+use lib.IntN.{ℤ}
 use lib.Seq.{drop-drop, take-at, take-all, length-take-le}
 use borrow.Rule.Slice.PartMut.{putMid}
 use Rattle.model.specs.Lists.{range}
 use Rattle.model.specs.Vector.{Vec}
 use Rattle.model.specs.Patch.{Patch}
-use Rattle.model.specs.Row.{rowLength}
-use Rattle.model.specs.Map.{rowWords}
+use Rattle.model.specs.Row.{rowLength, rowOf}
+use Rattle.model.specs.Map.{rowWords, mapRow}
 use Rattle.model.proofs.Tables.{length-table}
 use Rattle.model.proofs.LitMap.{map-length}
 use Rattle.segments.proofs.Rows.{row-length}
 use Rattle.segments.proofs.Full.{first-length}
+use Rattle.segments.proofs.Mapped.{fresh-map}
+use Rattle.format.specs.declared.layout.Layout.{Layout}
+use Rattle.edges.specs.declared.Sight.{Sight}
+use Rattle.scanline.specs.Laying as scanline
 use Rattle.scanline.specs.Shown.{unlitAfter, RowPainted, RowLit}
 use Rattle.placing.specs.Framing.{RowsPainted, Framed, withRow, RowPlaced, RowDone, cellsOf, unlitOf, litOf, RowsUpTo}
+use Rattle.placing.specs.Places.{RowAsked}
 use Rattle.scanline.proofs.Columns.{each-lit}
 use Rattle.scanline.proofs.WalkPainted.{as-long}
 use Rattle.scanline.proofs.Counted.{lit-as-long}
@@ -33,6 +39,16 @@ put-back start width list row =
     let e : start + width - start ≡ width = omega arith in
     rw (e, drop-drop width start list)
 
+pub part-length : (start width : ℕ) (list : List ℕ) → start + width ≤ length list → length (take (start + width - start) (drop start list)) ≡ width
+part-length start width list h = simp (length-take, length-drop) (omega (arith, h))
+
+-- a painted row has its 256 numbers, and its words are four
+pub painted-row : {eye : Vec} {ray : ℕ → Vec} {walk : List Patch} {width : ℕ} {cells row words : List ℕ} → RowPainted eye ray walk width cells row words → length row ≡ 256
+painted-row {width = width} h = ap length (h .row-is) ∙ row-length width _
+
+pub painted-words : {eye : Vec} {ray : ℕ → Vec} {walk : List Patch} {width : ℕ} {cells row words : List ℕ} → RowPainted eye ray walk width cells row words → length words ≡ 4
+painted-words {width = width} h = ap length (h .words-are) ∙ map-length width _
+
 module _ {width height j : ℕ} {picture unlit lit : List ℕ} (framed : Framed width height picture unlit lit) (h : j < height) where
   pub cells-fit : j * width + width ≤ length picture
   cells-fit = omega (arith, framed .cells, mul-le-mul-right width h)
@@ -44,7 +60,7 @@ module _ {width height j : ℕ} {picture unlit lit : List ℕ} (framed : Framed 
   words-fit = omega (arith, framed .words)
 
   part-long : length (take (j * width + width - j * width) (drop (j * width) picture)) ≡ width
-  part-long = simp (length-take, length-drop) (omega (arith, cells-fit))
+  part-long = part-length (j * width) width picture cells-fit
 
   pub row-done :
       {eye : Vec} {ray : ℕ → Vec} {walk : List Patch} {cells row words numbers map-words : List ℕ} {full : Bool} →
@@ -78,6 +94,24 @@ module _ {width height j : ℕ} {picture unlit lit : List ℕ} (framed : Framed 
       RowLit eye ray patch order (length (take (j * width + width - j * width) (drop (j * width) picture))) lits laid →
       RowLit eye ray patch order width lits laid
   row-lit = lit-as-long part-long
+
+-- a fresh row and four zeros are what painting its part of the picture asks
+pub row-asked :
+    {bytes : List ℕ} {l : Layout} {s : Sight} {edges : List ℤ} {order picture unlit lit lits : List ℕ} {j : ℕ} {row : List ℕ} →
+    RowAsked bytes l s edges order picture unlit lit lits j → row ≡ rowOf (s .raster .width) (λ (i : ℕ). true) →
+    scanline.RowAsked bytes l s edges order j row (0 ∷ 0 ∷ 0 ∷ 0 ∷ [])
+    (take (j * s .raster .width + s .raster .width - j * s .raster .width) (drop (j * s .raster .width) picture)) lits
+row-asked {s = s} {j = j} asked e =
+    let width : ℕ = s .raster .width in
+    let long = part-long (asked .framed) (asked .inside) in
+    record {
+      drawable = asked .drawable;
+      places = asked .places;
+      below = omega (arith, asked .inside, asked .framed .low);
+      narrow = omega (arith, long, asked .framed .narrow);
+      fresh = e ∙ ap (λ (n : ℕ). rowOf n (λ (i : ℕ). true)) (sym long);
+      dark = fresh-map width ∙ ap (λ (n : ℕ). mapRow n (λ (i : ℕ). true)) (sym long);
+    }
 
 -- ---- all rows
 

@@ -15,9 +15,9 @@ ghost use Rattle.scanline.specs.Laying.{walkOf};
 ghost use Rattle.placing.specs.Framing.{RowDone};
 ghost use Rattle.placing.specs.Places.{RowAsked};
 
-fn put_row(row: [u16; 256], place: &mut [u16])
-    requires { ⌜ length (now place) ≡ 256 ⌝ }
-    ensures { λ r. ⌜ now (place .exit) ≡ row ⌝ }
+fn put_row(row: &[u16], place: &mut [u16])
+    requires { ⌜ length (now place) ≡ length (now row) ⌝ }
+    ensures { λ r. ⌜ now (place .exit) ≡ now (row .entry) ⌝ }
 {
     let mut k = 0;
     while k < place.len() {
@@ -26,9 +26,9 @@ fn put_row(row: [u16; 256], place: &mut [u16])
     }
 }
 
-fn put_words(words: [u64; 4], place: &mut [u64])
-    requires { ⌜ length (now place) ≡ 4 ⌝ }
-    ensures { λ r. ⌜ now (place .exit) ≡ words ⌝ }
+fn put_words(words: &[u64], place: &mut [u64])
+    requires { ⌜ (length (now place) ≡ 4) × (length (now words) ≡ 4) ⌝ }
+    ensures { λ r. ⌜ now (place .exit) ≡ now (words .entry) ⌝ }
 {
     place[0] = words[0];
     place[1] = words[1];
@@ -67,26 +67,28 @@ pub fn place_row(
     let w = sight.raster.width;
     let start = (j as usize) * w;
     let end = start + w;
-    let painted = paint_row(
+    let mut row = rows::fresh(w as u16);
+    let mut words = [0u64; 4];
+    let laid = paint_row(
         bytes,
         l,
         order,
         sight,
         edges,
         j as usize,
+        &mut row,
+        &mut words,
         &mut picture[start..end],
         lits,
     );
-    let row = painted.row;
     let first = (j as usize) * 256;
     let last = first + 256;
-    put_row(row, &mut unlit[first..last]);
-    let words = painted.words;
+    put_row(&row, &mut unlit[first..last]);
     let from = (j as usize) * 4;
     let to = from + 4;
-    put_words(words, &mut lit[from..to]);
+    put_words(&words, &mut lit[from..to]);
     Placed {
         full: row[1] == 0,
-        laid: painted.laid,
+        laid,
     }
 }

@@ -12,7 +12,7 @@ use Rattle.integer.proofs.Identity.{ring, reify}
 use Rattle.model.specs.Lists.{range, every}
 use Rattle.model.specs.Vector.{Vec, origin, minus, dot, isZero, planeNormal, side}
 use Rattle.model.specs.Patch as model
-use Rattle.model.specs.Patch.{Edge, corner, patchPlane, normal, round, firstEdge, edges, flat, turnsTowards, strictlyConvex}
+use Rattle.model.specs.Patch.{Edge, corner, patchPlane, normal, round, firstEdge, edges, liesOn, flat, turnsTowards, strictlyConvex}
 use Rattle.geometry.specs.declared.Vector.{Vector}
 use Rattle.geometry.specs.Machine.{vecOf, planeOf, Bounded, VectorIs, NumberIs}
 use Rattle.geometry.proofs.Results.{number-by, vector-by}
@@ -77,7 +77,7 @@ module _ {p : Patch} (b : PatchBounded p) where
 
   -- ---- flat
   pub flat-asked : IsEvery (p .count) (λ (k : ℕ). isZero (side (patchPlane (patchOf p)) (cornerOf p k))) (flat (patchOf p))
-  unfolding flat
+  unfolding liesOn flat
   flat-asked = every-entry (λ (q : Vec). isZero (side (patchPlane (patchOf p)) q)) (cornerOf p) (p .count) refl
 
   -- the first three corners are on their plane

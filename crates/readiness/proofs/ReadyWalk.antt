@@ -65,7 +65,7 @@ module _ {bytes : List ℕ} {l : Layout} {s : Sight} {order : List ℕ} (paintab
           each = part-of (ReachKnown bytes s rows) (ready .reach);
         }
 
-    pub ready-more :
+    ready-more :
         {edges′ : List ℤ} {rows′ : List ℕ} → n < length order → PatchReady bytes l s (getD order n 0) edges edges′ rows rows′ →
         ReadyUpTo bytes l s order edges′ rows′ (n + 1)
     ready-more {edges′} {rows′} h new =

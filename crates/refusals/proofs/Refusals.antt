@@ -3,16 +3,16 @@
 use mathlib.Core.Path.{_≡_, refl}
 use mathlib.Core.Bool.{Bool, true, false, cond}
 use mathlib.Core.List.{List, [], _∷_, _++_, map}
-use Prim.Native.Nat.{ℕ}
+use Prim.Native.Nat.{ℕ, _+_}
 use lib.IntN.{ℤ, pos, negsuc, negℤ}
-use lib.ListN.{getD, take}
+use lib.ListN.{getD, take, replicate}
 use lib.Ieee.{Float, nan, inf, binary64, ofBits}
 use Rattle.model.specs.Vector.{Vec, Plane, vec, origin}
 use Rattle.model.specs.View.{Axes, levelAxes}
 use Rattle.model.specs.Station.{units, metres}
 use Rattle.model.specs.Call.{Call}
 use Rattle.model.specs.Questions.{Question, answer, questions}
-use Rattle.model.proofs.Encode.{headerBytes, bodyBytes, sceneBytes}
+use Rattle.model.proofs.Encode.{u16, u32, headerBytes, bodyBytes, sceneBytes}
 use Rattle.model.proofs.Computing.{everything}
 use Rattle.model.proofs.Scenes.{square, upright, none, nodeLine, patchLine, sceneS, sOfHalfWidth, turnedCall, fittingCall, usual}
 
@@ -86,6 +86,10 @@ otherWay =
     ∷ vec (negℤ (pos 50)) (pos 100) (negℤ (pos 50))
     ∷ []
 
+-- S's square with its fourth corner one unit behind the plane of the others
+abbrev bent : List Vec
+bent = take 3 cornersS ++ vec (negℤ (pos 50)) (pos 101) (pos 50) ∷ []
+
 -- a square off its node's plane
 abbrev offPlane : List Vec
 offPlane = square (pos 90) (pos 50)
@@ -112,6 +116,25 @@ level =
 abbrev below : Plane → ℕ → ℕ → List Vec → List ℕ
 below s p n cs =
     sceneBytes (nodeLine planeS p n 0 0 ∷ nodeLine s none none 0 1 ∷ []) (patchLine 5 0 4 ∷ []) cs
+
+-- a plane before S's
+abbrev nearer : Plane
+nearer = upright (pos 50) (pos 20)
+
+-- a root on S's plane and a node below it on the nearer one, with these patch runs: first and count of the root's, then of the other's
+abbrev runs : ℕ → ℕ → ℕ → ℕ → List Vec → List ℕ
+runs f c f′ c′ cs =
+    sceneBytes (nodeLine planeS 1 none f c ∷ nodeLine nearer none none f′ c′ ∷ []) (patchLine 5 0 4 ∷ []) cs
+
+-- ---- a patch before S's plane, between two sides, below two planes without a patch: S's and, as the root, x = 0, whose positive side is the left
+
+abbrev thirdLevel : ℤ → ℤ → List ℕ
+thirdLevel left right =
+    sceneBytes (nodeLine middle 1 none 0 0 ∷ nodeLine planeS 2 none 0 0 ∷ nodeLine nearer none none 0 1 ∷ []) (patchLine 5 0 4 ∷ [])
+    (vec left (pos 50) (negℤ (pos 20)) ∷ vec right (pos 50) (negℤ (pos 20)) ∷ vec right (pos 50) (pos 20) ∷ vec left (pos 50) (pos 20) ∷ [])
+  where
+    middle : Plane
+    middle = record { a = origin; b = vec (pos 0) (pos 0) (pos 1); c = vec (pos 0) (pos 1) (pos 0) }
 
 -- ---- the call's own numbers
 
@@ -170,6 +193,19 @@ headed cs v r w s n p c =
 abbrev header : ℕ → ℕ → ℕ → ℕ → ℕ → ℕ → ℕ → List ℕ
 header = headed cornersS
 
+-- S with so many bytes between its nodes and its patches, and between its patches and its corners, all named rightly by the header
+abbrev parted : ℕ → ℕ → List ℕ
+parted p c =
+    u16 1 ++ u16 0 ++ u32 (88 + p + c)
+    ++ u32 32 ++ u32 26
+    ++ u32 (58 + p) ++ u32 6
+    ++ u32 (64 + p + c) ++ u32 24
+    ++ bodyBytes (nodeLine planeS none none 0 1 ∷ []) [] []
+    ++ replicate p 0
+    ++ bodyBytes [] (patchLine 5 0 4 ∷ []) []
+    ++ replicate c 0
+    ++ bodyBytes [] [] cornersS
+
 -- a call, and the numbers of all questions that say no to it
 pub record Case : Type 0 where
   pub call : Call
@@ -193,6 +229,10 @@ cases =
     ∷ case (header 1 0 88 32 26 12 18) (6 ∷ 7 ∷ [])
     ∷ case (headed (square (pos 10001) (pos 50)) 1 0 88 32 26 6 18) (2 ∷ 3 ∷ 6 ∷ 9 ∷ [])
     ∷ case (header 1 0 88 32 27 5 24) (2 ∷ 6 ∷ [])
+    -- a section that does not begin where the one before it ended, though the last ends at the whole length
+    ∷ case (parted 0 0) []
+    ∷ case (parted 6 0) (2 ∷ [])
+    ∷ case (parted 0 6) (2 ∷ [])
     -- coordinates of a corner, of a node's point; and at the limit
     ∷ case (sOfHalfWidth (pos 10000)) []
     ∷ case (sOfHalfWidth (pos 10001)) (3 ∷ [])
@@ -213,6 +253,11 @@ cases =
     ∷ case (likeS planeS none 0 5 4 cornersS) (6 ∷ [])
     ∷ case (likeS planeS none 1 5 3 cornersS) (6 ∷ [])
     ∷ case (likeS planeS none 1 0 3 cornersS) (6 ∷ 7 ∷ [])
+    -- an empty run that names the place where it would begin, and that names another, after and before the patch
+    ∷ case (runs 0 1 1 0 cornersS) []
+    ∷ case (runs 0 1 0 0 cornersS) (6 ∷ [])
+    ∷ case (runs 0 0 0 1 (square (pos 50) (pos 20))) []
+    ∷ case (runs 1 0 0 1 (square (pos 50) (pos 20))) (6 ∷ [])
     -- a patch or corners without a node
     ∷ case (sceneBytes [] (patchLine 5 0 0 ∷ []) []) (6 ∷ [])
     ∷ case (sceneBytes [] [] cornersS) (6 ∷ [])
@@ -234,12 +279,16 @@ cases =
     ∷ case (likeS planeS none 1 5 5 midway) (8 ∷ [])
     ∷ case (likeS planeS none 1 5 5 twice) (8 ∷ [])
     ∷ case (likeS planeS none 1 5 6 doubled) (8 ∷ [])
+    ∷ case (likeS planeS none 1 5 4 bent) (8 ∷ 9 ∷ [])
     ∷ case (likeS level none 1 5 5 midway) (8 ∷ 9 ∷ [])
     -- the planes; 9 before 10
     ∷ case (likeS planeS none 1 5 4 offPlane) (9 ∷ [])
     ∷ case (below level 1 none leaning) []
     ∷ case (below level none 1 leaning) (9 ∷ [])
     ∷ case (below planeS 1 none cornersS) (9 ∷ [])
+    ∷ case (thirdLevel (negℤ (pos 20)) (pos 0)) []
+    ∷ case (thirdLevel (negℤ (pos 20)) (pos 20)) (9 ∷ [])
+    ∷ case (thirdLevel (pos 0) (pos 20)) (9 ∷ [])
     ∷ onCall (fittingCall (likeS planeS none 1 5 4 offPlane) origin 0 4 4) (9 ∷ 10 ∷ [])
     -- a station in metres: its doubles at the limits and beyond, each part on its own; 9 before 15, 15 before 10, 14, 11 and 12
     ∷ onCall (from zeroMetres lastMetres firstMetres (usual sceneS)) []

@@ -6,7 +6,7 @@ use lib.ListN.{length}
 use Rattle.model.specs.View.{View, viewWidth, viewHeight}
 use Rattle.model.specs.Beside.{cellLine}
 use Rattle.model.specs.Format.{decode, patchTable}
-use Rattle.model.specs.Picture.{picture, cellPanel, unlitLists, litMap}
+use Rattle.model.specs.Picture.{picture, cellPanel, counts, countEntries, unlitLists, litMap}
 use Rattle.model.specs.Booking.{patchCells}
 use Rattle.model.specs.Accepted.{AcceptedScene}
 use Rattle.geometry.specs.declared.Vector.{Vector}
@@ -15,13 +15,14 @@ use Rattle.camera.specs.declared.Camera.{Camera}
 use Rattle.camera.specs.Machine.{CameraBounded}
 use Rattle.placing.specs.Framing.{Framed}
 
--- a scene that passed the questions, an eye and a camera in range, buffers of the window's size, and a table with one entry a patch
-pub record PaintingAsked (bytes : List ℕ) (eye : Vector) (camera : Camera) (picture unlit lit booked : List ℕ) : Type 0 where
+-- a scene that passed the questions, an eye and a camera in range, buffers of the window's size, a table with one entry a patch and one with an entry a panel number
+pub record PaintingAsked (bytes : List ℕ) (eye : Vector) (camera : Camera) (picture unlit lit booked totals : List ℕ) : Type 0 where
   pub accepted : AcceptedScene bytes
   pub near : Bounded 10000 eye
   pub aimed : CameraBounded camera
   pub framed : Framed (camera .width) (camera .height) picture unlit lit
   pub entries : length booked ≡ length (decode bytes .patches)
+  pub counted : length totals ≡ countEntries
 
 -- the picture, the unlit lists and the lit map of a view, from the closest panels, and the cells of each patch
 pub record Painted (bytes : List ℕ) (v : View) (cells unlit lit booked : List ℕ) : Type 0 where
@@ -33,3 +34,8 @@ pub record Painted (bytes : List ℕ) (v : View) (cells unlit lit booked : List 
       lit ≡ litMap (viewWidth v) (viewHeight v) (cellPanel (v .eye) (cellLine (v .camera)) (patchTable (decode bytes)))
   pub booked-are :
       booked ≡ patchCells (v .eye) (viewWidth v) (viewHeight v) (cellLine (v .camera)) (patchTable (decode bytes))
+
+-- and the counts of the picture's cells
+pub record Rendered (bytes : List ℕ) (v : View) (cells unlit lit booked totals : List ℕ) : Type 0 where
+  pub painted : Painted bytes v cells unlit lit booked
+  pub counts-are : totals ≡ counts (picture (v .eye) (viewWidth v) (viewHeight v) (cellLine (v .camera)) (patchTable (decode bytes)))

@@ -1,2 +1,7 @@
--- How many numbers a row's used pairs are.
+-- Laws on the lines of rows.
+mod Digits
+mod Fields
+mod Lists
+mod Rooms
 mod Used
+pub mod Examples

@@ -6,18 +6,24 @@ use text::put_number;
 use text::put_spaced;
 use text::put_text;
 ghost use mathlib.Core.Path.{_≡_};
-ghost use mathlib.Core.Bool.{Bool, cond};
-ghost use mathlib.Core.List.{[], _∷_};
-ghost use Prim.Native.Nat.{ℕ, _+_, _*_, _≤_, _<_};
+ghost use mathlib.Core.Bool.{Bool};
+ghost use Prim.Native.Nat.{ℕ, _≤_, _<_};
 ghost use lib.ListN.{length};
+ghost use Rattle.text.specs.Text.{spaced};
+ghost use Rattle.text.specs.Put.{Room, Put};
 ghost use Rattle.model.specs.Row.{rowOf, afterSpan};
 ghost use Rattle.model.specs.Map.{mapRow};
 ghost use Rattle.rows.specs.Span.{UnderWork, Lays};
+ghost use Rattle.row_lines.specs.Line.{each, hexDigit, wordDigits, spacedWord, beginning, fields, rowLine};
+ghost use Rattle.row_lines.specs.Told.{reported, Told};
 
-// Each number after a space, which is at most eleven bytes.
+// Room for every line: what laying a span reports, the 256 numbers of a row's pairs, its words, and as many cells.
+const ROOM: usize = 8192;
+
+// Each number after a space.
 fn put_numbers(out: &mut [u8], at: usize, numbers: &[u16]) -> usize
-    requires { ⌜ at + 11 * length (now numbers) ≤ length (now out) ⌝ }
-    ensures { λ r. ⌜ r ≤ at + 11 * length (now (numbers .entry)) ⌝ }
+    requires { ⌜ Room (each spaced (now numbers)) at (now out) ⌝ }
+    ensures { λ r. ⌜ Put (each spaced (now (numbers .entry))) at (now (out .entry)) (now (out .exit)) r ⌝ }
 {
     let mut end = at;
     let mut i = 0;
@@ -30,6 +36,7 @@ fn put_numbers(out: &mut [u8], at: usize, numbers: &[u16]) -> usize
 
 fn hex_digit(d: u8) -> u8
     requires { ⌜ d < 16 ⌝ }
+    ensures { λ r. ⌜ r ≡ hexDigit d ⌝ }
 {
     if d < 10 {
         return b'0' + d;
@@ -39,8 +46,8 @@ fn hex_digit(d: u8) -> u8
 
 // A word as sixteen hexadecimal digits, written from the last, the least significant, to the first.
 fn put_word(out: &mut [u8], at: usize, word: u64) -> usize
-    requires { ⌜ at + 16 ≤ length (now out) ⌝ }
-    ensures { λ r. ⌜ r ≡ at + 16 ⌝ }
+    requires { ⌜ Room (wordDigits word) at (now out) ⌝ }
+    ensures { λ r. ⌜ Put (wordDigits word) at (now (out .entry)) (now (out .exit)) r ⌝ }
 {
     let mut rest = word;
     let mut i = 16;
@@ -52,24 +59,24 @@ fn put_word(out: &mut [u8], at: usize, word: u64) -> usize
     at + 16
 }
 
-// Each of the four words after a space.
-fn put_words(out: &mut [u8], at: usize, words: &[u64; 4]) -> usize
-    requires { ⌜ at + 68 ≤ length (now out) ⌝ }
-    ensures { λ r. ⌜ r ≡ at + 68 ⌝ }
+// Each word after a space.
+fn put_words(out: &mut [u8], at: usize, words: &[u64]) -> usize
+    requires { ⌜ Room (each spacedWord (now words)) at (now out) ⌝ }
+    ensures { λ r. ⌜ Put (each spacedWord (now (words .entry))) at (now (out .entry)) (now (out .exit)) r ⌝ }
 {
     let mut end = at;
     let mut k = 0;
-    while k < 4 {
-        out[end] = b' ';
-        end = put_word(out, end + 1, words[k]);
+    while k < words.len() {
+        let first = put_byte(out, end, b' ');
+        end = put_word(out, first, words[k]);
         k += 1;
     }
     end
 }
 
-// What laying a span reported, as numbers: the segments looked at, the cells newly lit, and 1 where no column is unlit any more.
+// What laying reported, in the order that a line tells it in.
 fn report(laid: Laid) -> [u16; 3]
-    ensures { λ r. ⌜ r ≡ laid .looked ∷ laid .lit ∷ cond (laid .full) 1 0 ∷ [] ⌝ }
+    ensures { λ r. ⌜ r ≡ reported (laid .full) (laid .lit) (laid .looked) ⌝ }
 {
     let full = if laid.full { 1 } else { 0 };
     [laid.looked, laid.lit, full]
@@ -77,8 +84,8 @@ fn report(laid: Laid) -> [u16; 3]
 
 // The line's number and those reported, and a colon.
 fn put_report(line: &mut [u8], number: u32, reported: &[u16]) -> usize
-    requires { ⌜ 11 * length (now reported) + 11 ≤ length (now line) ⌝ }
-    ensures { λ r. ⌜ r ≤ 11 * length (now (reported .entry)) + 11 ⌝ }
+    requires { ⌜ Room (beginning number (now reported)) 0 (now line) ⌝ }
+    ensures { λ r. ⌜ Put (beginning number (now (reported .entry))) 0 (now (line .entry)) (now (line .exit)) r ⌝ }
 {
     let named = put_number(line, 0, number);
     let told = put_numbers(line, named, reported);
@@ -86,16 +93,17 @@ fn put_report(line: &mut [u8], number: u32, reported: &[u16]) -> usize
 }
 
 // The line's number and those reported, the used pairs, the words of the lit map and the cells, as a line.
-fn put_row(
-    line: &mut [u8],
+fn put_fields(
+    line: &mut [u8; ROOM],
     number: u32,
     reported: &[u16],
     pairs: &[u16],
-    words: &[u64; 4],
+    words: &[u64],
     cells: &[u16],
 ) -> usize
-    requires { ⌜ 11 * length (now reported) + (11 * length (now pairs) + (11 * length (now cells) + 84)) ≤ length (now line) ⌝ }
-    ensures { λ r. ⌜ r ≤ length (now (line .exit)) ⌝ }
+    requires { ⌜ (length (now reported) ≤ 3) × (length (now pairs) ≤ 256) × (length (now words) ≤ 4) × (length (now cells) ≤ 256) ⌝ }
+    ensures { λ r. ⌜ Put (fields number (now (reported .entry)) (now (pairs .entry)) (now (words .entry)) (now (cells .entry))) 0
+        (now (line .entry)) (now (line .exit)) r ⌝ }
 {
     let before = put_report(line, number, reported);
     let paired = put_numbers(line, before, pairs);
@@ -106,7 +114,30 @@ fn put_row(
     put_byte(line, listed, b'\n')
 }
 
-// The line has room for what is reported, for the 256 numbers of a row's pairs, for its words and for as many cells.
+// The line of a row, its words and its cells.
+fn put_row(
+    line: &mut [u8; ROOM],
+    number: u32,
+    reported: &[u16],
+    row: &[u16; 256],
+    words: &[u64; 4],
+    cells: &[u16],
+) -> usize
+    requires { ⌜ (length (now reported) ≤ 3) × (length (now cells) ≤ 256) ⌝ }
+    ensures { λ r. ⌜ Put (rowLine number (now (reported .entry)) (now (row .entry)) (now (words .entry)) (now (cells .entry))) 0
+        (now (line .entry)) (now (line .exit)) r ⌝ }
+{
+    put_fields(
+        line,
+        number,
+        reported,
+        rows::used_pairs(row, 0),
+        words,
+        cells,
+    )
+}
+
+// Writes a row's line, and nothing else: what the line is `put_row` promises.
 pub fn write_row(
     number: u32,
     reported: &[u16],
@@ -117,19 +148,36 @@ pub fn write_row(
 )
     requires { ⌜ (length (now reported) ≤ 3) × (length (now cells) ≤ 256) ⌝ }
 {
-    let mut line = [0u8; 8192];
-    let end = put_row(
-        &mut line,
-        number,
-        reported,
-        rows::used_pairs(row, 0),
-        words,
-        cells,
-    );
+    let mut line = [0u8; ROOM];
+    let end = put_row(&mut line, number, reported, row, words, cells);
     write_or_tell(&line[..end], message);
 }
 
-// Lays a span, and writes after it what laying it reported, the row, its words and its cells.
+// Lays a span, and puts the line that tells of it: what laying it reported, the row, its words and its cells.
+fn lay_and_put(
+    line: &mut [u8; ROOM],
+    number: u32,
+    row: &mut [u16; 256],
+    words: &mut [u64; 4],
+    cells: &mut [u16],
+    first: u16,
+    last: u16,
+    panel: u16,
+) -> usize
+    requires { ⌜ UnderWork (length (now cells)) (now row) (now words) ⌝ }
+    ensures laid { λ r. ⌜ ((unlit : ℕ → Bool) → now (row .entry) ≡ rowOf (length (now (cells .entry))) unlit →
+        Lays unlit first last panel (now (cells .entry)) (now (row .exit)) (now (cells .exit))) ⌝ }
+    ensures mapped { λ r. ⌜ ((unlit : ℕ → Bool) → now (row .entry) ≡ rowOf (length (now (cells .entry))) unlit →
+        now (words .exit) ≡ mapRow (length (now (cells .entry))) (afterSpan unlit first last)) ⌝ }
+    ensures told { λ r. ⌜ ((unlit : ℕ → Bool) → now (row .entry) ≡ rowOf (length (now (cells .entry))) unlit →
+        Told unlit first last (length (now (cells .entry))) number (now (row .exit)) (now (words .exit)) (now (cells .exit))
+        (now (line .entry)) (now (line .exit)) r) ⌝ }
+{
+    let laid = rows::lay(row, words, cells, first, last, panel);
+    put_row(line, number, &report(laid), row, words, cells)
+}
+
+// Lays a span, and writes after it the line that tells of it.
 pub fn lay_and_write(
     number: u32,
     row: &mut [u16; 256],
@@ -146,6 +194,7 @@ pub fn lay_and_write(
     ensures mapped { λ r. ⌜ ((unlit : ℕ → Bool) → now (row .entry) ≡ rowOf (length (now (cells .entry))) unlit →
         now (words .exit) ≡ mapRow (length (now (cells .entry))) (afterSpan unlit first last)) ⌝ }
 {
-    let laid = rows::lay(row, words, cells, first, last, panel);
-    write_row(number, &report(laid), row, words, cells, message);
+    let mut line = [0u8; ROOM];
+    let end = lay_and_put(&mut line, number, row, words, cells, first, last, panel);
+    write_or_tell(&line[..end], message);
 }

@@ -15,7 +15,8 @@ use Rattle.segments.proofs.Looking.{looks-bounded, after-next}
 
 -- a fresh row and four zeros are under work, and so are a row and its words on which a span was laid
 pub work-fresh : {width n : ℕ} {row : List ℕ} → width ≡ n → n ≤ 256 → row ≡ rowOf n (λ (i : ℕ). true) → UnderWork width row (0 ∷ 0 ∷ 0 ∷ 0 ∷ [])
-work-fresh {width} w fits e = record { fits = omega arith; unlit = λ (i : ℕ). true; row-is = rw w e; words-are = fresh-map width }
+work-fresh {width} w fits e =
+    record { listed = record { fits = omega arith; unlit = λ (i : ℕ). true; row-is = rw w e }; words-are = fresh-map width }
 
 pub work-laid :
     {first last panel : ℕ} {row words cells row′ words′ cells′ : List ℕ} → UnderWork (length cells) row words →
@@ -23,13 +24,12 @@ pub work-laid :
     ((unlit : ℕ → Bool) → row ≡ rowOf (length cells) unlit → words′ ≡ mapRow (length cells) (afterSpan unlit first last)) →
     UnderWork (length cells′) row′ words′
 work-laid {first} {last} {panel} {cells = cells} {row′} {words′} {cells′} w lays lights =
-    let l = lays (w .unlit) (w .row-is) in
+    let r = w .listed in
+    let l = lays (r .unlit) (r .row-is) in
     let e : length cells ≡ length cells′ = sym (ap length (l .cells-are) ∙ painted-length _ panel cells) in
     record {
-      fits = rw e at (w .fits);
-      unlit = afterSpan (w .unlit) first last;
-      row-is = l .row-is ∙ rw e;
-      words-are = lights (w .unlit) (w .row-is) ∙ rw e;
+      listed = record { fits = rw e at (r .fits); unlit = afterSpan (r .unlit) first last; row-is = l .row-is ∙ rw e };
+      words-are = lights (r .unlit) (r .row-is) ∙ rw e;
     }
 
 -- ---- spans laid one after the other on a fresh row: `before` are those laid so far

@@ -1,26 +1,44 @@
 -- Document 02, F-8: "Map and list describe the same cells on a fresh row, and after every span if they did before it."
 use mathlib.Core.Path.{_≡_, refl, sym, ap, _∙_}
-use mathlib.Core.Bool.{Bool, true, false, not, _&&_, true≢false}
+use mathlib.Core.Bool.{Bool, true, false, not, _&&_, _||_, true≢false}
 use mathlib.Core.List.{List, [], _∷_}
-use Prim.Native.Nat.{ℕ, _+_, _*_, _^_, _≤_, _<_}
+use Prim.Native.Nat.{ℕ, zero, suc, _+_, _*_, _^_, _<_}
+use native.Mathlib.Nat.{zero-add}
 use native.Mathlib.Omega.{arith}
-use lib.ListN.{length, getD}
+use borrow.Author.Tests.{le-leb, le-ltb}
+use lib.Dec.{ltb}
+use lib.ListN.{length, getD, set}
 use lib.Seq.{ext-getD}
 use Rattle.model.specs.Lists.{range, tally}
 use Rattle.model.specs.Row.{rowOf, usedPairs, inPairs, afterSpan}
-use Rattle.model.specs.Map.{litColumn, mapRow, SameCells}
+use Rattle.model.specs.Map.{litColumn, litAt, mapRow, SameCells}
 use Rattle.segments.specs.Columns.{inSpan}
 use Rattle.rows.specs.Span.{Row, UnderWork, Lays}
 use Rattle.model.proofs.Tests.{tally-none}
 use Rattle.model.proofs.Ranges.{in-range}
 use Rattle.model.proofs.Bits.{word-is}
-use Rattle.model.proofs.LitMap.{map-length, map-word, lit-in-word, map-congr}
+use Rattle.model.proofs.LitMap.{map-bit, map-length, map-word, lit-in-word, map-congr}
 use Rattle.segments.proofs.Tests.{failed}
-use Rattle.segments.proofs.Rows.{row-determines}
+use Rattle.segments.proofs.Rows.{zeros, row-determines}
+use Rattle.segments.proofs.Full.{fresh-row}
 use Rattle.segments.proofs.Mapped.{pairs-column, same-of-set, fresh-map}
 
-pub same-fresh : {width : ℕ} {row : List ℕ} → width ≤ 256 → row ≡ rowOf width (λ (i : ℕ). true) → SameCells width row (0 ∷ 0 ∷ 0 ∷ 0 ∷ [])
-same-fresh {width} fits e = rw (e, fresh-map width) (same-of-set width fits (λ (i : ℕ). true))
+-- the one pair of a fresh row has all columns below the width; where the width is 0 there are none
+all-unlit : (width i : ℕ) → (ltb i width && false) ≡ litColumn width (inPairs (usedPairs (set (zeros 256) 1 width))) i
+unfolding usedPairs inPairs
+all-unlit zero i = rw (le-ltb i 0 (omega arith))
+all-unlit (suc n) i = rw (zero-add, le-leb 0 i (omega arith)) (go (ltb i (suc n)))
+  where
+    go : (b : Bool) → (b && false) ≡ (b && not (b || false))
+    go true = refl
+    go false = refl
+
+-- "on a fresh row", of any width: it has one pair at most, and no column is lit
+pub same-fresh : (width : ℕ) {row : List ℕ} → row ≡ rowOf width (λ (i : ℕ). true) → SameCells width row (0 ∷ 0 ∷ 0 ∷ 0 ∷ [])
+unfolding SameCells
+same-fresh width e i h =
+    rw (e, ← fresh-row width)
+    (ap (λ (words : List ℕ). litAt words i) (fresh-map width) ∙ map-bit width (λ (k : ℕ). true) i h ∙ all-unlit width i)
 
 -- A row and four words of 64 bits that describe the same cells are those of one set of unlit columns: what laying asks is just that "they did before it".
 pub same-before :
@@ -28,7 +46,7 @@ pub same-before :
     SameCells width row words → UnderWork width row words
 unfolding SameCells
 same-before {width} {row} {words} r long small same =
-    record { fits = r .fits; unlit = r .unlit; row-is = r .row-is; words-are = ext-getD 0 words (mapRow width (r .unlit)) (long ∙ sym (map-length width (r .unlit))) (λ k h. word k (omega arith)) }
+    record { listed = r; words-are = ext-getD 0 words (mapRow width (r .unlit)) (long ∙ sym (map-length width (r .unlit))) (λ k h. word k (omega arith)) }
   where
     column : (i : ℕ) → litColumn width (inPairs (usedPairs row)) i ≡ litColumn width (r .unlit) i
     column i = ap (λ (ns : List ℕ). litColumn width (inPairs (usedPairs ns)) i) (r .row-is) ∙ pairs-column width (r .fits) (r .unlit) i
@@ -45,13 +63,15 @@ pub same-after :
     ((unlit : ℕ → Bool) → row ≡ rowOf (length cells) unlit → words′ ≡ mapRow (length cells) (afterSpan unlit first last)) →
     SameCells (length cells) row′ words′
 same-after {first} {last} {cells = cells} w lays lights =
-    rw (lays (w .unlit) (w .row-is) .row-is, lights (w .unlit) (w .row-is))
-    (same-of-set (length cells) (w .fits) (afterSpan (w .unlit) first last))
+    let r = w .listed in
+    rw (lays (r .unlit) (r .row-is) .row-is, lights (r .unlit) (r .row-is))
+    (same-of-set (length cells) (r .fits) (afterSpan (r .unlit) first last))
 
 -- the words are those of whichever set the row is of
 pub words-now : {width : ℕ} {row words : List ℕ} → UnderWork width row words → (unlit : ℕ → Bool) → row ≡ rowOf width unlit → words ≡ mapRow width unlit
 words-now {width} w unlit e =
-    w .words-are ∙ map-congr width (w .unlit) unlit (row-determines width (w .fits) (w .unlit) unlit (sym (w .row-is) ∙ e))
+    let r = w .listed in
+    w .words-are ∙ map-congr width (r .unlit) unlit (row-determines width (r .fits) (r .unlit) unlit (sym (r .row-is) ∙ e))
 
 -- a span that newly lit no cell leaves the words as they were
 pub words-stay :

@@ -18,10 +18,8 @@ pub record Row (width : ℕ) (row : List ℕ) : Type 0 where
 
 -- the row and its words of the lit map are those of one set of unlit columns
 pub record UnderWork (width : ℕ) (row words : List ℕ) : Type 0 where
-  pub fits : width ≤ 256
-  pub unlit : ℕ → Bool
-  pub row-is : row ≡ rowOf width unlit
-  pub words-are : words ≡ mapRow width unlit
+  pub listed : Row width row
+  pub words-are : words ≡ mapRow width (listed .unlit)
 
 -- what laying a span leaves, where the row at entry is that of the set `unlit`: the row without the span's columns, and
 -- the panel in the cells that were unlit and lie in the span

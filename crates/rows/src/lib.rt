@@ -29,7 +29,7 @@ pub struct Laid {
 // A row whose columns are all unlit. Its words of the lit map are four zeros.
 pub fn fresh(width: u16) -> [u16; 256]
     ensures fresh { λ r. ⌜ r ≡ rowOf width (λ i. true) ⌝ }
-    ensures same { λ r. ⌜ (width ≤ 256 → SameCells width r (0 ∷ 0 ∷ 0 ∷ 0 ∷ [])) ⌝ }
+    ensures same { λ r. ⌜ SameCells width r (0 ∷ 0 ∷ 0 ∷ 0 ∷ []) ⌝ }
 {
     let mut row = [0u16; 256];
     row[1] = width;

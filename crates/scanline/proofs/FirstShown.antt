@@ -14,17 +14,9 @@ use Rattle.model.specs.Patch.{Patch}
 use Rattle.model.specs.Ray.{met, panelOf, firstMet}
 use Rattle.model.specs.Row.{rowPairs, segments}
 use Rattle.scanline.specs.Shown.{shownAfter, unlitAfter}
+use Rattle.model.proofs.Tests.{any-append}
 use Rattle.model.proofs.FirstMet.{orElse, firstMet-append}
 use Rattle.segments.proofs.Rows.{segments-few}
-
-any-append : {A : Type 0} (test : A → Bool) (xs ys : List A) → any test (xs ++ ys) ≡ (any test xs || any test ys)
-any-append test [] ys = refl
-any-append test (x ∷ xs) ys = go (test x) (any-append test xs ys)
-  where
-    go : (b : Bool) → any test (xs ++ ys) ≡ (any test xs || any test ys)
-        → (b || any test (xs ++ ys)) ≡ ((b || any test xs) || any test ys)
-    go true e = refl
-    go false e = e
 
 module _ (eye : Vec) (ray : ℕ → Vec) where
   -- Document 02, F-6: "a row never needs more than 128 stretches". So it is at each moment of the painting, whatever is painted by then: what question 13 asked.

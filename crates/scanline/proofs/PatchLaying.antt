@@ -23,7 +23,7 @@ use Rattle.spans.specs.Row.{RowSpan}
 use Rattle.edges.specs.declared.Sight.{Sight}
 use Rattle.edges.specs.Edges.{EdgesAt}
 use Rattle.edges.proofs.Meeting.{met-seen}
-use Rattle.scanline.specs.Laying.{PatchDrawable, UnlitHull, ColumnsLaid, PatchLaid}
+use Rattle.scanline.specs.Laying.{PatchDrawable, UnlitHull, LitGap, ColumnsLaid, PatchLaid}
 use Rattle.scanline.proofs.Columns.{columns-congr}
 
 module _
@@ -36,14 +36,15 @@ module _
     pub edge-run : FunctionRun table (p .corners .first) (p .corners .count)
     edge-run = edges-read .bounded
 
-    -- what laying its span leaves is what laying the patch leaves, if the span was sought among all unlit columns
+    -- what laying its span leaves is what laying the patch leaves, if the span was sought among all unlit columns, and may be what it likes among lit ones
     pub patch-laid :
-        (j : ℕ) {row words cells row′ words′ cells′ : List ℕ} {found : Lighting} {hull r : Span} →
+        (j : ℕ) {row words cells row′ words′ cells′ : List ℕ} {found : Lighting} {hull lit r : Span} →
         UnlitHull (length cells) row hull →
-        RowSpan (functionsIn table (p .corners .first) (p .corners .count)) j hull r →
+        LitGap (length cells) row lit →
+        RowSpan (functionsIn table (p .corners .first) (p .corners .count)) j hull lit r →
         ColumnsLaid (covers r) (p .panel) row words cells row′ words′ cells′ found →
         PatchLaid (vecOf (s .eye)) (λ (i : ℕ). lineAt (s .raster) i j) (patchNumbered (decode bytes) k) row words cells row′ words′ cells′ found
-    patch-laid j {row} {words} {cells} {row′} {words′} {cells′} {found} {hull} {r} u h laid =
+    patch-laid j {row} {words} {cells} {row′} {words′} {cells′} {found} {hull} {lit} {r} u g h laid =
         subst
         (λ (n : ℕ).
         ColumnsLaid (λ (i : ℕ). met (vecOf (s .eye)) (lineAt (s .raster) i j) (patchNumbered (decode bytes) k)) n row words cells row′ words′ cells′ found)
@@ -52,4 +53,4 @@ module _
         columns :
             (unlit : ℕ → Bool) → row ≡ rowOf (length cells) unlit → (i : ℕ) → i < length cells → unlit i ≡ true →
             covers r i ≡ met (vecOf (s .eye)) (lineAt (s .raster) i j) (patchNumbered (decode bytes) k)
-        columns unlit e i b t = h .exact i ∙ rw (u .all unlit e i b t) (met-seen edges-read (omega (arith, is .corners .three)) i j)
+        columns unlit e i b t = h .exact i (g .none unlit e i b t) ∙ rw (u .all unlit e i b t) (met-seen edges-read (omega (arith, is .corners .three)) i j)

@@ -11,12 +11,12 @@ use Rattle.model.specs.Vector.{Vec}
 use Rattle.model.specs.Patch.{Patch}
 use Rattle.model.specs.Ray.{met}
 use Rattle.model.specs.Row.{rowOf}
+use Rattle.model.specs.Map.{mapRow}
 use Rattle.model.proofs.Tables.{length-table, table-at, same-table}
 use Rattle.rows.specs.Span.{UnderWork}
 use Rattle.scanline.specs.declared.Lighting.{Lighting}
 use Rattle.model.proofs.LitMap.{map-congr}
 use Rattle.segments.proofs.Rows.{row-congr}
-use Rattle.segments.proofs.Mapped.{fresh-map}
 use Rattle.segments.proofs.Painting.{painted-length, painted-at}
 use Rattle.scanline.specs.Shown.{shownAfter, unlitAfter, RowPainted, newlyLit}
 use Rattle.scanline.specs.Laying.{ColumnsPainted, PatchLaid}
@@ -24,13 +24,15 @@ use Rattle.scanline.proofs.Clearing.{zero-table}
 use Rattle.scanline.proofs.FirstShown.{unlit-first, shown-first, unlit-next, shown-next, unlit-stays, shown-stays}
 
 module _ (eye : Vec) (ray : ℕ → Vec) (width : ℕ) where
-  none-painted : {cells row : List ℕ} → cells ≡ replicate width 0 → row ≡ rowOf width (λ (i : ℕ). true) → RowPainted eye ray [] width cells row (replicate 4 0)
-  none-painted e f =
+  none-painted :
+      {cells row words : List ℕ} → cells ≡ replicate width 0 → row ≡ rowOf width (λ (i : ℕ). true) → words ≡ mapRow width (λ (i : ℕ). true) →
+      RowPainted eye ray [] width cells row words
+  none-painted e f g =
       record {
         cells-are =
             e ∙ sym (zero-table 0 width) ∙ same-table (λ (k : ℕ). 0) (shownAfter eye ray []) 0 0 width (λ k h. sym (shown-first eye ray (0 + k)));
         row-is = f ∙ row-congr width _ _ (λ i h. sym (unlit-first eye ray i));
-        words-are = fresh-map width ∙ map-congr width _ _ (λ i h. sym (unlit-first eye ray i));
+        words-are = g ∙ map-congr width _ _ (λ i h. sym (unlit-first eye ray i));
       }
 
   module _ (done : List Patch) (p : Patch) {cells row words cells′ row′ words′ : List ℕ} {full : Bool} {lit : ℕ} where
@@ -85,15 +87,12 @@ pub record PaintedUpTo
   pub so-far : RowPainted eye ray (map patch (take k order)) width cells row words
 
 pub walk-starts :
-    {eye : Vec} {ray : ℕ → Vec} {patch : ℕ → Patch} {order cells row : List ℕ} {width : ℕ} →
-    length cells ≡ width → cells ≡ replicate width 0 → row ≡ rowOf (length cells) (λ (i : ℕ). true) →
-    PaintedUpTo eye ray patch order (length cells) cells row (replicate 4 0) 0
-walk-starts {eye} {ray} {cells = cells} e f g =
-    record {
-      bound = omega arith;
-      long = refl;
-      so-far = none-painted eye ray (length cells) (f ∙ ap (λ (n : ℕ). replicate n 0) (sym e)) g;
-    }
+    {eye : Vec} {ray : ℕ → Vec} {patch : ℕ → Patch} {order cells row words : List ℕ} {width : ℕ} →
+    length cells ≡ width → cells ≡ replicate width 0 → row ≡ rowOf width (λ (i : ℕ). true) → words ≡ mapRow width (λ (i : ℕ). true) →
+    PaintedUpTo eye ray patch order (length cells) cells row words 0
+walk-starts {eye} {ray} {patch} {order} {cells} {row} {words} {width} e f g h =
+    subst (λ (n : ℕ). PaintedUpTo eye ray patch order n cells row words 0) (sym e)
+    (record { bound = omega arith; long = e; so-far = none-painted eye ray width f g h })
 
 pub as-long :
     {eye : Vec} {ray : ℕ → Vec} {walk : List Patch} {width width′ : ℕ} {cells row words : List ℕ} →
@@ -106,9 +105,11 @@ module _ {eye : Vec} {ray : ℕ → Vec} {patch : ℕ → Patch} {order : List �
     pub row-of-set : width ≤ 256 → UnderWork (length cells) row words
     row-of-set h =
         record {
-          fits = omega (arith, inv .long);
-          unlit = unlitAfter eye ray (map patch (take k order));
-          row-is = rw (inv .long) (inv .so-far .row-is);
+          listed = record {
+            fits = omega (arith, inv .long);
+            unlit = unlitAfter eye ray (map patch (take k order));
+            row-is = rw (inv .long) (inv .so-far .row-is);
+          };
           words-are = rw (inv .long) (inv .so-far .words-are);
         }
 

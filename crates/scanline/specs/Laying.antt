@@ -41,17 +41,23 @@ pub record PatchAsked
   pub below : j ≤ 1024
   pub under-work : UnderWork (length cells) row words
 
--- what painting row j asks: the edge functions of the walk's patches, and a place for what each newly lights
-pub record RowAsked (bytes : List ℕ) (l : Layout) (s : Sight) (table : List ℤ) (order : List ℕ) (j : ℕ) (cells lits : List ℕ) : Type 0 where
+-- what painting row j asks: the edge functions of the walk's patches, a fresh row and its words, and a place for what each patch newly lights
+pub record RowAsked (bytes : List ℕ) (l : Layout) (s : Sight) (table : List ℤ) (order : List ℕ) (j : ℕ) (row words cells lits : List ℕ) : Type 0 where
   pub drawable : Drawable bytes l s table order
   pub places : length order ≤ length lits
   pub below : j ≤ 1024
   pub narrow : length cells ≤ 256
+  pub fresh : row ≡ rowOf (length cells) (λ (i : ℕ). true)
+  pub dark : words ≡ mapRow (length cells) (λ (i : ℕ). true)
 
 -- the span has every column below the width that the row says is unlit, and none from the width on
 pub record UnlitHull (width : ℕ) (row : List ℕ) (r : Span) : Type 0 where
   pub all : (unlit : ℕ → Bool) → row ≡ rowOf width unlit → (i : ℕ) → i < width → unlit i ≡ true → covers r i ≡ true
   pub limited : r .end ≤ width
+
+-- the span has no column that the row says is unlit
+pub record LitGap (width : ℕ) (row : List ℕ) (r : Span) : Type 0 where
+  pub none : (unlit : ℕ → Bool) → row ≡ rowOf width unlit → (i : ℕ) → i < width → unlit i ≡ true → covers r i ≡ false
 
 -- the patches of a walk, by their numbers
 abbrev pub walkOf : List ℕ → List ℕ → List Patch

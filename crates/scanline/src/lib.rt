@@ -2,6 +2,7 @@
 use checked::patch_record;
 use edges::Sight;
 use format::layout::Layout;
+use pairs::pair_at;
 use spans::Span;
 use spans::row_span;
 ghost use mathlib.Core.Path.{_≡_};
@@ -13,7 +14,7 @@ ghost use Rattle.geometry.specs.Raster.{lineAt};
 ghost use Rattle.spans.specs.Span.{covers};
 ghost use Rattle.rows.specs.Span.{Row, UnderWork};
 ghost use Rattle.scanline.specs.Shown.{RowPainted, RowLit};
-ghost use Rattle.scanline.specs.Laying.{PatchAsked, RowAsked, walkOf, UnlitHull, ColumnsLaid, PatchLaid};
+ghost use Rattle.scanline.specs.Laying.{PatchAsked, RowAsked, walkOf, UnlitHull, LitGap, ColumnsLaid, PatchLaid};
 
 // What laying a patch says of the row.
 struct Lighting {
@@ -36,6 +37,19 @@ fn unlit_hull(row: &[u16; 256], width: usize) -> Span
         };
     }
     Span { first, end: width }
+}
+
+// The lit columns between the first two segments; none where the row has no second.
+fn lit_gap(row: &[u16; 256], width: usize) -> Span
+    requires { ⌜ Row width (now row) ⌝ }
+    ensures { λ r. ⌜ LitGap width (now (row .entry)) r ⌝ }
+{
+    let one = pair_at(row, 0);
+    let two = pair_at(row, 1);
+    Span {
+        first: one.offset as usize + one.count as usize,
+        end: two.offset as usize,
+    }
 }
 
 // Lays a span on a row, unless it is empty, and says how many cells it newly lit, and that the row is full only where it is.
@@ -66,7 +80,7 @@ fn lay_span(
 }
 
 // Paints patch k in row j, over the columns that are unlit, and says how many it newly lit, and that the row is full only where it is. Its span is sought from the
-// first of them on: a column before that shows a patch already. All that the code must know of the rays is in the edge functions: the sight is a parameter for the
+// first of them on, and beside the lit ones after it: a column that shows a patch already need not be told. All that the code must know of the rays is in the edge functions: the sight is a parameter for the
 // contract.
 fn lay_patch(
     bytes: &[u8],
@@ -86,7 +100,8 @@ fn lay_patch(
     let p = patch_record(bytes, l, k);
     let run = p.corners;
     let hull = unlit_hull(row, cells.len());
-    let span = row_span(table, run.first, run.count, j, hull);
+    let lit = lit_gap(row, cells.len());
+    let span = row_span(table, run.first, run.count, j, hull, lit);
     lay_span(span, p.panel, row, words, cells)
 }
 
@@ -100,15 +115,8 @@ fn clear(cells: &mut [u16])
     }
 }
 
-// A painted row: its unlit segments, its words of the lit map, and how many patches of the walk were laid.
-pub struct Painted {
-    pub row: [u16; 256],
-    pub words: [u64; 4],
-    pub laid: usize,
-}
-
-// Paints row j: its cells, the unlit segments and the words of the lit map that it returns, and for each patch laid how many cells it newly lit, in its place of the walk. Once the row is full the
-// rest of the walk cannot be seen in it.
+// Paints row j on a fresh row under work: its cells, its unlit segments and its words of the lit map, and for each patch laid how many cells it newly lit, in its place of
+// the walk. Returns how many were laid: once the row is full the rest of the walk cannot be seen in it.
 pub fn paint_row(
     bytes: &[u8],
     l: Layout,
@@ -116,35 +124,27 @@ pub fn paint_row(
     sight: Sight,
     table: &[i64],
     j: usize,
+    row: &mut [u16; 256],
+    words: &mut [u64; 4],
     cells: &mut [u16],
     lits: &mut [u16],
-) -> Painted
-    requires { ⌜ RowAsked (now bytes) l sight (now table) (now order) j (now cells) (now lits) ⌝ }
+) -> usize
+    requires { ⌜ RowAsked (now bytes) l sight (now table) (now order) j (now row) (now words) (now cells) (now lits) ⌝ }
     ensures painted { λ r. ⌜ RowPainted (vecOf (sight .eye)) (λ (i : ℕ). lineAt (sight .raster) i j) (walkOf (now (bytes .entry)) (now (order .entry)))
-        (length (now (cells .entry))) (now (cells .exit)) (r .row) (r .words) ⌝ }
+        (length (now (cells .entry))) (now (cells .exit)) (now (row .exit)) (now (words .exit)) ⌝ }
     ensures counted { λ r. ⌜ RowLit (vecOf (sight .eye)) (λ (i : ℕ). lineAt (sight .raster) i j) (patchNumbered (decode (now (bytes .entry)))) (now (order .entry))
-        (length (now (cells .entry))) (now (lits .exit)) (r .laid) ⌝ }
+        (length (now (cells .entry))) (now (lits .exit)) r ⌝ }
 {
     clear(cells);
-    let mut row = rows::fresh(cells.len() as u16);
-    let mut words = [0u64; 4];
     let mut k = 0;
     while k < order.len() {
         let n = order[k] as usize;
-        let laid = lay_patch(bytes, l, n, sight, table, j, &mut row, &mut words, cells);
+        let laid = lay_patch(bytes, l, n, sight, table, j, row, words, cells);
         lits[k] = laid.lit;
         k += 1;
         if laid.full {
-            return Painted {
-                row,
-                words,
-                laid: k,
-            };
+            return k;
         }
     }
-    Painted {
-        row,
-        words,
-        laid: k,
-    }
+    k
 }

@@ -1,7 +1,7 @@
 -- What a row's first two pairs say of its unlit columns.
 use mathlib.Core.Path.{_≡_, sym, _∙_}
 use mathlib.Core.Logic.{_⊎_, inl, inr}
-use mathlib.Core.Bool.{Bool, true, false, true≢false, false≢true}
+use mathlib.Core.Bool.{Bool, true, true≢false, false≢true}
 use mathlib.Core.List.{List, [], _∷_, _++_}
 use Prim.Native.Nat.{ℕ, zero, suc, _+_, _*_, _-_, _≤_, _<_}
 use native.Mathlib.Omega.{arith}
@@ -60,3 +60,23 @@ module _ (width : ℕ) (fits : width ≤ 256) (unlit : ℕ → Bool) where
             side (inl l) = l
             side (inr l) = absurd (true≢false (sym m ∙ rw (column-after s i l)))
         go (s ∷ t ∷ ss) n (more _ _ p (more _ _ q o)) m e = absurd (omega arith)
+
+    -- none is between the first pair's and the second's
+    pub between-unlit : (i < getD (rowOf width unlit) 0 0 + getD (rowOf width unlit) 1 0) ⊎ (getD (rowOf width unlit) 2 0 ≤ i)
+    unfolding numbersOf member
+    between-unlit = rw (row-parts width fits unlit) (go (segments width unlit) left (segments-ordered width unlit) in-segments)
+      where
+        go :
+            (ss : List Segment) (n : ℕ) → Ordered width 0 ss → member ss i ≡ true →
+            (i < getD (numbersOf ss ++ zeros n) 0 0 + getD (numbersOf ss ++ zeros n) 1 0) ⊎ (getD (numbersOf ss ++ zeros n) 2 0 ≤ i)
+        go [] n o m = absurd (false≢true m)
+        go (s ∷ []) zero o m = inr (omega arith)
+        go (s ∷ []) (suc n) o m = inr (omega arith)
+        go (s ∷ t ∷ ss) n (more _ _ p (more _ _ q o)) m = side (lt-or-ge i (s .offset + s .count)) (lt-or-ge i (t .offset))
+          where
+            side :
+                (i < s .offset + s .count) ⊎ (s .offset + s .count ≤ i) → (i < t .offset) ⊎ (t .offset ≤ i) →
+                (i < s .offset + s .count) ⊎ (t .offset ≤ i)
+            side (inl l) b = inl l
+            side (inr l) (inl k) = absurd (true≢false (sym m ∙ rw (column-after s i l) (member-before i k (more (t .offset) t (omega arith) o))))
+            side (inr l) (inr k) = inr k

@@ -21,7 +21,7 @@ any-none : (unlit : ℕ → Bool) (n i : ℕ) → ((j : ℕ) → i ≤ j → j <
 any-none unlit zero i clear = refl
 any-none unlit (suc n) i clear = rw (clear i (omega arith) (omega arith)) (any-none unlit n (suc i) (λ j h l. clear j (omega arith) (omega arith)))
 
-pub any-some : (unlit : ℕ → Bool) (n i j : ℕ) → i ≤ j → j < i + n → unlit j ≡ true → any unlit (range i n) ≡ true
+any-some : (unlit : ℕ → Bool) (n i j : ℕ) → i ≤ j → j < i + n → unlit j ≡ true → any unlit (range i n) ≡ true
 any-some unlit zero i j h l e = absurd (omega arith)
 any-some unlit (suc n) i j h l e = go (lt-or-ge i j) (λ k. any-some unlit n (suc i) j k (omega arith) e)
   where

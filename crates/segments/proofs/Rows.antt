@@ -8,7 +8,7 @@ use lib.Dec.{ltb}
 use borrow.Author.Tests.{lt-ltb}
 use lib.ListN.{length, take, replicate, length-append, length-take, length-replicate, replicate-append-replicate}
 use lib.Seq.{take-append-add, take-at}
-use Rattle.model.specs.Row.{Segment, segments, numbersOf, rowOf, inPairs, usedPairs, Describes}
+use Rattle.model.specs.Row.{Segment, segments, numbersOf, rowOf, inPairs, usedPairs}
 use Rattle.segments.specs.Segments.{inSegment, Ordered, none, more, rowFrom}
 use Rattle.segments.proofs.Segments.{member}
 use Rattle.segments.proofs.Sets.{segments-ordered, segments-columns, segments-congr, few}
@@ -83,7 +83,8 @@ module _ (width : ℕ) (fits : width ≤ 256) (unlit : ℕ → Bool) where
   row-used : usedPairs (rowOf width unlit) ≡ numbersOf (segments width unlit)
   row-used = ap usedPairs row-parts ∙ used-filled (256 - 2 * length (segments width unlit)) (segments-ordered width unlit)
 
-  pub row-describes : Describes width unlit (rowOf width unlit)
+  -- the row describes the set: its columns are those of the used pairs
+  pub row-describes : (i : ℕ) → inPairs (usedPairs (rowOf width unlit)) i ≡ (ltb i width && unlit i)
   row-describes i = rw row-used (pairs-member (segments width unlit) i ∙ segments-columns width unlit i)
 
 pub row-length : (width : ℕ) (unlit : ℕ → Bool) → length (rowOf width unlit) ≡ 256

@@ -54,7 +54,7 @@ module _ (part : ℤ) (a b c d : Point) where
       }
 
 -- ---- the patch in hand
-abbrev pub quad : Vector → Vector → Vector → Vector → Patch
+abbrev quad : Vector → Vector → Vector → Vector → Patch
 quad a b c d =
     record {
       x = a .x ∷ b .x ∷ c .x ∷ d .x ∷ [];
@@ -65,7 +65,7 @@ quad a b c d =
     }
 
 module _ {a b c d : Vector} (h : FourBounded a b c d) where
-  pub quad-bounded : PatchBounded (quad a b c d)
+  quad-bounded : PatchBounded (quad a b c d)
   quad-bounded = record { three = omega arith; eight = omega arith; corners-within = each }
     where
       each : (k : ℕ) → k < 4 → VecWithin 10000 (cornerOf (quad a b c d) k)

@@ -36,12 +36,19 @@ module _ (A B : ℤ) where
       go : (x y z : ℤ) → x +ℤ y ≡ z → negℤ A *ℤ x +ℤ (A *ℤ z +ℤ B) ≡ A *ℤ y +ℤ B
       go x y z e = combine₁ (negℤ A) e (ring (A ∷ B ∷ x ∷ y ∷ z ∷ []) (search reify depth 40 fits 200000, tt))
 
+  -- above 0 on the way that it rises
+  pub still-rising : {f i : ℕ} → pos 0 ≤ℤ A → f ≤ i → pos 0 <ℤ numberAt A B f → pos 0 <ℤ numberAt A B i
+  still-rising {f} {i} n p h = subst (pos 0 <ℤ_) (ahead p) (all-columns n h (i - f))
+
+  pub still-falling : {i l : ℕ} → A <ℤ pos 0 → i ≤ l → pos 0 <ℤ numberAt A B l → pos 0 <ℤ numberAt A B i
+  still-falling {i} {l} n p h = subst (pos 0 <ℤ_) (back p) (all-columns (<→≤ (neg-of-neg n)) h (l - i))
+
   -- above 0 at both ends, above 0 between them
   above : {f l i : ℕ} → pos 0 <ℤ numberAt A B f → pos 0 <ℤ numberAt A B l → f ≤ i → i ≤ l → pos 0 <ℤ numberAt A B i
   above {f} {l} {i} hf hl p q =
       ⊎-elim
-      (λ (n : A <ℤ pos 0). subst (pos 0 <ℤ_) (back q) (all-columns (<→≤ (neg-of-neg n)) hl (l - i)))
-      (λ (n : pos 0 ≤ℤ A). subst (pos 0 <ℤ_) (ahead p) (all-columns n hf (i - f)))
+      (λ (n : A <ℤ pos 0). still-falling n q hl)
+      (λ (n : pos 0 ≤ℤ A). still-rising n p hf)
       (<-or-≥ A (pos 0))
 
   -- above 0 at the first end alone, it falls, and lies above 0 at column 0
@@ -54,7 +61,7 @@ module _ (A B : ℤ) where
             (ring (A ∷ B ∷ pos f ∷ []) (search reify depth 40 fits 200000, tt))
             (all-columns (<→≤ (neg-of-neg n)) hf f),
       ))
-      (λ (n : pos 0 ≤ℤ A). clashℤ (subst (pos 0 <ℤ_) (ahead h) (all-columns n hf (l - f))) hl)
+      (λ (n : pos 0 ≤ℤ A). clashℤ (still-rising n h hf) hl)
       (<-or-≥ A (pos 0))
 
 -- the same of the opposite number
@@ -97,11 +104,10 @@ module _ {A B : ℤ} {s : Span} (some : s .first < s .end) where
 
   -- above 0 where it is least
   pub whole-rising : pos 0 ≤ℤ A → pos 0 <ℤ numberAt A B (s .first) → Clipped A B s s
-  whole-rising n h = whole (λ i p q. subst (pos 0 <ℤ_) (ahead A B p) (all-columns n h (i - s .first)))
+  whole-rising n h = whole (λ i p q. still-rising A B n p h)
 
   pub whole-falling : A <ℤ pos 0 → pos 0 <ℤ numberAt A B (s .end - 1) → Clipped A B s s
-  whole-falling n h =
-      whole (λ i p q. subst (pos 0 <ℤ_) (back A B (omega arith)) (all-columns (<→≤ (neg-of-neg n)) h (s .end - 1 - i)))
+  whole-falling n h = whole (λ i p q. still-falling A B n (omega arith) h)
 
   pub nothing : numberAt A B (s .first) ≤ℤ pos 0 → numberAt A B (s .end - 1) ≤ℤ pos 0 → Clipped A B s (record { first = 0; end = 0 })
   nothing hf hl =

@@ -7,19 +7,19 @@ use Prim.Native.Nat.{ℕ, _+_, _*_, _/_, _≤_, _<_}
 use native.Mathlib.Nat.{div-lt-iff-lt-mul}
 use native.Mathlib.Omega.{arith}
 use lib.Dec.{T, le→leb, ltb→lt, lt→ltb}
-use lib.IntN.{ℤ, pos, negsuc, natAbs, negℤ, _+ℤ_, _-ℤ_, _*ℤ_}
+use lib.IntN.{ℤ, pos, negsuc, natAbs, negℤ, _-ℤ_, _*ℤ_}
 use lib.Signed.{leZ, ltZ, _<ℤ_, _≤ℤ_, leZ-yes, ltZ-yes, clashℤ}
 use Rattle.integer.proofs.Identity.{ring, reify}
-use Rattle.integer.proofs.Order.{<-by, ≤-by, <-diff, ≤-diff, +-nonneg-pos, +-mono-≤, <-or-≥, suc-≤, ≤-suc, <-suc}
-use Rattle.integer.proofs.Products.{*-nonneg, *-nonpos-nonneg, neg-of-neg, neg-of-nonpos}
+use Rattle.integer.proofs.Order.{<-by, ≤-by, <-diff, ≤-diff, +-nonneg-pos, <-or-≥, suc-≤, ≤-suc, <-suc}
+use Rattle.integer.proofs.Products.{*-nonneg, neg-of-neg, neg-of-nonpos}
 use Rattle.spans.specs.Span.{numberAt}
 use Rattle.model.proofs.Tests.{lt-or-ge}
 
-pub natural : (i : ℕ) → pos 0 ≤ℤ pos i
+natural : (i : ℕ) → pos 0 ≤ℤ pos i
 natural i = leZ-yes (le→leb 0 i (omega arith))
 
 -- the multiples of d above n are those from n / d + 1 on
-pub multiples-above : {n d : ℤ} → pos 0 ≤ℤ n → pos 0 <ℤ d → (i : ℕ) → (n <ℤ (d *ℤ pos i)) ↔ (natAbs n / natAbs d + 1 ≤ i)
+multiples-above : {n d : ℤ} → pos 0 ≤ℤ n → pos 0 <ℤ d → (i : ℕ) → (n <ℤ (d *ℤ pos i)) ↔ (natAbs n / natAbs d + 1 ≤ i)
 multiples-above {n} {d} h k i = go n d (h .le) (k .lt)
   where
     go : (n d : ℤ) → T (leZ (pos 0) n) → T (ltZ (pos 0) d) → (n <ℤ (d *ℤ pos i)) ↔ (natAbs n / natAbs d + 1 ≤ i)
@@ -42,19 +42,9 @@ module _ (A B : ℤ) (i : ℕ) where
   pub opposite-above : pos 0 <ℤ numberAt A B i → numberAt (negℤ A) (pos 1 -ℤ B) i ≤ℤ pos 0
   opposite-above h = ≤-by (≤-diff (suc-≤ h)) (ring (A ∷ B ∷ pos i ∷ []) (search reify depth 40 fits 200000, tt))
 
-  -- not below 0 is: above 0 from B + 1
-  pub not-below : (pos 0 ≤ℤ numberAt A B i) ↔ (pos 0 <ℤ numberAt A (B +ℤ pos 1) i)
-  not-below = (
-    λ h. ≤-suc (≤-by (≤-diff h) (ring (A ∷ B ∷ pos i ∷ []) (search reify depth 40 fits 200000, tt))),
-    λ h. ≤-by (≤-diff (suc-≤ h)) (ring (A ∷ B ∷ pos i ∷ []) (search reify depth 40 fits 200000, tt)),
-  )
-
 module _ {A B : ℤ} where
   pub all-columns : pos 0 ≤ℤ A → pos 0 <ℤ B → (i : ℕ) → pos 0 <ℤ numberAt A B i
   all-columns h k i = +-nonneg-pos (*-nonneg h (natural i)) k
-
-  pub no-column : A ≤ℤ pos 0 → B ≤ℤ pos 0 → (i : ℕ) → numberAt A B i ≤ℤ pos 0
-  no-column h k i = +-mono-≤ (*-nonpos-nonneg h (natural i)) k
 
   pub columns-from : pos 0 <ℤ A → B ≤ℤ pos 0 → (i : ℕ) → (pos 0 <ℤ numberAt A B i) ↔ (natAbs (negℤ B) / natAbs A + 1 ≤ i)
   columns-from h k i =

@@ -3,3 +3,5 @@ mod HalfLine
 pub mod Clipping
 pub mod RowFunctions
 pub mod Rows
+-- Columns that are lit already need not be told apart.
+mod BesideLit

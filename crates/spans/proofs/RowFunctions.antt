@@ -9,8 +9,7 @@ use Rattle.integer.specs.Magnitude.{Within}
 use Rattle.integer.proofs.Magnitude.{within-more, within-sum, within-product, within-stored}
 use Rattle.geometry.specs.declared.EdgeFunction.{EdgeFunction}
 use Rattle.geometry.specs.Raster.{FunctionBounded}
-use Rattle.spans.specs.declared.Span.{Span}
-use Rattle.spans.specs.Span.{numberAt, Linear, Clipped}
+use Rattle.spans.specs.Span.{numberAt, Linear}
 
 -- what passes through words stays as it is
 pub words-linear : {slope start : ℤ} → Linear slope start → Linear (toZ w64 (ofZ w64 slope)) (toZ w64 (ofZ w64 start))
@@ -19,8 +18,8 @@ words-linear h = subst₂ Linear (sym (within-stored w64 (h .slope-within) (lit<
 pub words-number : {slope start : ℤ} → Linear slope start → (i : ℕ) → numberAt (toZ w64 (ofZ w64 slope)) (toZ w64 (ofZ w64 start)) i ≡ numberAt slope start i
 words-number h i = rw (within-stored w64 (h .slope-within) (lit< tt), within-stored w64 (h .start-within) (lit< tt))
 
-pub words-clipped : {slope start : ℤ} {s r : Span} → Linear slope start → Clipped (toZ w64 (ofZ w64 slope)) (toZ w64 (ofZ w64 start)) s r → Clipped slope start s r
-words-clipped {s = s} {r} h c = subst₂ (λ (a b : ℤ). Clipped a b s r) (within-stored w64 (h .slope-within) (lit< tt)) (within-stored w64 (h .start-within) (lit< tt)) c
+pub words-as : {slope start : ℤ} → Linear slope start → (says : ℤ → ℤ → Type 0) → says (toZ w64 (ofZ w64 slope)) (toZ w64 (ofZ w64 start)) → says slope start
+words-as h says = subst₂ says (within-stored w64 (h .slope-within) (lit< tt)) (within-stored w64 (h .start-within) (lit< tt))
 
 module _ {f : EdgeFunction} (h : FunctionBounded f) where
   -- down the rows

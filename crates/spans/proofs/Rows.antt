@@ -15,7 +15,7 @@ use Rattle.model.specs.Lists.{range}
 use Rattle.model.proofs.Ranges.{range-at, range-length}
 use Rattle.geometry.specs.declared.EdgeFunction.{EdgeFunction}
 use Rattle.spans.specs.declared.Span.{Span}
-use Rattle.spans.specs.Span.{covers, Shaped, numberAt, Clipped}
+use Rattle.spans.specs.Span.{covers, Shaped, numberAt, ClippedBut}
 use Rattle.tables.specs.Functions.{functionAt, functionsIn}
 use Rattle.spans.specs.Row.{allAbove, RowSpan}
 use Rattle.model.proofs.Tests.{lt-or-ge}
@@ -35,20 +35,20 @@ no-columns s h i =
     (λ (l : s .first ≤ i). rw (le-ltb i (s .end) (omega arith)) (and-false (leb (s .first) i)))
     (lt-or-ge i (s .first))
 
--- after k functions of a table: the columns wanted are those of the span where the others are above 0
-pub record Narrowed (table : List ℤ) (first count j : ℕ) (within : Span) (k : ℕ) (s : Span) : Type 0 where
+-- after k functions of a table: the columns wanted are those of the span where the others are above 0, but for lit ones
+pub record Narrowed (table : List ℤ) (first count j : ℕ) (within lit : Span) (k : ℕ) (s : Span) : Type 0 where
   pub most : k ≤ count
   pub limited : s .end ≤ within .end
   pub left :
-      (i : ℕ) →
+      (i : ℕ) → covers lit i ≡ false →
       (covers within i && allAbove (functionsIn table first count) i j)
       ≡ (covers s i && allAbove (drop k (functionsIn table first count)) i j)
 
-module _ {table : List ℤ} {first count j : ℕ} {within : Span} where
-  pub narrowed-none : Narrowed table first count j within 0 within
-  narrowed-none = record { most = omega arith; limited = omega arith; left = λ i. refl }
+module _ {table : List ℤ} {first count j : ℕ} {within lit : Span} where
+  pub narrowed-none : Narrowed table first count j within lit 0 within
+  narrowed-none = record { most = omega arith; limited = omega arith; left = λ i f. refl }
 
-  module _ {k : ℕ} {s : Span} (n : Narrowed table first count j within k s) where
+  module _ {k : ℕ} {s : Span} (n : Narrowed table first count j within lit k s) where
     abbrev fs : List EdgeFunction
     fs = functionsIn table first count
 
@@ -63,27 +63,27 @@ module _ {table : List ℤ} {first count j : ℕ} {within : Span} where
 
     pub narrowed-more :
         {f : EdgeFunction} {r : Span} → k < count → f ≡ functionAt table (first + k) →
-        Clipped (f .slope) (numberAt (f .drop) (f .start) j) s r →
-        Narrowed table first count j within (k + 1) r
+        ClippedBut lit (f .slope) (numberAt (f .drop) (f .start) j) s r →
+        Narrowed table first count j within lit (k + 1) r
     unfolding allAbove
     narrowed-more {f} {r} h e c =
         record {
           most = omega arith;
-          limited = omega (arith, c .shaped .limited, n .limited);
-          left = λ i.
-              n .left i
+          limited = omega (arith, c .limited, n .limited);
+          left = λ i b.
+              n .left i b
               ∙ ap (λ (gs : List EdgeFunction). covers s i && allAbove gs i j) (next h ∙ ap (_∷ drop (k + 1) fs) (sym e))
-              ∙ rw (c .exact i) (sym (and-assoc (covers s i) _ _));
+              ∙ rw (c .exact i b) (sym (and-assoc (covers s i) _ _));
         }
 
-    pub narrowed-empty : s .end ≤ s .first → RowSpan fs j within s
-    narrowed-empty h = record { exact = λ i. sym (n .left i ∙ rw (no-columns s h i)); limited = n .limited }
+    pub narrowed-empty : s .end ≤ s .first → RowSpan fs j within lit s
+    narrowed-empty h = record { exact = λ i b. sym (n .left i b ∙ rw (no-columns s h i)); limited = n .limited }
 
-    pub narrowed-all : count ≤ k → RowSpan fs j within s
+    pub narrowed-all : count ≤ k → RowSpan fs j within lit s
     unfolding allAbove
     narrowed-all h =
         let e : drop k fs ≡ [] = ap (λ (m : ℕ). drop m fs) {x = k} {y = length fs} (omega (arith, many, n .most)) ∙ drop-length fs in
         record {
-          exact = λ i. sym (n .left i ∙ ap (λ (gs : List EdgeFunction). covers s i && allAbove gs i j) e ∙ and-true (covers s i));
+          exact = λ i b. sym (n .left i b ∙ ap (λ (gs : List EdgeFunction). covers s i && allAbove gs i j) e ∙ and-true (covers s i));
           limited = n .limited;
         }

@@ -1,7 +1,7 @@
 -- Spans of columns.
 use mathlib.Core.Path.{_≡_}
 use mathlib.Core.Logic.{_⊎_}
-use mathlib.Core.Bool.{Bool, _&&_}
+use mathlib.Core.Bool.{Bool, false, _&&_}
 use Prim.Native.Nat.{ℕ, _≤_, _<_}
 use lib.Dec.{leb, ltb}
 use lib.IntN.{ℤ, pos, _+ℤ_, _*ℤ_}
@@ -42,3 +42,15 @@ pub record Linear (slope start : ℤ) : Type 0 where
 pub record Clipped (slope start : ℤ) (s r : Span) : Type 0 where
   pub exact : (i : ℕ) → covers r i ≡ (covers s i && ltZ (pos 0) (numberAt slope start i))
   pub shaped : Shaped (s .end) r
+
+-- r has the same columns as s where the number is above 0, but for those of `lit`
+pub record BesideLit (lit : Span) (slope start : ℤ) (s r : Span) : Type 0 where
+  pub same :
+      (i : ℕ) → covers lit i ≡ false →
+      (covers r i && ltZ (pos 0) (numberAt slope start i)) ≡ (covers s i && ltZ (pos 0) (numberAt slope start i))
+  pub limited : r .end ≤ s .end
+
+-- r has the columns of s where the number is above 0, but for those of `lit`, of which it may have any
+pub record ClippedBut (lit : Span) (slope start : ℤ) (s r : Span) : Type 0 where
+  pub exact : (i : ℕ) → covers lit i ≡ false → covers r i ≡ (covers s i && ltZ (pos 0) (numberAt slope start i))
+  pub limited : r .end ≤ s .end

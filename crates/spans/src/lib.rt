@@ -2,11 +2,12 @@
 use geometry::EdgeFunction;
 use tables::function_at;
 ghost use mathlib.Core.Path.{_≡_};
+ghost use mathlib.Core.Bool.{true};
 ghost use Prim.Native.Nat.{_+_, _/_, _≤_};
 ghost use lib.IntN.{pos, natAbs};
 ghost use lib.Signed.{_<ℤ_, _≤ℤ_};
 ghost use Rattle.geometry.specs.Raster.{FunctionBounded};
-ghost use Rattle.spans.specs.Span.{Occupied, numberAt, Linear, Clipped};
+ghost use Rattle.spans.specs.Span.{Occupied, numberAt, Linear, Clipped, BesideLit, ClippedBut};
 ghost use Rattle.tables.specs.Functions.{functionsIn, FunctionRun};
 ghost use Rattle.spans.specs.Row.{RowSpan};
 
@@ -64,19 +65,78 @@ pub fn clip(span: Span, slope: i64, start: i64) -> Span
     Span { first: 0, end: 0 }
 }
 
-// the span's columns where a function is above 0 in row j
-fn clip_function(span: Span, f: EdgeFunction, j: usize) -> Span
-    requires { ⌜ Occupied 1024 span × FunctionBounded f × (j ≤ 1024) ⌝ }
-    ensures { λ r. ⌜ Clipped (f .slope) (numberAt (f .drop) (f .start) j) span r ⌝ }
+// At the end where the number is least it is above 0, so it is on the whole span.
+fn keeps_all(span: Span, slope: i64, start: i64) -> bool
+    requires { ⌜ Occupied 1024 span × Linear slope start ⌝ }
+    ensures { λ r. ⌜ (r ≡ true → Clipped slope start span span) ⌝ }
 {
-    clip(span, f.slope, number_at(f.drop, f.start, j))
+    if slope < 0 {
+        return 0 < number_at(slope, start, span.end - 1);
+    }
+    0 < number_at(slope, start, span.first)
+}
+
+// The span without those columns beside some lit ones where the number is not above 0, if the nearest of them tells it of all on its side, and without the lit ones: where
+// the number changes its sign among these, that costs no division.
+fn beside_lit(span: Span, lit: Span, slope: i64, start: i64) -> Span
+    requires { ⌜ Occupied 1024 span × Linear slope start ⌝ }
+    ensures { λ r. ⌜ BesideLit lit slope start span r ⌝ }
+{
+    if lit.first <= span.first {
+        return span;
+    }
+    if span.end <= lit.first {
+        return span;
+    }
+    if slope < 0 {
+        if span.end <= lit.end {
+            return span;
+        }
+        if 0 < number_at(slope, start, lit.end) {
+            return span;
+        }
+        return Span {
+            first: span.first,
+            end: lit.first,
+        };
+    }
+    if 0 < number_at(slope, start, lit.first - 1) {
+        return span;
+    }
+    Span {
+        first: lit.end,
+        end: span.end,
+    }
+}
+
+// the span's columns where a function is above 0 in row j, but for lit ones
+fn clip_function(span: Span, lit: Span, f: EdgeFunction, j: usize) -> Span
+    requires { ⌜ Occupied 1024 span × FunctionBounded f × (j ≤ 1024) ⌝ }
+    ensures { λ r. ⌜ ClippedBut lit (f .slope) (numberAt (f .drop) (f .start) j) span r ⌝ }
+{
+    let start = number_at(f.drop, f.start, j);
+    if keeps_all(span, f.slope, start) {
+        return span;
+    }
+    let left = beside_lit(span, lit, f.slope, start);
+    if left.end <= left.first {
+        return left;
+    }
+    clip(left, f.slope, start)
 }
 
 // The columns of the span `within` where each of the functions `first` up to before `first + count` of a table is above 0 in row j. One product for each function gives
-// its number at column 0.
-pub fn row_span(table: &[i64], first: usize, count: usize, j: usize, within: Span) -> Span
+// its number at column 0. Of the columns of the span `lit` it may have any.
+pub fn row_span(
+    table: &[i64],
+    first: usize,
+    count: usize,
+    j: usize,
+    within: Span,
+    lit: Span,
+) -> Span
     requires { ⌜ FunctionRun (now table) first count × (j ≤ 1024) × (within .end ≤ 1024) ⌝ }
-    ensures { λ r. ⌜ RowSpan (functionsIn (now (table .entry)) first count) j within r ⌝ }
+    ensures { λ r. ⌜ RowSpan (functionsIn (now (table .entry)) first count) j within lit r ⌝ }
 {
     let mut span = within;
     let mut k = 0;
@@ -84,7 +144,7 @@ pub fn row_span(table: &[i64], first: usize, count: usize, j: usize, within: Spa
         if span.end <= span.first {
             return span;
         }
-        span = clip_function(span, function_at(table, first + k), j);
+        span = clip_function(span, lit, function_at(table, first + k), j);
         k += 1;
     }
     span

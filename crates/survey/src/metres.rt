@@ -1,24 +1,15 @@
 // The survey call and its gate from a station in metres.
-use crate::axes::axes_by;
+use answering::survey_answer;
 use camera::Camera;
-use station::Metres;
-use station::Station;
-use surveying::survey_answer;
+use handed::axes_by;
+use handed::in_metres;
 use surveying::survey_from;
 ghost use mathlib.Core.Path.{_≡_};
 ghost use Rattle.model.specs.Vector.{vec};
 ghost use Rattle.model.specs.Station.{metres};
 ghost use Rattle.model.specs.Questions.{surveyAnswer};
-ghost use Rattle.station.specs.Machine.{stationOf};
 ghost use Rattle.contract.specs.Contract.{axesBy, cameraBy, lentOf, lengthsBy, gateCall};
 ghost use Rattle.demands.specs.Demands.{ClosestSurveyed};
-
-// three doubles as one station
-fn in_metres(x: f64, y: f64, z: f64) -> Station
-    ensures { λ r. ⌜ stationOf r ≡ metres x y z ⌝ }
-{
-    Station::Metres(Metres { x, y, z })
-}
 
 // `ring_gate` from a station in metres.
 #[no_mangle]

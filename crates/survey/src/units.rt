@@ -1,8 +1,8 @@
 // The survey call and its gate from a station in units.
-use crate::axes::axes_by;
+use answering::survey_answer;
 use camera::Camera;
+use handed::axes_by;
 use station::Station;
-use surveying::survey_answer;
 use surveying::survey_from;
 ghost use mathlib.Core.Path.{_≡_};
 ghost use Rattle.model.specs.Vector.{vec};

@@ -26,10 +26,9 @@ use Rattle.camera.specs.declared.Camera.{Camera}
 use Rattle.camera.specs.Machine.{cameraOf, viewOf}
 use Rattle.station.specs.declared.Located.{Located}
 use Rattle.station.specs.Machine.{LocatedAt}
-use Rattle.counting.specs.Counting.{Countable}
 use Rattle.contract.specs.Contract.{lentOf, callOn, results, leftBy, Surveyed}
 use Rattle.contract.proofs.Refusal.{left-old}
-use Rattle.rendering.specs.Painted.{PaintingAsked, Painted}
+use Rattle.rendering.specs.Painted.{PaintingAsked, Rendered}
 
 module _
     (bytes : List ℕ) (s : Station) (camera : Camera) (before : Lent) {n : ℕ}
@@ -69,7 +68,7 @@ module _
         same-eye = located .eye-is (yes .station)
 
         -- what painting asks
-        pub paintable : PaintingAsked bytes (l .eye) camera (before .picture) (before .unlit) (before .lit) (before .patchCounts)
+        pub paintable : PaintingAsked bytes (l .eye) camera (before .picture) (before .unlit) (before .lit) (before .patchCounts) (before .counts)
         paintable =
             record {
               accepted = yes .scene;
@@ -92,40 +91,28 @@ module _
                     words = fitting .words;
                   };
               entries = fitting .booked;
+              counted = fitting .entries;
             }
 
-        pub painted-from :
-            {cells unlit lit booked : List ℕ} → Painted bytes (viewOf (l .eye) camera) cells unlit lit booked → Painted bytes v cells unlit lit booked
-        painted-from {cells} {unlit} {lit} {booked} h =
-            subst (λ (e : Vec). Painted bytes (record { eye = e; camera = cameraOf camera }) cells unlit lit booked) same-eye h
+        pub rendered-from :
+            {cells unlit lit booked totals : List ℕ} → Rendered bytes (viewOf (l .eye) camera) cells unlit lit booked totals → Rendered bytes v cells unlit lit booked totals
+        rendered-from {cells} {unlit} {lit} {booked} {totals} h =
+            subst (λ (e : Vec). Rendered bytes (record { eye = e; camera = cameraOf camera }) cells unlit lit booked totals) same-eye h
 
       pub counter-rises : before .counter + 1 < 4294967296
       unfolding counterBelowEnd
       counter-rises = let h : before .counter < 4294967295 = ltb→lt (before .counter) 4294967295 (yes .counter) in omega arith
 
-      module _ {cells unlit lit booked : List ℕ} (painted : Painted bytes v cells unlit lit booked) where
-        -- what counting asks
-        pub countable : Countable cells (before .counts)
-        countable =
-            record {
-              numbered =
-                  subst (λ (l : List ℕ). (k : ℕ) → k < length l → getD l k 0 < countEntries) (sym (painted .cells-are))
-                  (picture-counted (v .eye) (viewWidth v) (viewHeight v) (cellLine (v .camera)) (patchTable (decode bytes))
-                  (panel-bounded (decode bytes) (yes .scene .panels)));
-              few =
-                  subst (λ (k : ℕ). k ≤ 32768)
-                  (sym (ap length (painted .cells-are) ∙ picture-length (v .eye) (viewWidth v) (viewHeight v) (cellLine (v .camera)) (patchTable (decode bytes))))
-                  (mul-le-mul (view .narrow) (view .low));
-              entries = fitting .entries;
-            }
-
-        -- an accepted call leaves its results
-        pub accepted : {totals : List ℕ} {k : ℕ} → totals ≡ counts cells → k ≡ before .counter + 1 → Surveyed bytes s (cameraOf camera) before (lentOf cells totals booked unlit lit k) 0
-        unfolding callPicture callCounts callPatchCells callUnlit callLit callCounter
-        accepted {totals} {k} t e =
-            record {
-              answered = sym done ∙ answer;
-              left =
-                  (λ i. lentOf (painted .cells-are i) ((t ∙ ap counts (painted .cells-are)) i) (painted .booked-are i) (painted .unlit-are i) (painted .lit-are i) (e i))
-                  ∙ ap (λ (m : ℕ). leftBy m (results call) before) (sym done ∙ answer);
-            }
+      -- an accepted call leaves its results
+      pub accepted :
+          {cells unlit lit booked totals : List ℕ} {k : ℕ} → Rendered bytes v cells unlit lit booked totals → k ≡ before .counter + 1 →
+          Surveyed bytes s (cameraOf camera) before (lentOf cells totals booked unlit lit k) 0
+      unfolding callPicture callCounts callPatchCells callUnlit callLit callCounter
+      accepted r e =
+          let p = r .painted in
+          record {
+            answered = sym done ∙ answer;
+            left =
+                (λ i. lentOf (p .cells-are i) (r .counts-are i) (p .booked-are i) (p .unlit-are i) (p .lit-are i) (e i))
+                ∙ ap (λ (m : ℕ). leftBy m (results call) before) (sym done ∙ answer);
+          }

@@ -1,3 +1,2 @@
--- The answer of a call, and what an accepted one leaves.
-mod Gates
+-- What an accepted call leaves.
 mod Calls

@@ -30,7 +30,7 @@ module _ (l : List ℤ) (k : ℕ) (f : EdgeFunction) where
   abbrev put3 : List ℤ
   put3 = set put2 (3 * k + 2) (stored (f .drop))
 
-  pub put-long : length put3 ≡ length l
+  put-long : length put3 ≡ length l
   put-long = simp length-set
 
   -- a number that is put nowhere over

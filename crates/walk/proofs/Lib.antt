@@ -9,3 +9,4 @@ mod Descents
 pub mod Seen
 pub mod Numbered
 pub mod OffEdges
+mod Examples

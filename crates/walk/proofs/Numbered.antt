@@ -12,9 +12,9 @@ use lib.ListN.{length, length-map}
 use borrow.Author.Tests.{ne-eqb}
 use Rattle.model.specs.Lists.{every, range}
 use Rattle.model.specs.Vector.{Vec, turnedOver}
-use Rattle.model.specs.Patch.{Patch, flat, strictlyConvex, Proper}
+use Rattle.model.specs.Patch.{Patch, liesOn, flat, strictlyConvex, Proper}
 use Rattle.model.specs.Ray.{met, panelOf, closest, firstMet}
-use Rattle.model.specs.Tree.{Tree, leaf, node, contents, mapTree, order, liesOn, inFront, divides}
+use Rattle.model.specs.Tree.{Tree, leaf, node, contents, mapTree, order, liesPositive, divides}
 use Rattle.model.specs.Format.{NodeRecord, Scene, patchOf, patchTable, patchNumbered, numberTree}
 use Rattle.model.specs.Questions.{neverFalling}
 use Rattle.model.specs.Booking.{hasCell, firstIs}
@@ -45,7 +45,7 @@ labels-rise limit panel a (suc (suc n)) t =
 
 -- a patch stays proper: questions 6, 8 and 9 ask of corners alone
 relabel-proper : (limit k : ℕ) (p : Patch) → Proper p → Proper (relabel limit k p)
-unfolding flat strictlyConvex
+unfolding liesOn flat strictlyConvex
 relabel-proper limit k p h = record { counted = h .counted; isFlat = h .isFlat; isConvex = h .isConvex }
 
 module _ (limit : ℕ) (patch : ℕ → Patch) where
@@ -71,14 +71,14 @@ module _ (limit : ℕ) (patch : ℕ → Patch) where
       ∙ sym (ap (every test) (contents-map patch t))
 
   divides-alike : (t : Tree ℕ) → divides (mapTree shown t) ≡ divides (mapTree patch t)
-  unfolding divides mapTree liesOn inFront
+  unfolding divides mapTree liesOn liesPositive
   divides-alike leaf = refl
   divides-alike (node s own a b) =
       ap₂ _&&_
       (ap₂ _&&_
       (ap₂ _&&_
-      (ap₂ _&&_ (each-alike (liesOn s) (λ k. refl) own) (below-alike (inFront s) (λ k. refl) a))
-      (below-alike (inFront (turnedOver s)) (λ k. refl) b))
+      (ap₂ _&&_ (each-alike (liesOn s) (λ k. refl) own) (below-alike (liesPositive s) (λ k. refl) a))
+      (below-alike (liesPositive (turnedOver s)) (λ k. refl) b))
       (divides-alike a))
       (divides-alike b)
 

@@ -29,10 +29,15 @@ first-same eye d d′ (p ∷ ps) h =
     ap₂ (λ (b : Bool) (o : Option Patch). cond b (some p) o) (h p (List·Memᴰ·head refl))
     (first-same eye d d′ ps (λ q m. h q (List·Memᴰ·tail m)))
 
+-- the sight line of cell (i, j) runs along no edge of a scene's patches
+abbrev pub RunsOffEdges : List ℕ → View → ℕ → ℕ → Type 0
+RunsOffEdges bytes v i j =
+    (p : Patch) → List·Memᴰ p (patchTable (decode bytes)) → (e : Edge) → List·Memᴰ e (edges (p .corners)) →
+    edgeNumber (direction (v .camera) i j) (edgeVector (v .eye) e) ≢ pos 0
+
 module _ {bytes : List ℕ} (h : AcceptedScene bytes) (v : View) (view : T (viewInRange v)) (axes : T (axesProper (v .camera .axes))) (i j : ℕ) where
   pub off-the-edges :
-      ((p : Patch) → List·Memᴰ p (patchTable (decode bytes)) → (e : Edge) → List·Memᴰ e (edges (p .corners)) →
-      edgeNumber (direction (v .camera) i j) (edgeVector (v .eye) e) ≢ pos 0) →
+      RunsOffEdges bytes v i j →
       closest (v .eye) (cellLine (v .camera) i j) (patchTable (decode bytes)) ≡ closest (v .eye) (direction (v .camera) i j) (patchTable (decode bytes))
   off-the-edges off =
       sym (first-met-closest (decode bytes) (accepted h) (v .eye) (cellLine (v .camera) i j))

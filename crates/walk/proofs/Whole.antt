@@ -85,7 +85,7 @@ module _ (s : Scene) (most : length (s .nodes) ≤ noChild) (fifth : T (children
       ∙ all .together test
       ∙ ap (λ (n : ℕ). tally test (range 0 n)) count
 
-  pub numbers-once : (k : ℕ) → occurrences k (contents (numberTree s)) ≡ occurrences k (range 0 (length (s .patches)))
+  numbers-once : (k : ℕ) → occurrences k (contents (numberTree s)) ≡ occurrences k (range 0 (length (s .patches)))
   numbers-once k = number-tally (λ (j : ℕ). eqb j k)
 
   -- so the walk has as many numbers as there are patches, and each is a patch's
@@ -106,7 +106,7 @@ module _ (s : Scene) (most : length (s .nodes) ≤ noChild) (fifth : T (children
       omega arith
 
   -- and its patches are those of the table, each as often
-  pub patch-tally : (test : Patch → Bool) → tally test (contents (patchTree s)) ≡ tally test (patchTable s)
+  patch-tally : (test : Patch → Bool) → tally test (contents (patchTree s)) ≡ tally test (patchTable s)
   unfolding patchTree
   patch-tally test =
       ap (tally test) (contents-map (patchNumbered s) (numberTree s))

@@ -53,7 +53,10 @@ module _ {n looked k : ℕ} {row words cells : List ℕ} (p : Laying n row words
 
   pub under-work : UnderWork (length cells) row words
   under-work =
-      record { fits = omega (arith, p .wide); unlit = afterSpans fresh (worstSpans k); row-is = row-now; words-are = rw (p .wide) (p .words-are) }
+      record {
+        listed = record { fits = omega (arith, p .wide); unlit = afterSpans fresh (worstSpans k); row-is = row-now };
+        words-are = rw (p .wide) (p .words-are);
+      }
 
   -- the sum fits 64 bits with as many spans as 32 bits can number
   pub looks-few : looked ≤ 128 * k

@@ -6,7 +6,7 @@ use Rattle.format.proofs.Words.{words}
 use Rattle.contract.specs.Contract.{axesBy, cameraBy}
 use Rattle.contract.proofs.SameStation.{surveyed-from}
 use Rattle.demands.proofs.Demands.{closest-surveyed}
-use Rattle.survey.proofs.Handed.{same-units, same-camera}
+use Rattle.handed.proofs.Handed.{same-units, same-camera}
 use Rattle.comparison.specs.Machine.{cameraOf}
 use Rattle.comparison.proofs.survey_at.Statement.{statement}
 use Rattle.comparison.proofs.survey_at.Tie as tie

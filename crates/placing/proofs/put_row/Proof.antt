@@ -1,5 +1,4 @@
 -- `put_row` meets its contract: the numbers below k are copied.
-use mathlib.Core.Path.{_≡_, sym, _∙_}
 use Prim.Native.Nat.{_-_}
 use native.Mathlib.Omega.{arith}
 use borrow.Author.Needs.{needs}
@@ -9,46 +8,40 @@ use Rattle.placing.proofs.put_row.Statement.{statement}
 use Rattle.placing.proofs.put_row.Tie as tie
 
 abbrev Inv-loop : tie.InvT-loop
-Inv-loop place₀ row k₀ place k = Copied row place₀ place k
+Inv-loop row place₀ k₀ place k = Copied row place₀ place k
 
 abbrev μ-loop : tie.MeasureT-loop
-μ-loop place₀ row k₀ place k = length place₀ - k
-
-same-lengths : (c : tie.Start Inv-loop μ-loop) → length (c .args .place .now) ≡ length (c .args .t1)
-same-lengths c = c .pre ∙ sym (array-length c)
-  where
-    array-length : (c : tie.Start Inv-loop μ-loop) → length (c .args .t1) ≡ 256
-    array-length c = search needs
+μ-loop row place₀ k₀ place k = length place₀ - k
 
 loop-holds : tie.Need-loop-holds Inv-loop μ-loop
 loop-holds c = copy-starts _ _
 
 mul-place : tie.Need-mul-place Inv-loop μ-loop
-mul-place c = omega (arith, copy-length (same-lengths (c .before .before)) (c .before .loop .inv))
+mul-place c = omega (arith, copy-length (c .before .before .pre) (c .before .loop .inv))
 
-array-read-place : tie.Need-array-read-place Inv-loop μ-loop
-array-read-place c = omega (arith, copy-length (same-lengths (c .before .before)) (c .before .loop .inv))
+shared-slice-read-place : tie.Need-shared-slice-read-place Inv-loop μ-loop
+shared-slice-read-place c = omega (arith, copy-length (c .before .before .before .pre) (c .before .before .loop .inv))
 
 mul-place-2 : tie.Need-mul-place-2 Inv-loop μ-loop
-mul-place-2 c = omega (arith, copy-length (same-lengths (c .before .before)) (c .before .loop .inv))
+mul-place-2 c = omega (arith, copy-length (c .before .before .before .pre) (c .before .before .loop .inv))
 
 slice-write-place : tie.Need-slice-write-place Inv-loop μ-loop
 slice-write-place c = search needs
 
 add-k : tie.Need-add-k Inv-loop μ-loop
-add-k c = omega (arith, copy-length (same-lengths (c .before .before)) (c .before .loop .inv))
+add-k c = omega (arith, copy-length (c .before .before .before .pre) (c .before .before .loop .inv))
 
 loop-less : tie.Need-loop-less Inv-loop μ-loop
-loop-less c = omega (arith, copy-length (same-lengths (c .before .before)) (c .before .loop .inv))
+loop-less c = omega (arith, copy-length (c .before .before .before .pre) (c .before .before .loop .inv))
 
 loop-again : tie.Need-loop-again Inv-loop μ-loop
-loop-again c = copy-goes (same-lengths (c .before .before)) (c .before .loop .inv) (c .loop-test .taken)
+loop-again c = copy-goes (c .before .before .before .pre) (c .before .before .loop .inv) (c .before .loop-test .taken)
 
 same-length : tie.Need-same-length Inv-loop μ-loop
-same-length c = copy-length (same-lengths (c .before .before)) (c .before .loop .inv)
+same-length c = copy-length (c .before .before .pre) (c .before .loop .inv)
 
 returns : tie.Need-returns Inv-loop μ-loop
-returns c = copy-ends (same-lengths (c .before .before)) (c .before .loop .inv) (c .loop-test .left)
+returns c = copy-ends (c .before .before .pre) (c .before .loop .inv) (c .loop-test .left)
 
 pub put-row-spec : {M : Type 1} → statement M
 put-row-spec =
@@ -58,7 +51,7 @@ put-row-spec =
     μ-loop
     loop-holds
     mul-place
-    array-read-place
+    shared-slice-read-place
     mul-place-2
     slice-write-place
     add-k

@@ -1,6 +1,8 @@
 -- `reach::clip_any` meets its contract: an empty span stays as it is.
 use borrow.Author.Needs.{needs}
-use Rattle.spans.proofs.RowFunctions.{words-clipped}
+use lib.IntN.{ℤ}
+use Rattle.spans.specs.Span.{Clipped}
+use Rattle.spans.proofs.RowFunctions.{words-as}
 use Rattle.reach.proofs.CornerSides.{clipped-empty}
 use Rattle.reach.proofs.clip_any.Statement.{statement}
 use Rattle.reach.proofs.clip_any.Tie as tie
@@ -9,7 +11,9 @@ returns : tie.Need-returns
 returns c = clipped-empty (c .before .before .pre .0) (c .if1 .taken)
 
 returns-2 : tie.Need-returns-2
-returns-2 c = words-clipped (c .before .before .before .pre .1) (c .clip .ensures)
+returns-2 c =
+    let b = c .before .before .before in
+    words-as (b .pre .1) (λ (x y : ℤ). Clipped x y (b .args .span) (c .clip .result)) (c .clip .ensures)
 
 pub clip-any-spec : {M : Type 1} → statement M
 clip-any-spec = tie.close (tie.spec returns (λ c κs. search needs) returns-2)

@@ -1,9 +1,11 @@
 -- `reach::clip_sides` meets its contract: a number and its opposite, each within the bounds that clipping asks for.
 use borrow.Author.Needs.{needs}
+use lib.IntN.{ℤ}
 use mir.Syntax.{w64}
 use Rattle.integer.proofs.Machine.{machine, no-overflow, magnitude}
 use Rattle.reach.proofs.CornerSides.{opposite-clipped}
-use Rattle.spans.proofs.RowFunctions.{words-clipped}
+use Rattle.spans.specs.Span.{Clipped}
+use Rattle.spans.proofs.RowFunctions.{words-as}
 use Rattle.reach.proofs.clip_sides.Statement.{statement}
 use Rattle.reach.proofs.clip_sides.Tie as tie
 
@@ -24,8 +26,9 @@ clip-any-requires-2 c κs = (
 
 returns : tie.Need-returns
 returns c =
-    let h = c .before .before .pre .1 in
-    record { ahead-clipped = words-clipped h (c .before .clip-any .ensures); behind-clipped = opposite-clipped h (c .clip-any2 .ensures) }
+    let b = c .before .before in
+    let h = b .pre .1 in
+    record { ahead-clipped = words-as h (λ (x y : ℤ). Clipped x y (b .args .sides .ahead) (c .before .clip-any .result)) (c .before .clip-any .ensures); behind-clipped = opposite-clipped h (c .clip-any2 .ensures) }
 
 pub clip-sides-spec : {M : Type 1} → statement M
 clip-sides-spec = tie.close (tie.spec (λ c κs. search needs) sub-clip-any sub-clip-any-2 clip-any-requires-2 returns)

@@ -9,7 +9,7 @@ array-write-row : tie.Need-array-write-row
 array-write-row c = search needs
 
 returns : tie.Need-returns
-returns c = let e = fresh-row (c .args .width) in (e, λ h. same-fresh h e)
+returns c = let e = fresh-row (c .args .width) in (e, same-fresh (c .args .width) e)
 
 pub fresh-spec : {M : Type 1} → statement M
 fresh-spec = tie.close (tie.spec array-write-row returns)

@@ -10,13 +10,12 @@ use Rattle.rows.proofs.lay.Tie as tie
 sweep-requires : tie.Need-sweep-requires
 sweep-requires c κs =
     let t = c .before .before in
-    let p = t .before .before .pre in
-    (t .if1 .taken, record { fits = p .fits; unlit = p .unlit; row-is = p .row-is })
+    (t .if1 .taken, t .before .before .pre .listed)
 
 light-new-requires : tie.Need-light-new-requires
 light-new-requires c κs =
     let p = c .before .before .before .before .before .before .before .before .pre in
-    (p .fits, record { unlit = p .unlit; words-are = p .words-are })
+    (p .listed .fits, record { unlit = p .listed .unlit; words-are = p .words-are })
 
 returns : tie.Need-returns
 returns c =
@@ -27,7 +26,7 @@ returns c =
       w .sweep .ensures .0,
       (
         λ unlit e.
-            reports (s .pre .fits) (w .sweep .ensures .0 unlit e) (w .sweep .ensures .1 .0 unlit e)
+            reports (s .pre .listed .fits) (w .sweep .ensures .0 unlit e) (w .sweep .ensures .1 .0 unlit e)
             (looks-laid (length (s .args .cells .now)) unlit (t .if1 .taken) (w .sweep .ensures .1 .1 unlit e)),
         (
           λ unlit e. m .light-new .ensures unlit (w .sweep .ensures .1 .0 unlit e) (words-now (s .pre) unlit e),
@@ -46,7 +45,7 @@ returns-2 c =
     let k = looks-at-nothing (s .args .first) (s .args .last) (e .if1 .left) w in (
       l,
       (
-        λ unlit r. reports (s .pre .fits) (l unlit r) (n unlit) (k unlit),
+        λ unlit r. reports (s .pre .listed .fits) (l unlit r) (n unlit) (k unlit),
         (
           λ unlit r. words-stay w (s .args .first) (s .args .last) unlit (sym (n unlit)) (words-now (s .pre) unlit r),
           same-after (s .pre) l (λ unlit r. words-stay w (s .args .first) (s .args .last) unlit (sym (n unlit)) (words-now (s .pre) unlit r)),

@@ -5,7 +5,7 @@ use Rattle.rows_narrow.proofs.show.Statement.{statement}
 use Rattle.rows_narrow.proofs.show.Tie as tie
 
 write-row-requires : tie.Need-write-row-requires
-write-row-requires c κs = (omega arith, c .before .before .before .pre .fits)
+write-row-requires c κs = (omega arith, c .before .before .before .pre .listed .fits)
 
 pub show-spec : {M : Type 1} → statement M
 show-spec =

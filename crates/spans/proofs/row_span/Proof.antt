@@ -6,10 +6,10 @@ use Rattle.spans.proofs.row_span.Statement.{statement}
 use Rattle.spans.proofs.row_span.Tie as tie
 
 abbrev Inv-loop : tie.InvT-loop
-Inv-loop table first count j within k₀ span k = Narrowed table first count j within k span
+Inv-loop table first count j lit within k₀ span k = Narrowed table first count j within lit k span
 
 abbrev μ-loop : tie.MeasureT-loop
-μ-loop table first count j within k₀ span k = count - k
+μ-loop table first count j lit within k₀ span k = count - k
 
 loop-holds : tie.Need-loop-holds Inv-loop μ-loop
 loop-holds c = narrowed-none

@@ -4,16 +4,16 @@ use denote.Ref.{now}
 use borrow.Author.Needs.{needs}
 use Rattle.model.specs.Lent.{Lent}
 use Rattle.contract.specs.Contract.{lentOf}
-use Rattle.surveying.proofs.Calls.{refused, paintable, painted-from, counter-rises, countable, accepted}
+use Rattle.surveying.proofs.Calls.{refused, paintable, rendered-from, counter-rises, accepted}
 use Rattle.surveying.proofs.survey_from.Statement.{statement}
 use Rattle.surveying.proofs.survey_from.Tie as tie
 
--- from before the counting back to after the painting, from there back to where the eye was found, and to where the answer was 0
-abbrev painted : tie.After-count-cells-arg2 → tie.After-paint
-painted c = c .before .before .before .before .before .before .before .before .before .before
+-- from where the painting has given back what it was lent to right after it, from there back to where the eye was found, and to where the answer was 0
+abbrev painted : tie.After-slice-known9 → tie.After-paint
+painted c = c .before .before .before .before .before .before .before .before
 
 abbrev located : tie.After-paint → tie.After-locate
-located p = p .before .before .before .before .before
+located p = p .before .before .before .before .before .before
 
 abbrev answered : tie.After-locate → tie.Else1
 answered l = l .before
@@ -30,31 +30,21 @@ returns c = refused _ _ _ _ (c .before .survey-answer .ensures) (c .if1 .taken)
 -- It stands before the needs on the way, so that an edit of what the call leaves is refused for what it leaves.
 returns-2 : tie.Need-returns-2
 returns-2 c =
-    let n = c .before .before in
-    let p = painted (n .before) in
+    let p = painted (c .before .before) in
     let l = located p in
     let g = answered l in
     accepted _ _ _ (lent g) (g .before .survey-answer .ensures) (g .if1 .left)
-    (painted-from _ _ _ (lent g) (g .before .survey-answer .ensures) (g .if1 .left) (l .locate .ensures) (p .paint .ensures))
-    (n .count-cells .ensures) refl
+    (rendered-from _ _ _ (lent g) (g .before .survey-answer .ensures) (g .if1 .left) (l .locate .ensures) (p .paint .ensures)) refl
 
 paint-requires : tie.Need-paint-requires
 paint-requires c κs =
-    let l = c .before .before .before .before in
+    let l = c .before .before .before .before .before in
     let g = answered l in
     paintable _ _ _ (lent g) (g .before .survey-answer .ensures) (g .if1 .left) (l .locate .ensures)
 
-count-cells-requires : tie.Need-count-cells-requires
-count-cells-requires c κs =
-    let p = painted c in
-    let l = located p in
-    let g = answered l in
-    countable _ _ _ (lent g) (g .before .survey-answer .ensures) (g .if1 .left)
-    (painted-from _ _ _ (lent g) (g .before .survey-answer .ensures) (g .if1 .left) (l .locate .ensures) (p .paint .ensures))
-
 add-counter : tie.Need-add-counter
 add-counter c =
-    let g = answered (located (painted (c .before .before .before))) in
+    let g = answered (located (painted (c .before .before))) in
     record { fits = counter-rises _ _ _ (lent g) (g .before .survey-answer .ensures) (g .if1 .left) }
 
 pub survey-from-spec : {M : Type 1} → statement M
@@ -65,7 +55,6 @@ survey-from-spec =
     returns
     (λ c κs. search needs)
     paint-requires
-    count-cells-requires
     add-counter
     (λ c. search needs)
     (λ c. search needs)

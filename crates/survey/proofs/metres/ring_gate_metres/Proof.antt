@@ -1,7 +1,7 @@
 -- `survey::metres::ring_gate_metres` meets its contract: the doubles are the station's, and the camera's numbers pass through words unchanged.
 use borrow.Author.Needs.{needs}
 use Rattle.contract.proofs.SameStation.{answered-from}
-use Rattle.survey.proofs.Handed.{same-camera}
+use Rattle.handed.proofs.Handed.{same-camera}
 use Rattle.survey.proofs.metres.ring_gate_metres.Statement.{statement}
 use Rattle.survey.proofs.metres.ring_gate_metres.Tie as tie
 

@@ -2,7 +2,7 @@
 use borrow.Author.Needs.{needs}
 use Rattle.contract.proofs.SameStation.{surveyed-from}
 use Rattle.demands.proofs.Demands.{closest-surveyed}
-use Rattle.survey.proofs.Handed.{same-camera}
+use Rattle.handed.proofs.Handed.{same-camera}
 use Rattle.survey.proofs.metres.ring_survey_metres.Statement.{statement}
 use Rattle.survey.proofs.metres.ring_survey_metres.Tie as tie
 

@@ -1,7 +1,7 @@
 -- `survey::units::ring_gate` meets its contract: the numbers of the station and of the camera pass through words unchanged.
 use borrow.Author.Needs.{needs}
 use Rattle.contract.proofs.SameStation.{answered-from}
-use Rattle.survey.proofs.Handed.{same-units, same-camera}
+use Rattle.handed.proofs.Handed.{same-units, same-camera}
 use Rattle.survey.proofs.units.ring_gate.Statement.{statement}
 use Rattle.survey.proofs.units.ring_gate.Tie as tie
 

@@ -2,7 +2,7 @@
 use borrow.Author.Needs.{needs}
 use Rattle.contract.proofs.SameStation.{surveyed-from}
 use Rattle.demands.proofs.Demands.{closest-surveyed}
-use Rattle.survey.proofs.Handed.{same-units, same-camera}
+use Rattle.handed.proofs.Handed.{same-units, same-camera}
 use Rattle.survey.proofs.units.ring_survey.Statement.{statement}
 use Rattle.survey.proofs.units.ring_survey.Tie as tie
 

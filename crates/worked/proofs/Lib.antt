@@ -1,0 +1,3 @@
+-- Stations worked on the definitions, and pairs of calls that meet all that the demands ask of two.
+pub mod Stations
+pub mod Pairs
