@@ -1,2 +1,4 @@
 -- This serves the functions' proofs.
 mod Painting
+-- For callers that clear cells or a table in a loop.
+pub mod Clearing

@@ -1,4 +1,3 @@
--- The bits of words, spans lit in a row's words, and a row of the map.
+-- The bits of words, and a row of the map.
 mod Bits
-mod Spans
 mod Rows

@@ -1,3 +1,2 @@
--- A band of rows, and the whole picture.
-mod BandRows
+-- The whole picture.
 mod Progress

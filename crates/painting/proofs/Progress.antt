@@ -18,8 +18,9 @@ use Rattle.format.specs.declared.layout.Layout.{Layout}
 use Rattle.edges.specs.declared.Sight.{Sight}
 use Rattle.scanline.specs.Laying.{walkOf}
 use Rattle.placing.specs.Framing.{RowsPainted, Framed, RowsUpTo}
-use Rattle.placing.specs.Booked.{AtMost, BookedUpTo}
-use Rattle.painting.specs.Bands.{BandPainted, BandBooked}
+use Rattle.booking.specs.Table.{AtMost}
+use Rattle.placing.specs.Booked.{BookedUpTo}
+use Rattle.bands.specs.Bands.{BandPainted, BandBooked}
 use Rattle.readiness.specs.Ready.{ReadyUpTo}
 use Rattle.placing.proofs.RowsPlaced.{still-framed, rows-start, rows-end}
 use Rattle.placing.proofs.RowsBooked.{book-start}

@@ -1,2 +1,2 @@
--- What the parts of the painting ask and leave.
-pub mod Bands
+-- What the crate's contracts cite.
+pub mod Picture

@@ -1,6 +1,4 @@
-// A row of the picture, painted in its places, in the picture, in the unlit lists and in the lit map, and booked.
-pub mod booking;
-
+// A row of the picture, painted in its places, in the picture, in the unlit lists and in the lit map.
 use edges::Sight;
 use format::layout::Layout;
 use scanline::paint_row;

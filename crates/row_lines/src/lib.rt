@@ -13,7 +13,8 @@ ghost use Rattle.text.specs.Text.{spaced};
 ghost use Rattle.text.specs.Put.{Room, Put};
 ghost use Rattle.model.specs.Row.{rowOf, afterSpan};
 ghost use Rattle.model.specs.Map.{mapRow};
-ghost use Rattle.rows.specs.Span.{UnderWork, Lays};
+ghost use Rattle.laying.specs.Laid.{Lays};
+ghost use Rattle.rows.specs.Span.{UnderWork};
 ghost use Rattle.row_lines.specs.Line.{each, hexDigit, wordDigits, spacedWord, beginning, fields, rowLine};
 ghost use Rattle.row_lines.specs.Told.{reported, Told};
 

@@ -8,13 +8,14 @@ use lib.ListN.{length, getD}
 use borrow.Author.Tests.{le-leb, lt-leb}
 use Rattle.model.specs.Row.{segments, rowOf, afterSpan}
 use Rattle.segments.specs.Looks.{lookedAt, looks}
-use Rattle.rows.specs.Span.{Lays, Reports}
+use Rattle.laying.specs.Laid.{Lays}
+use Rattle.rows.specs.Span.{Reports}
 use Rattle.segments.proofs.Rows.{row-congr}
 use Rattle.segments.proofs.Cut.{span-empty}
 use Rattle.segments.proofs.Full.{first-length}
 use Rattle.segments.proofs.Painting.{painted-none}
 use Rattle.segments.proofs.Tallies.{tally-clear}
-use Rattle.rows.proofs.Stepping.{spanned}
+use Rattle.laying.proofs.Stepping.{spanned}
 
 pub reports :
     {unlit : ℕ → Bool} {first last panel : ℕ} {cells row′ cells′ : List ℕ} → length cells ≤ 256 →

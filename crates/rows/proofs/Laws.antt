@@ -7,7 +7,8 @@ use native.Mathlib.Omega.{arith}
 use lib.ListN.{length}
 use Rattle.model.specs.Row.{rowOf, afterSpan}
 use Rattle.model.specs.Map.{mapRow}
-use Rattle.rows.specs.Span.{UnderWork, Lays, Reports}
+use Rattle.laying.specs.Laid.{Lays}
+use Rattle.rows.specs.Span.{UnderWork, Reports}
 use Rattle.segments.specs.Looks.{Columns, fresh, afterSpans, mostLooks}
 use Rattle.segments.proofs.Mapped.{fresh-map}
 use Rattle.segments.proofs.Painting.{painted-length}

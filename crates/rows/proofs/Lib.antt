@@ -1,8 +1,4 @@
 -- For callers: `Laws` (rows under work that are laid on). `Same` says that map and list describe the same cells; the others serve the functions' proofs.
-mod Keeping
-mod Stepping
-mod Sweeping
-mod Sweeps
 mod Full
 pub mod Laws
 pub mod Same

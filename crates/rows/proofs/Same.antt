@@ -13,7 +13,8 @@ use Rattle.model.specs.Lists.{range, tally}
 use Rattle.model.specs.Row.{rowOf, usedPairs, inPairs, afterSpan}
 use Rattle.model.specs.Map.{litColumn, litAt, mapRow, SameCells}
 use Rattle.segments.specs.Columns.{inSpan}
-use Rattle.rows.specs.Span.{Row, UnderWork, Lays}
+use Rattle.laying.specs.Laid.{Row, Lays}
+use Rattle.rows.specs.Span.{UnderWork}
 use Rattle.model.proofs.Tests.{tally-none}
 use Rattle.model.proofs.Ranges.{in-range}
 use Rattle.model.proofs.Bits.{word-is}

@@ -1,31 +1,19 @@
--- Laying a span of columns on a row.
+-- Laying a span of columns on a row and in its words of the lit map, and what that reports.
 use mathlib.Core.Path.{_≡_}
 use mathlib.Core.Bool.{Bool, _&&_}
 use mathlib.Core.List.{List}
-use Prim.Native.Nat.{ℕ, _≤_}
-use lib.ListN.{length}
+use Prim.Native.Nat.{ℕ}
 use Rattle.model.specs.Lists.{range, tally}
-use Rattle.model.specs.Row.{rowOf, afterSpan}
+use Rattle.model.specs.Row.{afterSpan}
 use Rattle.model.specs.Map.{mapRow}
-use Rattle.segments.specs.Columns.{inSpan, painted, allLit}
+use Rattle.segments.specs.Columns.{inSpan, allLit}
 use Rattle.segments.specs.Looks.{looks}
-
--- the numbers are those of a row under work, for some set of unlit columns
-pub record Row (width : ℕ) (row : List ℕ) : Type 0 where
-  pub fits : width ≤ 256
-  pub unlit : ℕ → Bool
-  pub row-is : row ≡ rowOf width unlit
+use Rattle.laying.specs.Laid.{Row}
 
 -- the row and its words of the lit map are those of one set of unlit columns
 pub record UnderWork (width : ℕ) (row words : List ℕ) : Type 0 where
   pub listed : Row width row
   pub words-are : words ≡ mapRow width (listed .unlit)
-
--- what laying a span leaves, where the row at entry is that of the set `unlit`: the row without the span's columns, and
--- the panel in the cells that were unlit and lie in the span
-pub record Lays (unlit : ℕ → Bool) (first last panel : ℕ) (cells row′ cells′ : List ℕ) : Type 0 where
-  pub row-is : row′ ≡ rowOf (length cells) (afterSpan unlit first last)
-  pub cells-are : cells′ ≡ painted (λ (i : ℕ). unlit i && inSpan first last i) panel cells
 
 -- what it reports: whether no column is unlit any more; how many it newly lit, those that were unlit and lie in the span; and how many segments it looked at.
 -- Document 02, F-2: "Laying a span on a row now also says how many cells it newly lit." F-6: "The number looked at is reported, and equals that definition."

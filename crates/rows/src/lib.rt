@@ -1,8 +1,6 @@
 // A row of unlit segments and its words of the lit map: built, painted over by spans of columns, handed out.
-mod laying;
-
 use laying::sweep;
-use litmap::light;
+use lighting::light;
 use pairs::used_part;
 ghost use mathlib.Core.Path.{_≡_};
 ghost use mathlib.Core.Bool.{Bool, true, _&&_};
@@ -13,8 +11,9 @@ ghost use Rattle.model.specs.Lists.{range, tally};
 ghost use Rattle.model.specs.Row.{rowOf, usedPart, afterSpan};
 ghost use Rattle.model.specs.Map.{mapRow, SameCells};
 ghost use Rattle.segments.specs.Columns.{inSpan};
-ghost use Rattle.litmap.specs.Words.{Words};
-ghost use Rattle.rows.specs.Span.{UnderWork, Lays, Reports};
+ghost use Rattle.lighting.specs.Words.{Words};
+ghost use Rattle.laying.specs.Laid.{Lays};
+ghost use Rattle.rows.specs.Span.{UnderWork, Reports};
 
 // What laying a span reports.
 pub struct Laid {

@@ -12,7 +12,8 @@ use Rattle.model.specs.Lists.{any, range}
 use Rattle.model.specs.Row.{rowOf, afterSpan}
 use Rattle.model.specs.Map.{mapRow}
 use Rattle.segments.specs.Columns.{inSpan, allLit}
-use Rattle.rows.specs.Span.{Lays, Reports}
+use Rattle.laying.specs.Laid.{Lays}
+use Rattle.rows.specs.Span.{Reports}
 use Rattle.rows.specs.declared.Laid.{Laid}
 use Rattle.scanline.specs.declared.Lighting.{Lighting}
 use Rattle.model.proofs.LitMap.{map-congr}

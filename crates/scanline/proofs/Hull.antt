@@ -10,7 +10,7 @@ use lib.ListN.{getD}
 use native.Mathlib.Omega.{arith}
 use Rattle.model.specs.Row.{rowOf}
 use Rattle.segments.specs.Segments.{Reads}
-use Rattle.rows.specs.Span.{Row}
+use Rattle.laying.specs.Laid.{Row}
 use Rattle.segments.proofs.First.{first-inside, first-unlit, only-unlit, between-unlit}
 use Rattle.scanline.specs.Laying.{UnlitHull, LitGap}
 

@@ -1,7 +1,6 @@
 -- What a row shows while a walk is painted.
 pub mod FirstShown
 -- cleared cells, the unlit columns' hull, a patch, a row
-pub mod Clearing
 mod Hull
 pub mod Columns
 mod PatchLaying

@@ -20,7 +20,7 @@ use Rattle.segments.proofs.Rows.{row-congr}
 use Rattle.segments.proofs.Painting.{painted-length, painted-at}
 use Rattle.scanline.specs.Shown.{shownAfter, unlitAfter, RowPainted, newlyLit}
 use Rattle.scanline.specs.Laying.{ColumnsPainted, PatchLaid}
-use Rattle.scanline.proofs.Clearing.{zero-table}
+use Rattle.cells.proofs.Clearing.{zero-table}
 use Rattle.scanline.proofs.FirstShown.{unlit-first, shown-first, unlit-next, shown-next, unlit-stays, shown-stays}
 
 module _ (eye : Vec) (ray : ℕ → Vec) (width : ℕ) where

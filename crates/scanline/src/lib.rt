@@ -12,7 +12,8 @@ ghost use Rattle.model.specs.Format.{decode, patchNumbered};
 ghost use Rattle.geometry.specs.Machine.{vecOf};
 ghost use Rattle.geometry.specs.Raster.{lineAt};
 ghost use Rattle.spans.specs.Span.{covers};
-ghost use Rattle.rows.specs.Span.{Row, UnderWork};
+ghost use Rattle.laying.specs.Laid.{Row};
+ghost use Rattle.rows.specs.Span.{UnderWork};
 ghost use Rattle.scanline.specs.Shown.{RowPainted, RowLit};
 ghost use Rattle.scanline.specs.Laying.{PatchAsked, RowAsked, walkOf, UnlitHull, LitGap, ColumnsLaid, PatchLaid};
 

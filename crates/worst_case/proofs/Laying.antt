@@ -14,7 +14,8 @@ use Rattle.segments.specs.Looks.{Columns, fresh, afterSpans, looks, looksInOrde
 use Rattle.segments.proofs.Painting.{painted-length}
 use Rattle.segments.proofs.Looking.{after-next, looks-next}
 use Rattle.segments.proofs.Mapped.{fresh-map}
-use Rattle.rows.specs.Span.{UnderWork, Lays, Reports}
+use Rattle.laying.specs.Laid.{Lays}
+use Rattle.rows.specs.Span.{UnderWork, Reports}
 use Rattle.rows.proofs.Laws.{row-next}
 use Rattle.worst_case.specs.WorstCase.{worstSpan, worstSpans, worstLooks, boundsTogether}
 use Rattle.worst_case.proofs.Reached.{worst-reach, bounds-few}

@@ -3,7 +3,7 @@ use Prim.Native.Nat.{_-_}
 use native.Mathlib.Omega.{arith}
 use borrow.Author.Needs.{needs}
 use lib.ListN.{length}
-use Rattle.scanline.proofs.Clearing.{Cleared, clear-starts, clear-length, clear-goes, clear-ends}
+use Rattle.cells.proofs.Clearing.{Cleared, clear-starts, clear-length, clear-goes, clear-ends}
 use Rattle.scanline.proofs.clear.Statement.{statement}
 use Rattle.scanline.proofs.clear.Tie as tie
 

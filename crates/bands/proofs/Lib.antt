@@ -1,0 +1,2 @@
+-- A band of rows.
+mod BandRows

@@ -1,0 +1,2 @@
+-- Adding to a table's entries.
+pub mod Adding

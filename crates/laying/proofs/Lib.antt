@@ -1,0 +1,5 @@
+-- One segment, and all of them one after the other.
+mod Keeping
+pub mod Stepping
+mod Sweeping
+mod Sweeps

@@ -1,0 +1,20 @@
+-- Laying a span of columns on a row's segments.
+use mathlib.Core.Path.{_≡_}
+use mathlib.Core.Bool.{Bool, _&&_}
+use mathlib.Core.List.{List}
+use Prim.Native.Nat.{ℕ, _≤_}
+use lib.ListN.{length}
+use Rattle.model.specs.Row.{rowOf, afterSpan}
+use Rattle.segments.specs.Columns.{inSpan, painted}
+
+-- the numbers are those of a row under work, for some set of unlit columns
+pub record Row (width : ℕ) (row : List ℕ) : Type 0 where
+  pub fits : width ≤ 256
+  pub unlit : ℕ → Bool
+  pub row-is : row ≡ rowOf width unlit
+
+-- what laying a span leaves, where the row at entry is that of the set `unlit`: the row without the span's columns, and
+-- the panel in the cells that were unlit and lie in the span
+pub record Lays (unlit : ℕ → Bool) (first last panel : ℕ) (cells row′ cells′ : List ℕ) : Type 0 where
+  pub row-is : row′ ≡ rowOf (length cells) (afterSpan unlit first last)
+  pub cells-are : cells′ ≡ painted (λ (i : ℕ). unlit i && inSpan first last i) panel cells
