@@ -3,7 +3,6 @@
 use booking::clear_table;
 use checked::patch_record;
 use format::layout::Layout;
-ghost use lib.ListN.{length};
 ghost use Rattle.model.specs.Format.{decode, patchNumbered};
 ghost use Rattle.counting.specs.Counting.{Countable, Counted};
 

@@ -9,7 +9,6 @@ use Rattle.model.specs.Patch.{Patch}
 use Rattle.model.specs.Ray.{closest, IsClosest, noneMet, shows}
 use Rattle.model.specs.Format.{highestPanel}
 use Rattle.model.specs.Picture.{picture, cellPanel, counts, countEntries}
-use Rattle.model.proofs.Ranges.{getD-member}
 use Rattle.model.proofs.Closest.{closest-right}
 use Rattle.model.proofs.Cells.{cells-length, cells-at, of-cells}
 use Rattle.model.proofs.Counts.{counts-total}
@@ -34,18 +33,6 @@ module _ (eye : Vec) (width height : ℕ) (direction : ℕ → ℕ → Vec) (ps 
       go : {n : ℕ} → IsClosest eye d ps n → n < countEntries
       go (noneMet g) = omega arith
       go (shows p m t near low) = let h : p .panel ≤ highestPanel = f p m in omega arith
-
-  -- each cell's number has an entry in the counts
-  pub picture-counted :
-      ((p : Patch) → List·Memᴰ p ps → p .panel ≤ highestPanel) →
-      (k : ℕ) →
-      k < length (picture eye width height direction ps) →
-      getD (picture eye width height direction ps) k 0 < countEntries
-  unfolding picture
-  picture-counted f k h =
-      of-cells width height (cellPanel eye direction ps) (λ (n : ℕ). n < countEntries)
-      (λ i j _ _. closest-counted (direction i j) f) (getD (picture eye width height direction ps) k 0)
-      (getD-member (picture eye width height direction ps) k 0 h)
 
   -- "Afterwards the counts, entry 0 for "nothing", add up to width × height"
   pub picture-total :

@@ -1,13 +1,13 @@
 -- The line's buffer has room for every line.
 use mathlib.Core.Path.{_≡_}
 use mathlib.Core.List.{List, [], _∷_}
-use Prim.Native.Nat.{ℕ, suc, _+_, _*_, _^_, _≤_, _<_}
+use Prim.Native.Nat.{ℕ, suc, _+_, _*_, _≤_}
 use native.Mathlib.Nat.{mul-suc}
 use native.Mathlib.Omega.{arith}
 use lib.ListN.{length, getD, length-append}
 use mir.Syntax.{w16, w32}
 use mir.Val.{Fits}
-use Rattle.text.specs.Text.{ascii, decimal, spaced}
+use Rattle.text.specs.Text.{ascii, spaced}
 use Rattle.text.specs.Put.{Room}
 use Rattle.text.proofs.Lengths.{decimal-length, spaced-length}
 use Rattle.row_lines.specs.Line.{each, wordDigits, spacedWord, beginning, fields}

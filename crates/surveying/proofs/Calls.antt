@@ -1,25 +1,21 @@
 -- The survey's contract: refused, or accepted and painted.
 use mathlib.Core.Path.{_≡_, sym, _∙_, ap, subst}
 use mathlib.Core.List.{List}
-use Prim.Native.Nat.{ℕ, _+_, _≤_, _<_}
-use native.Mathlib.Nat.{mul-le-mul}
+use Prim.Native.Nat.{ℕ, _+_, _<_}
 use native.Mathlib.Omega.{arith}
 use lib.Dec.{T, ltb→lt}
-use lib.ListN.{length, getD}
+use lib.ListN.{length}
 use Rattle.model.specs.Vector.{Vec}
-use Rattle.model.specs.View.{View, viewWidth, viewHeight}
+use Rattle.model.specs.View.{View}
 use Rattle.model.specs.Station.{Station, eyeOf, viewAt}
-use Rattle.model.specs.Beside.{cellLine}
 use Rattle.model.specs.Lent.{Lent, lengthsOf}
 use Rattle.model.specs.Call.{Call}
-use Rattle.model.specs.Format.{decode, patchTable}
-use Rattle.model.specs.Picture.{counts, countEntries}
+use Rattle.model.specs.Format.{decode}
+use Rattle.model.specs.Picture.{counts}
 use Rattle.model.specs.Questions.{pointInRange, counterBelowEnd, surveyAnswer}
 use Rattle.model.specs.Survey.{callPicture, callCounts, callPatchCells, callUnlit, callLit, callCounter}
 use Rattle.model.proofs.Answers.{AcceptedCall, accepted-call}
 use Rattle.model.proofs.CallLimits.{ViewBounded, view-bounded, AxesBounded, axes-bounded, LengthsRight, lengths-right}
-use Rattle.model.proofs.Pictures.{picture-length, picture-counted}
-use Rattle.model.proofs.PanelNumbers.{panel-bounded}
 use Rattle.geometry.specs.Machine.{vecOf}
 use Rattle.geometry.proofs.Sizes.{parts-bounded}
 use Rattle.camera.specs.declared.Camera.{Camera}
