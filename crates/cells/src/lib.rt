@@ -1,8 +1,8 @@
-// A run of cells, painted.
+// Cells: a run of them painted, and all of them cleared.
 ghost use mathlib.Core.Path.{_≡_};
 ghost use mathlib.Core.Bool.{cond};
 ghost use Prim.Native.Nat.{_+_, _≤_, _<_};
-ghost use lib.ListN.{length};
+ghost use lib.ListN.{length, replicate};
 ghost use Rattle.segments.specs.Columns.{inSpan, painted};
 
 fn chosen(inside: bool, panel: u16, cell: u16) -> u16
@@ -53,4 +53,26 @@ pub fn paint(cells: &mut [u16], from: u16, to: u16, panel: u16)
         }
     }
     paint_run(cells, from, to, panel);
+}
+
+// Clears all cells of a picture.
+pub fn clear(cells: &mut [u16])
+    ensures { λ r. ⌜ now (cells .exit) ≡ replicate (length (now (cells .entry))) 0 ⌝ }
+{
+    let mut i = 0;
+    while i < cells.len() {
+        cells[i] = 0;
+        i += 1;
+    }
+}
+
+// The same for a table of counts: patches that no row shows are never booked, so that their entries are 0 from here on, whatever the table held.
+pub fn clear_table(booked: &mut [u32])
+    ensures { λ r. ⌜ now (booked .exit) ≡ replicate (length (now (booked .entry))) 0 ⌝ }
+{
+    let mut n = 0;
+    while n < booked.len() {
+        booked[n] = 0;
+        n += 1;
+    }
 }

@@ -11,7 +11,7 @@ use lib.ListN.{length, getD, set, replicate, length-set, length-replicate}
 use lib.Seq.{getD-set-same, getD-set-other}
 use Rattle.model.specs.Picture.{countEntries}
 use Rattle.model.proofs.Tables.{zero-at}
-use Rattle.booking.proofs.Adding.{sum-last, grown}
+use Rattle.cells.proofs.Adding.{sum-last, grown}
 use Rattle.counting.specs.Counting.{together, ofPanel, Counted}
 
 together-more : (booked : List ℕ) (k : ℕ) → together booked (k + 1) ≡ together booked k + getD booked k 0

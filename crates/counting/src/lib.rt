@@ -1,6 +1,6 @@
 // The counts of a picture: how many cells show each panel and, in entry 0, nothing. They are told by the table of the patches' cells, so that no cell is looked
 // at again: a panel's count is the sum over its patches, and the cells that no patch has show nothing.
-use booking::clear_table;
+use cells::clear_table;
 use checked::patch_record;
 use format::layout::Layout;
 ghost use Rattle.model.specs.Format.{decode, patchNumbered};

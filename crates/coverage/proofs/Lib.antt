@@ -6,4 +6,3 @@ pub mod Generic
 pub mod MetPoint
 pub mod Agreement
 pub mod Rectangles
-pub mod Examples

@@ -2,9 +2,9 @@
 use mathlib.Core.Path.{_≡_, refl, sym, ap, subst, _∙_}
 use mathlib.Core.Logic.{_≢_}
 use mathlib.Core.Bool.{false, _&&_}
-use mathlib.Core.List.{List, [], _∷_, map, List·Memᴰ, Memᴰ·map}
-use Prim.Native.Nat.{ℕ, zero, suc, _*_, _<_}
-use native.Mathlib.Nat.{not-suc-le-zero}
+use mathlib.Core.List.{List, [], _∷_, map, map-map, List·Memᴰ, Memᴰ·map}
+use Prim.Native.Nat.{ℕ, zero, suc, _+_, _*_, _<_}
+use native.Mathlib.Nat.{not-suc-le-zero, zero-add}
 use native.Mathlib.Omega.{arith}
 use lib.IntN.{ℤ, pos, negsuc, _+ℤ_, _*ℤ_}
 use lib.ListN.{length, length-map}
@@ -15,7 +15,6 @@ use Rattle.model.specs.Lists.{range}
 use Rattle.model.specs.Vector.{Vec, plus, dot, times}
 use Rattle.model.specs.Patch.{Patch, Edge, edges}
 use Rattle.model.specs.Ray.{eyeProduct, edgeVector, edgeNumber, met}
-use Rattle.model.specs.Format.{Run}
 use Rattle.model.specs.Beside.{fine}
 use Rattle.model.proofs.Tests.{same-test}
 use Rattle.model.proofs.Ranges.{of-map, of-range}
@@ -25,12 +24,12 @@ use Rattle.geometry.specs.declared.EdgeFunction.{EdgeFunction}
 use Rattle.geometry.specs.Machine.{vecOf}
 use Rattle.geometry.specs.Raster.{rayAt, lineAt, countsIn, seenBy, FunctionBounded}
 use Rattle.geometry.proofs.CountsIn.{weighted-start}
-use Rattle.model.proofs.Tables.{length-table}
-use Rattle.tables.specs.Functions.{functionAt, functionsIn}
+use Rattle.model.proofs.Tables.{length-table, same-table}
 use Rattle.spans.specs.Row.{numberIn, allAbove}
 use Rattle.edges.specs.declared.Sight.{Sight}
-use Rattle.edges.specs.Edges.{orientedEdges, EdgesAt}
+use Rattle.edges.specs.Edges.{orientedEdges}
 use Rattle.edges.proofs.Orientation.{inside, every-map, met-none, met-inside}
+use Rattle.edges.proofs.Places.{edgeNumbered, fromCorner, oriented-table, oriented-at}
 
 -- with the eye in the patch's plane all its edge vectors are 0
 dot-nought : (d v : Vec) → dot d (times (pos 0) v) ≡ pos 0
@@ -121,20 +120,28 @@ unfolding allAbove inside
 all-seen r es i j h = every-map (seenBy r) _ _ es (λ e m. line-seen r e i j (h (seenBy r e) (Memᴰ·map (seenBy r) m)))
 
 pub met-seen :
-    {s : Sight} {p : Patch} {run : Run} {table : List ℤ} → EdgesAt s p run table → 0 < run .count →
-    (i j : ℕ) → allAbove (functionsIn table (run .first) (run .count)) i j ≡ met (vecOf (s .eye)) (lineAt (s .raster) i j) p
-met-seen {s} {p} {run} {table} h some i j =
-    ap (λ (fs : List EdgeFunction). allAbove fs i j) (h .are)
-    ∙ all-seen (s .raster) (orientedEdges (vecOf (s .eye)) p) i j (subst (λ (fs : List EdgeFunction). (f : EdgeFunction) → List·Memᴰ f fs → FunctionBounded f) (h .are) each)
+    (s : Sight) (p : Patch) (count : ℕ) → length (p .corners) ≡ count → 0 < count →
+    ((m : ℕ) → m < count → FunctionBounded (seenBy (s .raster) (edgeNumbered (vecOf (s .eye)) p m))) → (i j : ℕ) →
+    allAbove (map (λ (m : ℕ). seenBy (s .raster) (edgeNumbered (vecOf (s .eye)) p m)) (range 0 count)) i j ≡ met (vecOf (s .eye)) (lineAt (s .raster) i j) p
+met-seen s p count c some bounds i j =
+    ap (λ (fs : List EdgeFunction). allAbove fs i j) are
+    ∙ all-seen (s .raster) (orientedEdges (vecOf (s .eye)) p) i j (subst (λ (fs : List EdgeFunction). (f : EdgeFunction) → List·Memᴰ f fs → FunctionBounded f) are each)
     ∙ met-edges (vecOf (s .eye)) (lineAt (s .raster) i j) p (omega (arith, many))
   where
-    each : (f : EdgeFunction) → List·Memᴰ f (functionsIn table (run .first) (run .count)) → FunctionBounded f
-    each =
-        of-map FunctionBounded (functionAt table) (range (run .first) (run .count))
-        (of-range (λ (k : ℕ). FunctionBounded (functionAt table k)) (run .first) (run .count) (h .bounded .each))
+    seen : ℕ → EdgeFunction
+    seen m = seenBy (s .raster) (edgeNumbered (vecOf (s .eye)) p m)
 
-    many : length (orientedEdges (vecOf (s .eye)) p) ≡ run .count
-    many =
-        sym (length-map (orientedEdges (vecOf (s .eye)) p) (seenBy (s .raster)))
-        ∙ ap length (sym (h .are))
-        ∙ length-table (functionAt table) (run .first) (run .count)
+    are : map seen (range 0 count) ≡ map (seenBy (s .raster)) (orientedEdges (vecOf (s .eye)) p)
+    are =
+        same-table seen (λ (k : ℕ). seenBy (s .raster) (fromCorner (vecOf (s .eye)) p k)) 0 0 count
+        (λ k b. ap (seenBy (s .raster)) (oriented-at (vecOf (s .eye)) p (0 + k) (omega (arith, c))))
+        ∙ ap (λ (n : ℕ). map (λ (k : ℕ). seenBy (s .raster) (fromCorner (vecOf (s .eye)) p k)) (range 0 n)) (sym c)
+        ∙ sym (ap (map (seenBy (s .raster))) (oriented-table (vecOf (s .eye)) p) ∙ map-map _ _ (range 0 (length (p .corners))))
+
+    each : (f : EdgeFunction) → List·Memᴰ f (map seen (range 0 count)) → FunctionBounded f
+    each =
+        of-map FunctionBounded seen (range 0 count)
+        (of-range (λ (k : ℕ). FunctionBounded (seen k)) 0 count (λ k b. subst (λ (n : ℕ). FunctionBounded (seen n)) (sym (zero-add k)) (bounds k b)))
+
+    many : length (orientedEdges (vecOf (s .eye)) p) ≡ count
+    many = ap length (oriented-table (vecOf (s .eye)) p) ∙ length-table (fromCorner (vecOf (s .eye)) p) 0 (length (p .corners)) ∙ c

@@ -14,6 +14,8 @@ use Rattle.model.specs.Format.{decode, patchNumbered}
 use Rattle.format.specs.declared.records.Run.{Run}
 use Rattle.format.specs.Layout.{cornerNumber}
 use Rattle.checked.specs.Checked.{CornersAre}
+use Rattle.spans.specs.declared.Span.{Span}
+use Rattle.slopes.specs.declared.Sloped.{Sloped}
 use Rattle.edges.specs.declared.Sight.{Sight}
 use Rattle.edges.specs.Edges.{EyeSign, nextCorner}
 use Rattle.edges.proofs.Places.{edgeNumbered, next-further, next-inside, edge-made}
@@ -22,8 +24,8 @@ use Rattle.edges.proofs.Writes.{Writing}
 
 -- while the edges are gone round: those before corner i are written, and corner i is at hand
 pub record Going
-    (bytes : List ℕ) (l : Layout) (s : Sight) (p : Patch) (first count : ℕ) (before after : List ℤ) (from : Vector) (i : ℕ) : Type 0 where
-  pub writing : Writing s p first count before after i
+    (bytes : List ℕ) (l : Layout) (s : Sight) (p : Patch) (first count : ℕ) (reach : Span) (before after : List ℤ) (r : Sloped) (from : Vector) (i : ℕ) : Type 0 where
+  pub writing : Writing s p count reach before after r i
   pub from-is : i < count → vecOf from ≡ cornerNumber bytes l (first + i)
 
 pub goes-on :

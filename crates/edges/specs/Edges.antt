@@ -1,23 +1,25 @@
 -- A patch's edge functions, and where they stand.
 use mathlib.Core.Path.{_≡_}
-use mathlib.Core.Logic.{_⊎_}
-use mathlib.Core.Bool.{cond}
+use mathlib.Core.Bool.{cond, _&&_}
 use mathlib.Core.List.{List, map}
-use Prim.Native.Nat.{ℕ, suc, _+_, _*_, _≤_, _<_}
+use Prim.Native.Nat.{ℕ, suc, _≤_, _<_}
 use lib.Dec.{ltb}
 use lib.IntN.{ℤ}
 use lib.ListN.{length}
 use Rattle.integer.specs.Magnitude.{Within, signOf}
 use Rattle.model.specs.Vector.{Vec, times}
 use Rattle.model.specs.Patch.{Patch, Edge, edges}
-use Rattle.model.specs.Ray.{eyeProduct, edgeVector}
-use Rattle.model.specs.Format.{Run}
+use Rattle.model.specs.Ray.{eyeProduct, edgeVector, met}
 use Rattle.geometry.specs.declared.Vector.{Vector}
 use Rattle.geometry.specs.Machine.{vecOf, Bounded}
-use Rattle.geometry.specs.Raster.{RasterBounded, seenBy}
+use Rattle.geometry.specs.Raster.{RasterBounded, lineAt}
 use Rattle.format.specs.declared.layout.Layout.{Layout}
 use Rattle.checked.specs.Checked.{Checked}
-use Rattle.tables.specs.Functions.{functionAt, functionsIn, FunctionRun}
+use Rattle.tables.specs.Functions.{functionsIn, FunctionRun}
+use Rattle.spans.specs.declared.Span.{Span}
+use Rattle.spans.specs.Span.{covers, Shaped}
+use Rattle.spans.specs.Row.{allAbove}
+use Rattle.slopes.specs.declared.Sloped.{Sloped}
 use Rattle.edges.specs.declared.Sight.{Sight}
 
 pub record SightBounded (s : Sight) : Type 0 where
@@ -36,12 +38,13 @@ orientedEdges eye p = map (λ (e : Edge). times (signOf (eyeProduct eye p)) (edg
 abbrev pub nextCorner : ℕ → ℕ → ℕ
 nextCorner n k = cond (ltb (suc k) n) (suc k) 0
 
--- what working out the edge functions of patch k asks
-pub record EdgesAsked (bytes : List ℕ) (l : Layout) (k : ℕ) (s : Sight) (table : List ℤ) : Type 0 where
+-- what working out the edge functions of patch k for some rows asks: a table with room for eight
+pub record EdgesAsked (bytes : List ℕ) (l : Layout) (k : ℕ) (s : Sight) (reach : Span) (table : List ℤ) : Type 0 where
   pub scene : Checked bytes l
   pub number : k < l .patches
   pub sight : SightBounded s
-  pub room : 3 * l .corners ≤ length table
+  pub shaped : Shaped 1024 reach
+  pub room : 24 ≤ length table
 
 -- what one edge vector asks: its corners, the eye and the sign
 pub record EdgeAsked (eye v w : Vector) (sign : ℤ) : Type 0 where
@@ -50,13 +53,10 @@ pub record EdgeAsked (eye v w : Vector) (sign : ℤ) : Type 0 where
   pub w-bounded : Bounded 10000 w
   pub sign-within : Within 1 sign
 
--- a patch's edge functions stand in a run of a table
-pub record EdgesAt (s : Sight) (p : Patch) (run : Run) (table : List ℤ) : Type 0 where
-  pub are : functionsIn table (run .first) (run .count) ≡ map (seenBy (s .raster)) (orientedEdges (vecOf (s .eye)) p)
-  pub bounded : FunctionRun table (run .first) (run .count)
-
--- they do now, and the rest of the table is as it was
-pub record EdgesWritten (s : Sight) (p : Patch) (run : Run) (before after : List ℤ) : Type 0 where
-  pub edges : EdgesAt s p run after
-  pub long : length after ≡ length before
-  pub others : (m : ℕ) → (m < run .first) ⊎ (run .first + run .count ≤ m) → functionAt after m ≡ functionAt before m
+-- In the rows of a reach the line just beside a ray meets the patch just where, in the rows that are left, the first functions of the table are above 0.
+pub record EdgesKept (s : Sight) (p : Patch) (reach : Span) (table : List ℤ) (r : Sloped) : Type 0 where
+  pub run : FunctionRun table (r .count)
+  pub shaped : Shaped (reach .end) (r .reach)
+  pub same :
+      (j i : ℕ) →
+      (covers (r .reach) j && allAbove (functionsIn table (r .count)) i j) ≡ (covers reach j && met (vecOf (s .eye)) (lineAt (s .raster) i j) p)

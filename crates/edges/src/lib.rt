@@ -5,15 +5,16 @@ use format::layout::Layout;
 use geometry::Raster;
 use geometry::Vector;
 use geometry::edge_function;
-use tables::store_function;
+use slopes::Sloped;
+use slopes::keep_one;
+use spans::Span;
 ghost use mathlib.Core.Path.{_≡_};
 ghost use Prim.Native.Nat.{_<_};
 ghost use Rattle.model.specs.Vector.{minus, times, cross};
 ghost use Rattle.model.specs.Format.{decode, patchNumbered};
 ghost use Rattle.geometry.specs.Machine.{vecOf, Bounded, VectorIs};
-ghost use Rattle.format.specs.Layout.{patchNumber};
 ghost use Rattle.checked.specs.Checked.{Checked};
-ghost use Rattle.edges.specs.Edges.{EyeSign, nextCorner, EdgesAsked, EdgeAsked, EdgesWritten};
+ghost use Rattle.edges.specs.Edges.{EyeSign, nextCorner, EdgesAsked, EdgeAsked, EdgesKept};
 
 // the rays of a picture, with the eye that they go from
 pub struct Sight {
@@ -61,32 +62,47 @@ fn next_place(count: usize, i: usize) -> usize
     0
 }
 
-// writes the edge functions of patch k where its corners stand in the corner table
-fn write_edges(bytes: &[u8], l: Layout, k: usize, sight: Sight, sign: i64, table: &mut [i64])
-    requires { ⌜ EdgesAsked (now bytes) l k sight (now table) × EyeSign (vecOf (sight .eye)) (patchNumbered (decode (now bytes)) k) sign ⌝ }
-    ensures { λ r. ⌜ EdgesWritten sight (patchNumbered (decode (now (bytes .entry))) k)
-        (patchNumber (now (bytes .entry)) l k .cornerRun) (now (table .entry)) (now (table .exit)) ⌝ }
+// Writes the edge functions of patch k that have a slope to the front of a table; returns how many there are, and the rows of a reach that the level ones leave.
+fn write_edges(
+    bytes: &[u8],
+    l: Layout,
+    k: usize,
+    sight: Sight,
+    sign: i64,
+    reach: Span,
+    table: &mut [i64],
+) -> Sloped
+    requires { ⌜ EdgesAsked (now bytes) l k sight reach (now table) × EyeSign (vecOf (sight .eye)) (patchNumbered (decode (now bytes)) k) sign ⌝ }
+    ensures { λ r. ⌜ EdgesKept sight (patchNumbered (decode (now (bytes .entry))) k) reach (now (table .exit)) r ⌝ }
 {
     let run = corner_run(bytes, l, k);
     let first = run.first;
     let count = run.count;
+    let mut sloped = Sloped { count: 0, reach };
     let mut from = corner(bytes, l, first);
     let mut i = 0;
     while i < count {
         let to = corner(bytes, l, first + next_place(count, i));
         let edge = oriented_edge(sight.eye, from, to, sign);
-        store_function(table, first + i, edge_function(sight.raster, edge));
+        sloped = keep_one(edge_function(sight.raster, edge), sloped, table);
         from = to;
         i += 1;
     }
+    sloped
 }
 
-// The same, with the sign of the eye product. As the corner runs of the patches follow each other, none writes over another's.
-pub fn patch_edges(bytes: &[u8], l: Layout, k: usize, sight: Sight, table: &mut [i64])
-    requires { ⌜ EdgesAsked (now bytes) l k sight (now table) ⌝ }
-    ensures { λ r. ⌜ EdgesWritten sight (patchNumbered (decode (now (bytes .entry))) k)
-        (patchNumber (now (bytes .entry)) l k .cornerRun) (now (table .entry)) (now (table .exit)) ⌝ }
+// The same, with the sign of the eye product. What the table holds after them is left free.
+pub fn patch_edges(
+    bytes: &[u8],
+    l: Layout,
+    k: usize,
+    sight: Sight,
+    reach: Span,
+    table: &mut [i64],
+) -> Sloped
+    requires { ⌜ EdgesAsked (now bytes) l k sight reach (now table) ⌝ }
+    ensures { λ r. ⌜ EdgesKept sight (patchNumbered (decode (now (bytes .entry))) k) reach (now (table .exit)) r ⌝ }
 {
     let sign = eye_sign(bytes, l, k, sight.eye);
-    write_edges(bytes, l, k, sight, sign, table);
+    write_edges(bytes, l, k, sight, sign, reach, table)
 }

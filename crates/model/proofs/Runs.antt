@@ -1,16 +1,13 @@
 -- Runs that follow each other: each begins where the one before it ended, and the last ends where the table ends.
 use mathlib.Core.Path.{_≡_, subst}
-use mathlib.Core.List.{List, [], _∷_, map, List·Memᴰ, List·Memᴰ·not-nil, Memᴰ·append-left, Memᴰ·append-right, Memᴰ·map}
-use Prim.Native.Nat.{ℕ, zero, suc, _+_, _≤_, _<_}
-use native.Mathlib.Nat.{add-zero, add-suc, suc-add}
+use mathlib.Core.List.{List, [], _∷_, List·Memᴰ, List·Memᴰ·not-nil, Memᴰ·append-left, Memᴰ·append-right}
+use Prim.Native.Nat.{ℕ, _+_, _≤_}
 use native.Mathlib.Omega.{arith}
 use lib.Dec.{T, eqb, eqb→eq}
 use lib.ListN.{take, drop, take-append-drop}
-use Rattle.model.specs.Lists.{range}
 use Rattle.model.specs.Format.{Run, inRun}
 use Rattle.model.specs.Questions.{runsFollow}
 use Rattle.model.proofs.Tests.{both, of-cons}
-use Rattle.model.proofs.Ranges.{in-range}
 
 -- what the part of a list that a run names holds is in the list
 pub part-member : {A : Type 0} {a : A} (r : Run) (l : List A) → List·Memᴰ a (inRun r l) → List·Memᴰ a l
@@ -51,18 +48,3 @@ module _ (end : ℕ) where
       of-cons (Between start end)
       (record { begins = omega (arith, u .0); ends = omega (arith, u .0, starts-before (start + r .count) rs (u .1)) })
       (λ q m. record { begins = omega (arith, later q m .begins); ends = later q m .ends })
-
-  -- a run ends before those after it begin
-  pub runs-in-turn :
-      (run : ℕ → Run) (start i n : ℕ) → T (runsFollow start end (map run (range i n))) →
-      (j k : ℕ) → j < k → k < n →
-      runEnd (run (i + j)) ≤ run (i + k) .first
-  runs-in-turn run start i zero t j k b h = absurd (omega arith)
-  runs-in-turn run start i (suc n) t zero k b h =
-      let u = first-follows start (run i) (map run (range (suc i) n)) t in
-      let m : List·Memᴰ (run (i + k)) (map run (range (suc i) n)) = Memᴰ·map run (in-range (suc i) n (i + k) .1 (omega arith, omega arith)) in
-      rw add-zero (omega (arith, u .0, runs-between (start + run i .count) (map run (range (suc i) n)) (u .1) (run (i + k)) m .begins))
-  runs-in-turn run start i (suc n) t (suc j) zero b h = absurd (omega arith)
-  runs-in-turn run start i (suc n) t (suc j) (suc k) b h =
-      rw (add-suc i j, ← suc-add i j, add-suc i k, ← suc-add i k)
-      (runs-in-turn run (start + run i .count) (suc i) n (first-follows start (run i) (map run (range (suc i) n)) t .1) j k (omega arith) (omega arith))

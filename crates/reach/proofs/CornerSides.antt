@@ -19,7 +19,7 @@ use Rattle.geometry.specs.Machine.{vecOf, Bounded, NumberIs}
 use Rattle.spans.specs.declared.Span.{Span}
 use Rattle.spans.specs.Span.{covers, Shaped, numberAt, Linear, Clipped}
 use Rattle.spans.proofs.RowFunctions.{words-linear}
-use Rattle.spans.proofs.Rows.{shaped-all, no-columns}
+use Rattle.spans.proofs.Rows.{shaped-all}
 use Rattle.model.proofs.Ranges.{range-append}
 use Rattle.reach.specs.declared.Planes.{Planes}
 use Rattle.reach.specs.declared.Sides.{Sides}
@@ -28,14 +28,6 @@ use Rattle.reach.specs.Reach.{rowNormal, OnOneSide, SidesBeside, SidesSh
 pub bounded-more : {n m : ℕ} {v : Vector} → n ≤ m → Bounded n v → Bounded m v
 bounded-more h b =
     record { x-within = within-more (b .x-within) h; y-within = within-more (b .y-within) h; z-within = within-more (b .z-within) h }
-
--- an empty span stays as it is
-pub clipped-empty : {height : ℕ} {A B : ℤ} {s : Span} → Shaped height s → s .end ≤ s .first → Clipped A B s s
-clipped-empty {A = A} {B} {s} h k =
-    record {
-      exact = λ i. rw (no-columns s k i);
-      shaped = record { written = h .written; limited = omega arith };
-    }
 
 -- the opposite number
 module _ {A B : ℤ} (h : Linear A B) where

@@ -5,12 +5,12 @@ use geometry::Raster;
 use geometry::Vector;
 use geometry::eye_product;
 use spans::Span;
-use spans::clip;
+use spans::clip_any;
 ghost use Rattle.model.specs.Vector.{cross};
 ghost use Rattle.model.specs.Format.{decode, patchNumbered};
 ghost use Rattle.geometry.specs.Machine.{vecOf, Bounded, VectorIs};
 ghost use Rattle.geometry.specs.Raster.{RasterBounded};
-ghost use Rattle.spans.specs.Span.{Shaped, Limited, Linear, Clipped};
+ghost use Rattle.spans.specs.Span.{Limited, Linear};
 ghost use Rattle.reach.specs.Reach.{PlanesOf, SidesShaped, SidesClipped, SidesBeside, Without, Sighting, Reach};
 
 // The planes that the rows of a raster lie in, with the eye, by their normals: first + j · next in row j.
@@ -46,17 +46,6 @@ pub fn row_planes(raster: Raster) -> Planes
         first: cross_product(raster.across, raster.origin),
         next: cross_product(raster.across, raster.down),
     }
-}
-
-// the span's rows j where slope · j + start is above 0, of any span
-fn clip_any(span: Span, slope: i64, start: i64) -> Span
-    requires { ⌜ Shaped 1024 span × Linear slope start ⌝ }
-    ensures { λ r. ⌜ Clipped slope start span r ⌝ }
-{
-    if span.end <= span.first {
-        return span;
-    }
-    clip(span, slope, start)
 }
 
 // One more corner: it lies ahead of row j's plane where slope · j + start is above 0, and behind it where that is below 0.

@@ -21,8 +21,8 @@ use Rattle.model.specs.Accepted.{AcceptedScene}
 use Rattle.walk.proofs.Seen.{accepted, of-walk, first-met-closest}
 use Rattle.walk.proofs.Numbered.{first-has}
 use Rattle.scanline.specs.Shown.{shownAfter, unlitAfter}
-use Rattle.placing.specs.Framing.{RowsPainted}
-use Rattle.placing.specs.Booked.{BookedUpTo}
+use Rattle.painting.specs.Picture.{RowsPainted}
+use Rattle.conversion.specs.Booked.{BookedUpTo}
 use Rattle.model.proofs.PanelSums.{patch-entries, patch-entry}
 use Rattle.model.proofs.PanelNumbers.{panel-positive}
 use Rattle.scanline.proofs.FirstShown.{unlit-shows-0}

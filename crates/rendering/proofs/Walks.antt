@@ -28,10 +28,9 @@ use Rattle.geometry.specs.declared.Raster.{Raster}
 use Rattle.geometry.specs.Raster.{lineAt}
 use Rattle.edges.specs.declared.Sight.{Sight}
 use Rattle.edges.specs.Edges.{SightBounded}
-use Rattle.scanline.specs.Laying.{walkOf}
-use Rattle.readiness.specs.Ready.{Paintable}
-use Rattle.placing.specs.Framing.{Framed, RowsPainted}
-use Rattle.placing.specs.Booked.{BookedUpTo}
+use Rattle.conversion.specs.Progress.{Paintable}
+use Rattle.painting.specs.Picture.{walkOf, Framed, RowsPainted}
+use Rattle.conversion.specs.Booked.{BookedUpTo}
 use Rattle.camera.specs.Rays.{RaysOf}
 use Rattle.camera.proofs.Rays.{line-is}
 use Rattle.rendering.specs.Painted.{Painted}
@@ -92,12 +91,13 @@ module _ {bytes : List ℕ} {l : Layout} {eye : Vec} {before after : List ℕ} {
         subst (λ (c : ℕ). getD (order eye (numberTree (decode bytes))) k 0 < c) (patch-count laid) m)
 
     -- the scene and its walk can be painted as they are seen
-    pub walk-paintable : {s : Sight} → SightBounded s → s .raster .height ≤ 1024 → Paintable bytes l s (take n after)
-    walk-paintable bounded low =
+    pub walk-paintable : {s : Sight} → SightBounded s → s .raster .width ≤ 256 → s .raster .height ≤ 128 → Paintable bytes l s (take n after)
+    walk-paintable bounded narrow low =
         record {
           checked = walkable h laid;
           proper = h .patches;
           sight = bounded;
+          narrow = narrow;
           low = low;
           numbers = walk-patches;
           few = omega (arith, walk-count, w .all, laid .few-patches);

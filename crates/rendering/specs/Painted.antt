@@ -13,7 +13,7 @@ use Rattle.geometry.specs.declared.Vector.{Vector}
 use Rattle.geometry.specs.Machine.{Bounded}
 use Rattle.camera.specs.declared.Camera.{Camera}
 use Rattle.camera.specs.Machine.{CameraBounded}
-use Rattle.placing.specs.Framing.{Framed}
+use Rattle.painting.specs.Picture.{Framed}
 
 -- a scene that passed the questions, an eye and a camera in range, buffers of the window's size, a table with one entry a patch and one with an entry a panel number
 pub record PaintingAsked (bytes : List ℕ) (eye : Vector) (camera : Camera) (picture unlit lit booked totals : List ℕ) : Type 0 where

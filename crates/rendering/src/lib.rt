@@ -10,7 +10,7 @@ use walk::order::walk;
 ghost use Rattle.camera.specs.Machine.{viewOf};
 ghost use Rattle.rendering.specs.Painted.{PaintingAsked, Rendered};
 
-// The tables have room for the edge functions of all corners and the rows of all patches; the painting fills them as far as it needs them.
+// The walk first, then the painting, patch after patch, and the counts from the patches' cells.
 pub fn paint(
     scene: &[u8],
     eye: Vector,
@@ -32,19 +32,6 @@ pub fn paint(
         eye,
         raster: camera_raster(camera),
     };
-    let mut edges = [0i64; 12288];
-    let mut rows = [0u16; 2048];
-    paint_rows(
-        scene,
-        l,
-        &order[..n],
-        sight,
-        &mut edges,
-        &mut rows,
-        picture,
-        unlit,
-        lit,
-        booked,
-    );
+    paint_rows(scene, l, &order[..n], sight, picture, unlit, lit, booked);
     count_panels(scene, l, booked, cells, counts);
 }

@@ -1,7 +1,5 @@
 -- Laws on the lines of rows.
-mod Digits
 mod Fields
-mod Lists
 mod Rooms
 mod Used
 pub mod Examples

@@ -15,7 +15,6 @@ use Rattle.segments.specs.Columns.{inSpan, allLit}
 use Rattle.laying.specs.Laid.{Lays}
 use Rattle.rows.specs.Span.{Reports}
 use Rattle.rows.specs.declared.Laid.{Laid}
-use Rattle.scanline.specs.declared.Lighting.{Lighting}
 use Rattle.model.proofs.LitMap.{map-congr}
 use Rattle.segments.proofs.Rows.{row-congr}
 use Rattle.segments.proofs.Tallies.{tally-congr, tally-clear}
@@ -47,21 +46,20 @@ under false f h = refl
 
 -- Sets of columns leave the same where they agree on the unlit ones: the others are lit already.
 pub columns-congr :
-    {columns columns′ : ℕ → Bool} {panel : ℕ} {row words cells row′ words′ cells′ : List ℕ} {r : Lighting} →
+    {columns columns′ : ℕ → Bool} {panel : ℕ} {row words cells row′ words′ cells′ : List ℕ} {lit : ℕ} →
     ((unlit : ℕ → Bool) → row ≡ rowOf (length cells) unlit → (i : ℕ) → i < length cells → unlit i ≡ true → columns i ≡ columns′ i) →
-    ColumnsLaid columns panel row words cells row′ words′ cells′ r →
-    ColumnsLaid columns′ panel row words cells row′ words′ cells′ r
-columns-congr {columns} {columns′} {panel} {row} {words} {cells} {row′} {words′} {cells′} {r} same h =
+    ColumnsLaid columns panel row words cells row′ words′ cells′ lit →
+    ColumnsLaid columns′ panel row words cells row′ words′ cells′ lit
+columns-congr {columns} {columns′} {panel} {row} {words} {cells} {row′} {words′} {cells′} {lit} same h =
     record { laid = λ unlit e f. go unlit (same unlit e) (h .laid unlit e f) }
   where
     go : (unlit : ℕ → Bool) → ((i : ℕ) → i < length cells → unlit i ≡ true → columns i ≡ columns′ i)
-        → ColumnsPainted columns panel unlit cells row′ words′ cells′ (r .full) (r .lit) → ColumnsPainted columns′ panel unlit cells row′ words′ cells′ (r .full) (r .lit)
+        → ColumnsPainted columns panel unlit cells row′ words′ cells′ lit → ColumnsPainted columns′ panel unlit cells row′ words′ cells′ lit
     go unlit agree p =
         record {
           row-is = p .row-is ∙ row-congr (length cells) _ _ (λ i l. under (unlit i) not (agree i l));
           words-are = p .words-are ∙ map-congr (length cells) _ _ (λ i l. under (unlit i) not (agree i l));
           cells-are = p .cells-are ∙ painted-congr _ _ panel cells (λ i l. under (unlit i) (λ (b : Bool). b) (agree i l));
-          full-says = λ t i l. sym (under (unlit i) not (agree i l)) ∙ p .full-says t i l;
           lit-is = p .lit-is ∙ tally-congr _ _ (length cells) (λ i l. under (unlit i) (λ (b : Bool). b) (agree i l));
         }
 
@@ -86,7 +84,7 @@ pub span-laid :
     ((unlit : ℕ → Bool) → row ≡ rowOf (length cells) unlit → Lays unlit (s .first) (s .end - 1) panel cells row′ cells′) →
     ((unlit : ℕ → Bool) → row ≡ rowOf (length cells) unlit → Reports unlit (s .first) (s .end - 1) (length cells) (r .full) (r .lit) (r .looked)) →
     ((unlit : ℕ → Bool) → row ≡ rowOf (length cells) unlit → words′ ≡ mapRow (length cells) (afterSpan unlit (s .first) (s .end - 1))) →
-    ColumnsLaid (covers s) panel row words cells row′ words′ cells′ (record { full = r .full; lit = r .lit })
+    ColumnsLaid (covers s) panel row words cells row′ words′ cells′ (r .lit)
 span-laid {s} {panel} {row} {words} {cells} {row′} {words′} {cells′} {r} h lays reports lights =
     columns-congr {columns = inSpan (s .first) (s .end - 1)} (λ unlit e i l u. up-to-end s i h)
     (record {
@@ -95,23 +93,23 @@ span-laid {s} {panel} {row} {words} {cells} {row′} {words′} {cells′} {r} h
             row-is = lays unlit e .row-is;
             words-are = lights unlit e;
             cells-are = lays unlit e .cells-are;
-            full-says = λ t. each-lit (length cells) (afterSpan unlit (s .first) (s .end - 1)) (sym (reports unlit e .full-is) ∙ t);
             lit-is = reports unlit e .lit-is;
           };
     })
 
-pub span-missed :
-    {s : Span} {panel : ℕ} {row words cells : List ℕ} → s .end ≤ s .first →
-    ColumnsLaid (covers s) panel row words cells row words cells (record { full = false; lit = 0 })
-span-missed {s} {panel} {row} {words} {cells} h =
-    columns-congr {columns = λ (i : ℕ). false} (λ unlit e i l u. sym (outside s i h))
-    (record {
+-- no column at all
+pub none-laid : {panel : ℕ} {row words cells : List ℕ} → ColumnsLaid (λ (i : ℕ). false) panel row words cells row words cells 0
+none-laid {panel} {row} {words} {cells} =
+    record {
       laid = λ unlit e f.
           record {
             row-is = e ∙ row-congr (length cells) _ _ (λ i l. sym (and-true (unlit i)));
             words-are = f ∙ map-congr (length cells) _ _ (λ i l. sym (and-true (unlit i)));
             cells-are = sym (painted-none _ panel cells (λ i l. and-false (unlit i)));
-            full-says = λ t. absurd (false≢true t);
             lit-is = sym (tally-clear _ (length cells) (λ i l. and-false (unlit i)));
           };
-    })
+    }
+
+pub span-missed :
+    {s : Span} {panel : ℕ} {row words cells : List ℕ} → s .end ≤ s .first → ColumnsLaid (covers s) panel row words cells row words cells 0
+span-missed {s} h = columns-congr (λ unlit e i l u. sym (outside s i h)) none-laid

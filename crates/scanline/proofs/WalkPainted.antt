@@ -1,11 +1,13 @@
 -- A row painted patch after patch: after each patch of the walk it is what the patches so far leave.
 use mathlib.Core.Path.{_≡_, sym, ap, subst, _∙_}
-use mathlib.Core.Bool.{Bool, true, false, cond, _&&_}
+use mathlib.Core.Logic.{_⊎_, inl, inr}
+use mathlib.Core.Bool.{true, false, cond, _&&_}
 use mathlib.Core.List.{List, [], _∷_, _++_, map, map-append}
 use Prim.Native.Nat.{ℕ, _+_, _≤_, _<_}
 use native.Mathlib.Numerals.{add-one}
 use native.Mathlib.Omega.{arith}
-use lib.ListN.{length, getD, take, drop, replicate, take-append-drop}
+use lib.Dec.{eqb}
+use lib.ListN.{length, getD, take, drop, replicate, length-replicate, take-append-drop}
 use lib.Seq.{ext-getD, take-suc, take-all}
 use Rattle.model.specs.Vector.{Vec}
 use Rattle.model.specs.Patch.{Patch}
@@ -13,14 +15,14 @@ use Rattle.model.specs.Ray.{met}
 use Rattle.model.specs.Row.{rowOf}
 use Rattle.model.specs.Map.{mapRow}
 use Rattle.model.proofs.Tables.{length-table, table-at, same-table}
-use Rattle.rows.specs.Span.{UnderWork}
-use Rattle.scanline.specs.declared.Lighting.{Lighting}
 use Rattle.model.proofs.LitMap.{map-congr}
 use Rattle.segments.proofs.Rows.{row-congr}
+use Rattle.segments.proofs.Full.{first-length}
 use Rattle.segments.proofs.Painting.{painted-length, painted-at}
-use Rattle.scanline.specs.Shown.{shownAfter, unlitAfter, RowPainted, newlyLit}
-use Rattle.scanline.specs.Laying.{ColumnsPainted, PatchLaid}
+use Rattle.scanline.specs.Shown.{shownAfter, unlitAfter, RowPainted, PaintedUpTo}
+use Rattle.scanline.specs.Laying.{ColumnsPainted}
 use Rattle.cells.proofs.Clearing.{zero-table}
+use Rattle.scanline.proofs.Columns.{each-lit}
 use Rattle.scanline.proofs.FirstShown.{unlit-first, shown-first, unlit-next, shown-next, unlit-stays, shown-stays}
 
 module _ (eye : Vec) (ray : ℕ → Vec) (width : ℕ) where
@@ -35,9 +37,9 @@ module _ (eye : Vec) (ray : ℕ → Vec) (width : ℕ) where
         words-are = g ∙ map-congr width _ _ (λ i h. sym (unlit-first eye ray i));
       }
 
-  module _ (done : List Patch) (p : Patch) {cells row words cells′ row′ words′ : List ℕ} {full : Bool} {lit : ℕ} where
+  module _ (done : List Patch) (p : Patch) {cells row words cells′ row′ words′ : List ℕ} {lit : ℕ} where
     one-more :
-        ColumnsPainted (λ (i : ℕ). met eye (ray i) p) (p .panel) (unlitAfter eye ray done) cells row′ words′ cells′ full lit →
+        ColumnsPainted (λ (i : ℕ). met eye (ray i) p) (p .panel) (unlitAfter eye ray done) cells row′ words′ cells′ lit →
         RowPainted eye ray done width cells row words → length cells ≡ width →
         RowPainted eye ray (done ++ p ∷ []) width cells′ row′ words′
     one-more next so-far e =
@@ -79,77 +81,53 @@ module _ (eye : Vec) (ray : ℕ → Vec) (width : ℕ) where
             ∙ map-congr width _ _ (λ i h. full i h ∙ sym (unlit-stays eye ray done rest i (full i h)));
       }
 
--- the first k patches of the walk are painted
-pub record PaintedUpTo
-    (eye : Vec) (ray : ℕ → Vec) (patch : ℕ → Patch) (order : List ℕ) (width : ℕ) (cells row words : List ℕ) (k : ℕ) : Type 0 where
-  pub bound : k ≤ length order
-  pub long : length cells ≡ width
-  pub so-far : RowPainted eye ray (map patch (take k order)) width cells row words
-
 pub walk-starts :
     {eye : Vec} {ray : ℕ → Vec} {patch : ℕ → Patch} {order cells row words : List ℕ} {width : ℕ} →
-    length cells ≡ width → cells ≡ replicate width 0 → row ≡ rowOf width (λ (i : ℕ). true) → words ≡ mapRow width (λ (i : ℕ). true) →
-    PaintedUpTo eye ray patch order (length cells) cells row words 0
-walk-starts {eye} {ray} {patch} {order} {cells} {row} {words} {width} e f g h =
-    subst (λ (n : ℕ). PaintedUpTo eye ray patch order n cells row words 0) (sym e)
-    (record { bound = omega arith; long = e; so-far = none-painted eye ray width f g h })
-
-pub as-long :
-    {eye : Vec} {ray : ℕ → Vec} {walk : List Patch} {width width′ : ℕ} {cells row words : List ℕ} →
-    width ≡ width′ → RowPainted eye ray walk width cells row words → RowPainted eye ray walk width′ cells row words
-as-long {eye} {ray} {walk} {cells = cells} {row} {words} e h = subst (λ (n : ℕ). RowPainted eye ray walk n cells row words) e h
+    cells ≡ replicate width 0 → row ≡ rowOf width (λ (i : ℕ). true) → words ≡ mapRow width (λ (i : ℕ). true) →
+    PaintedUpTo eye ray patch order width cells row words 0
+walk-starts {eye} {ray} {width = width} e f g = record { bound = omega arith; long = ap length e ∙ length-replicate width 0; so-far = none-painted eye ray width e f g }
 
 module _ {eye : Vec} {ray : ℕ → Vec} {patch : ℕ → Patch} {order : List ℕ} {width : ℕ} where
   module _ {cells row words : List ℕ} {k : ℕ} (inv : PaintedUpTo eye ray patch order width cells row words k) where
-    -- the row under work and its words are those of a set of columns
-    pub row-of-set : width ≤ 256 → UnderWork (length cells) row words
-    row-of-set h =
-        record {
-          listed = record {
-            fits = omega (arith, inv .long);
-            unlit = unlitAfter eye ray (map patch (take k order));
-            row-is = rw (inv .long) (inv .so-far .row-is);
-          };
-          words-are = rw (inv .long) (inv .so-far .words-are);
-        }
+    -- where its first segment has length 0, no column is unlit
+    pub row-full : width ≤ 256 → getD row 1 0 ≡ 0 → (i : ℕ) → i < width → unlitAfter eye ray (map patch (take k order)) i ≡ false
+    row-full narrow z =
+        each-lit width (unlitAfter eye ray (map patch (take k order)))
+        (sym (first-length width narrow (unlitAfter eye ray (map patch (take k order)))) ∙ ap (λ (l : List ℕ). eqb (getD l 1 0) 0) (sym (inv .so-far .row-is)) ∙ ap (λ (n : ℕ). eqb n 0) z)
 
-    pub walk-ends : length order ≤ k → RowPainted eye ray (map patch order) width cells row words
-    walk-ends h = rw (take-all k order h) at (inv .so-far)
+    -- a row painted with the whole walk, or a full one
+    pub walk-ends :
+        (length order ≤ k) ⊎ ((i : ℕ) → i < width → unlitAfter eye ray (map patch (take k order)) i ≡ false) →
+        RowPainted eye ray (map patch order) width cells row words
+    walk-ends (inl h) = rw (take-all k order h) at (inv .so-far)
+    walk-ends (inr full) =
+        subst (λ (ps : List Patch). RowPainted eye ray ps width cells row words)
+        (sym (map-append patch (take k order) (drop k order)) ∙ ap (map patch) (take-append-drop k order))
+        (stays eye ray width (map patch (take k order)) (map patch (drop k order)) full (inv .so-far))
 
-    module _
-        {cells′ row′ words′ : List ℕ} {r : Lighting} (h : k < length order)
-        (laid : PatchLaid eye ray (patch (getD order k 0)) row words cells row′ words′ cells′ r)
-      where
-        taken : map patch (take k order) ++ patch (getD order k 0) ∷ [] ≡ map patch (take (k + 1) order)
-        taken =
-            rw (add-one k, take-suc order k 0 h) (sym (map-append patch (take k order) (getD order k 0 ∷ [])))
+    module _ (h : k < length order) where
+      taken : map patch (take k order) ++ patch (getD order k 0) ∷ [] ≡ map patch (take (k + 1) order)
+      taken = rw (add-one k, take-suc order k 0 h) (sym (map-append patch (take k order) (getD order k 0 ∷ [])))
 
-        next : ColumnsPainted (λ (i : ℕ). met eye (ray i) (patch (getD order k 0))) (patch (getD order k 0) .panel)
-            (unlitAfter eye ray (map patch (take k order))) cells row′ words′ cells′ (r .full) (r .lit)
-        next = laid .laid (unlitAfter eye ray (map patch (take k order))) (rw (inv .long) (inv .so-far .row-is)) (rw (inv .long) (inv .so-far .words-are))
+      -- the next patch is painted over the columns that are unlit
+      pub walk-goes :
+          {cells′ row′ words′ : List ℕ} {lit : ℕ} →
+          ColumnsPainted (λ (i : ℕ). met eye (ray i) (patch (getD order k 0))) (patch (getD order k 0) .panel)
+          (unlitAfter eye ray (map patch (take k order))) cells row′ words′ cells′ lit →
+          PaintedUpTo eye ray patch order width cells′ row′ words′ (k + 1)
+      walk-goes next =
+          record {
+            bound = omega arith;
+            long = ap length (next .cells-are) ∙ painted-length _ (patch (getD order k 0) .panel) cells ∙ inv .long;
+            so-far = rw taken at (one-more eye ray width (map patch (take k order)) (patch (getD order k 0)) next (inv .so-far) (inv .long));
+          }
 
-        pub walk-goes : PaintedUpTo eye ray patch order width cells′ row′ words′ (k + 1)
-        walk-goes =
-            record {
-              bound = omega arith;
-              long = ap length (next .cells-are) ∙ painted-length _ (patch (getD order k 0) .panel) cells ∙ inv .long;
-              so-far = rw taken at (one-more eye ray width (map patch (take k order)) (patch (getD order k 0)) next (inv .so-far) (inv .long));
-            }
-
-        -- the next patch newly lights the columns that it meets and none before it does
-        pub walk-lit : r .lit ≡ newlyLit eye ray width (map patch (take k order)) (patch (getD order k 0))
-        unfolding newlyLit
-        walk-lit = next .lit-is ∙ rw (inv .long)
-
-        -- once the row is full each of its columns is lit by the patches so far
-        pub full-lit : r .full ≡ true → (i : ℕ) → i < width → unlitAfter eye ray (map patch (take (k + 1) order)) i ≡ false
-        full-lit t i l =
-            ap (λ (ps : List Patch). unlitAfter eye ray ps i) (sym taken)
-            ∙ unlit-next eye ray (map patch (take k order)) (patch (getD order k 0)) i
-            ∙ next .full-says t i (omega (arith, inv .long))
-
-        pub walk-full : r .full ≡ true → RowPainted eye ray (map patch order) width cells′ row′ words′
-        walk-full t =
-            subst (λ (ps : List Patch). RowPainted eye ray ps width cells′ row′ words′)
-            (sym (map-append patch (take (k + 1) order) (drop (k + 1) order)) ∙ ap (map patch) (take-append-drop (k + 1) order))
-            (stays eye ray width (map patch (take (k + 1) order)) (map patch (drop (k + 1) order)) (full-lit t) (walk-goes .so-far))
+-- a full row stays full
+pub full-more :
+    (eye : Vec) (ray : ℕ → Vec) (patch : ℕ → Patch) (order : List ℕ) {width k : ℕ} → k < length order →
+    ((i : ℕ) → i < width → unlitAfter eye ray (map patch (take k order)) i ≡ false) →
+    (i : ℕ) → i < width → unlitAfter eye ray (map patch (take (k + 1) order)) i ≡ false
+full-more eye ray patch order {k = k} h full i l =
+    ap (λ (ps : List Patch). unlitAfter eye ray ps i)
+    (rw (add-one k, take-suc order k 0 h) (map-append patch (take k order) (getD order k 0 ∷ [])))
+    ∙ unlit-stays eye ray (map patch (take k order)) (patch (getD order k 0) ∷ []) i (full i l)

@@ -1,9 +1,9 @@
 -- What a row shows after a walk is painted in it.
 use mathlib.Core.Path.{_≡_}
-use mathlib.Core.Bool.{Bool, false, not, _&&_}
+use mathlib.Core.Bool.{Bool, not, _&&_}
 use mathlib.Core.List.{List, map}
-use Prim.Native.Nat.{ℕ, _≤_, _<_}
-use lib.ListN.{length, getD, take}
+use Prim.Native.Nat.{ℕ, _≤_}
+use lib.ListN.{length, take}
 use Rattle.model.specs.Lists.{any, range, tally}
 use Rattle.model.specs.Vector.{Vec}
 use Rattle.model.specs.Patch.{Patch}
@@ -29,11 +29,9 @@ pub record RowPainted (eye : Vec) (ray : ℕ → Vec) (walk : List Patch) (width
 unfoldable pub newlyLit : Vec → (ℕ → Vec) → ℕ → List Patch → Patch → ℕ
 newlyLit eye ray width painted p = tally (λ (i : ℕ). unlitAfter eye ray painted i && met eye (ray i) p) (range 0 width)
 
--- The first `laid` patches of a walk were laid, and each of the first `laid` places of `lits` holds what the patch there newly lit. Where some were not laid, the
--- row is full without them: they light nothing. What `lits` holds from place `laid` on is left free.
-pub record RowLit
-    (eye : Vec) (ray : ℕ → Vec) (patch : ℕ → Patch) (order : List ℕ) (width : ℕ) (lits : List ℕ) (laid : ℕ) : Type 0 where
-  pub most : laid ≤ length order
-  pub each :
-      (k : ℕ) → k < laid → getD lits k 0 ≡ newlyLit eye ray width (map patch (take k order)) (patch (getD order k 0))
-  pub full : laid < length order → (i : ℕ) → i < width → unlitAfter eye ray (map patch (take laid order)) i ≡ false
+-- the first k patches of a walk are painted in the row
+pub record PaintedUpTo
+    (eye : Vec) (ray : ℕ → Vec) (patch : ℕ → Patch) (order : List ℕ) (width : ℕ) (cells row words : List ℕ) (k : ℕ) : Type 0 where
+  pub bound : k ≤ length order
+  pub long : length cells ≡ width
+  pub so-far : RowPainted eye ray (map patch (take k order)) width cells row words

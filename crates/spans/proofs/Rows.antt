@@ -4,6 +4,7 @@ use mathlib.Core.Logic.{inl, inr, ⊎-elim}
 use mathlib.Core.Bool.{false, _&&_, and-assoc, and-true, and-false}
 use mathlib.Core.List.{List, [], _∷_}
 use Prim.Native.Nat.{ℕ, suc, _+_, _≤_, _<_}
+use native.Mathlib.Nat.{zero-add}
 use native.Mathlib.Numerals.{add-one}
 use native.Mathlib.Omega.{arith}
 use borrow.Author.Tests.{lt-leb, le-ltb}
@@ -15,7 +16,7 @@ use Rattle.model.specs.Lists.{range}
 use Rattle.model.proofs.Ranges.{range-at, range-length}
 use Rattle.geometry.specs.declared.EdgeFunction.{EdgeFunction}
 use Rattle.spans.specs.declared.Span.{Span}
-use Rattle.spans.specs.Span.{covers, Shaped, numberAt, ClippedBut}
+use Rattle.spans.specs.Span.{covers, Shaped, numberAt, Clipped, ClippedBut}
 use Rattle.tables.specs.Functions.{functionAt, functionsIn}
 use Rattle.spans.specs.Row.{allAbove, RowSpan}
 use Rattle.model.proofs.Tests.{lt-or-ge}
@@ -36,35 +37,35 @@ no-columns s h i =
     (lt-or-ge i (s .first))
 
 -- after k functions of a table: the columns wanted are those of the span where the others are above 0, but for lit ones
-pub record Narrowed (table : List ℤ) (first count j : ℕ) (within lit : Span) (k : ℕ) (s : Span) : Type 0 where
+pub record Narrowed (table : List ℤ) (count j : ℕ) (within lit : Span) (k : ℕ) (s : Span) : Type 0 where
   pub most : k ≤ count
   pub limited : s .end ≤ within .end
   pub left :
       (i : ℕ) → covers lit i ≡ false →
-      (covers within i && allAbove (functionsIn table first count) i j)
-      ≡ (covers s i && allAbove (drop k (functionsIn table first count)) i j)
+      (covers within i && allAbove (functionsIn table count) i j)
+      ≡ (covers s i && allAbove (drop k (functionsIn table count)) i j)
 
-module _ {table : List ℤ} {first count j : ℕ} {within lit : Span} where
-  pub narrowed-none : Narrowed table first count j within lit 0 within
+module _ {table : List ℤ} {count j : ℕ} {within lit : Span} where
+  pub narrowed-none : Narrowed table count j within lit 0 within
   narrowed-none = record { most = omega arith; limited = omega arith; left = λ i f. refl }
 
-  module _ {k : ℕ} {s : Span} (n : Narrowed table first count j within lit k s) where
+  module _ {k : ℕ} {s : Span} (n : Narrowed table count j within lit k s) where
     abbrev fs : List EdgeFunction
-    fs = functionsIn table first count
+    fs = functionsIn table count
 
     many : length fs ≡ count
-    many = length-map (range first count) (functionAt table) ∙ range-length first count
+    many = length-map (range 0 count) (functionAt table) ∙ range-length 0 count
 
-    next : k < count → drop k fs ≡ functionAt table (first + k) ∷ drop (k + 1) fs
+    next : k < count → drop k fs ≡ functionAt table k ∷ drop (k + 1) fs
     next h =
         drop-cons fs k (functionAt table 0) (omega (arith, many))
-        ∙ ap (_∷ drop (suc k) fs) (range-at (functionAt table) first count k (functionAt table 0) h)
-        ∙ ap (λ (m : ℕ). functionAt table (first + k) ∷ drop m fs) (sym (add-one k))
+        ∙ ap (_∷ drop (suc k) fs) (range-at (functionAt table) 0 count k (functionAt table 0) h ∙ ap (functionAt table) (zero-add k))
+        ∙ ap (λ (m : ℕ). functionAt table k ∷ drop m fs) (sym (add-one k))
 
     pub narrowed-more :
-        {f : EdgeFunction} {r : Span} → k < count → f ≡ functionAt table (first + k) →
+        {f : EdgeFunction} {r : Span} → k < count → f ≡ functionAt table k →
         ClippedBut lit (f .slope) (numberAt (f .drop) (f .start) j) s r →
-        Narrowed table first count j within lit (k + 1) r
+        Narrowed table count j within lit (k + 1) r
     unfolding allAbove
     narrowed-more {f} {r} h e c =
         record {
@@ -87,3 +88,11 @@ module _ {table : List ℤ} {first count j : ℕ} {within lit : Span} where
           exact = λ i b. sym (n .left i b ∙ ap (λ (gs : List EdgeFunction). covers s i && allAbove gs i j) e ∙ and-true (covers s i));
           limited = n .limited;
         }
+
+-- an empty span stays as it is
+pub clipped-empty : {height : ℕ} {A B : ℤ} {s : Span} → Shaped height s → s .end ≤ s .first → Clipped A B s s
+clipped-empty {A = A} {B} {s} h k =
+    record {
+      exact = λ i. rw (no-columns s k i);
+      shaped = record { written = h .written; limited = omega arith };
+    }

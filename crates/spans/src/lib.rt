@@ -7,7 +7,7 @@ ghost use Prim.Native.Nat.{_+_, _/_, _≤_};
 ghost use lib.IntN.{pos, natAbs};
 ghost use lib.Signed.{_<ℤ_, _≤ℤ_};
 ghost use Rattle.geometry.specs.Raster.{FunctionBounded};
-ghost use Rattle.spans.specs.Span.{Occupied, numberAt, Linear, Clipped, BesideLit, ClippedBut};
+ghost use Rattle.spans.specs.Span.{Occupied, Shaped, numberAt, Linear, Clipped, BesideLit, ClippedBut};
 ghost use Rattle.tables.specs.Functions.{functionsIn, FunctionRun};
 ghost use Rattle.spans.specs.Row.{RowSpan};
 
@@ -35,7 +35,7 @@ fn past_quotient(n: i64, d: i64) -> usize
 
 // The span's columns i where slope · i + start is above 0. At the end where the number is least it says whether all are kept; only where it changes its sign
 // on the span does that cost a division.
-pub fn clip(span: Span, slope: i64, start: i64) -> Span
+fn clip(span: Span, slope: i64, start: i64) -> Span
     requires { ⌜ Occupied 1024 span × Linear slope start ⌝ }
     ensures { λ r. ⌜ Clipped slope start span r ⌝ }
 {
@@ -63,6 +63,17 @@ pub fn clip(span: Span, slope: i64, start: i64) -> Span
         };
     }
     Span { first: 0, end: 0 }
+}
+
+// The same of any span: an empty one stays as it is.
+pub fn clip_any(span: Span, slope: i64, start: i64) -> Span
+    requires { ⌜ Shaped 1024 span × Linear slope start ⌝ }
+    ensures { λ r. ⌜ Clipped slope start span r ⌝ }
+{
+    if span.end <= span.first {
+        return span;
+    }
+    clip(span, slope, start)
 }
 
 // At the end where the number is least it is above 0, so it is on the whole span.
@@ -125,18 +136,11 @@ fn clip_function(span: Span, lit: Span, f: EdgeFunction, j: usize) -> Span
     clip(left, f.slope, start)
 }
 
-// The columns of the span `within` where each of the functions `first` up to before `first + count` of a table is above 0 in row j. One product for each function gives
-// its number at column 0. Of the columns of the span `lit` it may have any.
-pub fn row_span(
-    table: &[i64],
-    first: usize,
-    count: usize,
-    j: usize,
-    within: Span,
-    lit: Span,
-) -> Span
-    requires { ⌜ FunctionRun (now table) first count × (j ≤ 1024) × (within .end ≤ 1024) ⌝ }
-    ensures { λ r. ⌜ RowSpan (functionsIn (now (table .entry)) first count) j within lit r ⌝ }
+// The columns of the span `within` where each of the first `count` functions of a table is above 0 in row j. One product for each function gives its number at
+// column 0. Of the columns of the span `lit` it may have any.
+pub fn row_span(table: &[i64], count: usize, j: usize, within: Span, lit: Span) -> Span
+    requires { ⌜ FunctionRun (now table) count × (j ≤ 1024) × (within .end ≤ 1024) ⌝ }
+    ensures { λ r. ⌜ RowSpan (functionsIn (now (table .entry)) count) j within lit r ⌝ }
 {
     let mut span = within;
     let mut k = 0;
@@ -144,7 +148,7 @@ pub fn row_span(
         if span.end <= span.first {
             return span;
         }
-        span = clip_function(span, lit, function_at(table, first + k), j);
+        span = clip_function(span, lit, function_at(table, k), j);
         k += 1;
     }
     span

@@ -16,12 +16,12 @@ functionAt table k =
       drop = getD table (3 * k + 2) (pos 0);
     }
 
--- `count` entries from `first` on
-abbrev pub functionsIn : List ℤ → ℕ → ℕ → List EdgeFunction
-functionsIn table first count = map (functionAt table) (range first count)
+-- the first `count` entries
+abbrev pub functionsIn : List ℤ → ℕ → List EdgeFunction
+functionsIn table count = map (functionAt table) (range 0 count)
 
 -- they are there, and within their bounds
-pub record FunctionRun (table : List ℤ) (first count : ℕ) : Type 0 where
-  pub few : first + count ≤ 4096
-  pub inside : 3 * (first + count) ≤ length table
-  pub each : (i : ℕ) → i < count → FunctionBounded (functionAt table (first + i))
+pub record FunctionRun (table : List ℤ) (count : ℕ) : Type 0 where
+  pub few : count ≤ 4096
+  pub inside : 3 * count ≤ length table
+  pub each : (i : ℕ) → i < count → FunctionBounded (functionAt table i)

@@ -20,7 +20,7 @@ use Rattle.model.proofs.Computing.{everything}
 use Rattle.model.proofs.Encode.{sceneBytes}
 use Rattle.model.proofs.Scenes.{square, upright, none, nodeLine, patchLine, sceneS, sceneT, sceneTless5, sceneTless7, sceneTwice, noNodes, usual}
 use Rattle.coverage.specs.Coverage.{SameCover}
-use Rattle.coverage.proofs.Examples.{halves, halves-cover}
+use Rattle.worked.proofs.Examples.{halves, halves-cover}
 use Rattle.contract.specs.Contract.{cameraBy, lentOf, callOn, results, leftBy, Surveyed}
 use Rattle.model.specs.Format.{patchesIn}
 use Rattle.demands.specs.Demands.{ChosenTakenAway, SameSurvey}

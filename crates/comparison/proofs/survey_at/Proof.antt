@@ -22,9 +22,16 @@ handed c =
     let g = c .good .1 .1 .0 in
     same-camera refl (search (needs, g)) (search (needs, g)) (search (needs, g)) (search (needs, g)) (search (needs, g)) (search (needs, g)) (search (needs, g)) (search (needs, g)) (search (needs, g))
 
+-- from where a call has given back what it was lent to right after it
+abbrev inUnits : tie.After-slice-known10 → tie.After-ring-survey
+inUnits c = c .before .before .before .before .before .before .before .before .before .before
+
+abbrev inMetres : tie.After-slice-known15 → tie.After-ring-survey-metres
+inMetres c = c .before .before .before .before .before .before .before .before .before .before
+
 returns : tie.Need-returns
 returns c =
-    let call = c .before .before .before .before .before .before .before .before .before .before in
+    let call = inUnits c in
     let told = call .before .before .before .before .before .before .before .before .before .before .before .before .before .before .before .before in
     let station = told .before in
     let k = told .known-told .given in
@@ -35,7 +42,7 @@ returns c =
 
 returns-2 : tie.Need-returns-2
 returns-2 c =
-    let call = c .before .before .before .before .before .before .before .before .before .before in
+    let call = inMetres c in
     let station = call .before .before .before .before .before .before .before .before .before .before .before .before .before .before .before .before .before in
     closest-surveyed
     (surveyed-from (sym (ap stationOf (station .station2 .given .1))) (handed (station .before .before .before .before .before .before .before .before))
@@ -46,18 +53,18 @@ survey-at-spec =
     tie.close
     (tie.spec
     (λ c. search needs)
-    (λ c κs. search needs)
+    (λ c κs. tt)
     (λ c. search needs)
-    (λ c κs. search needs)
-    (λ c. search needs)
-    (λ c. search needs)
-    (λ c. search needs)
-    (λ c. search needs)
-    (λ c. search needs)
+    (λ c κs. tt)
+    (λ c. inUnits c .ring-survey .kept .1 .1 .1 .1 .1 .1 .1 .1 .1 .1 .1 .1 .1 .1 .1 .1 .0)
+    (λ c. inUnits c .ring-survey .kept .1 .1 .1 .1 .1 .1 .1 .1 .1 .1 .1 .1 .1 .1 .1 .1 .1 .0)
+    (λ c. inUnits c .ring-survey .kept .1 .1 .1 .1 .1 .1 .1 .1 .1 .1 .1 .1 .1 .1 .1 .1 .1 .1 .0)
+    (λ c. inUnits c .ring-survey .kept .1 .1 .1 .1 .1 .1 .1 .1 .1 .1 .1 .1 .1 .1 .1 .1 .1 .1 .1 .0)
+    (λ c. inUnits c .ring-survey .kept .1 .1 .1 .1 .1 .1 .1 .1 .1 .1 .1 .1 .1 .1 .1 .1 .1 .1 .1 .1 .0)
     returns
-    (λ c. search needs)
-    (λ c. search needs)
-    (λ c. search needs)
-    (λ c. search needs)
-    (λ c. search needs)
+    (λ c. inMetres c .ring-survey-metres .kept .1 .1 .1 .1 .1 .1 .1 .1 .1 .1 .1 .1 .1 .1 .1 .1 .0)
+    (λ c. inMetres c .ring-survey-metres .kept .1 .1 .1 .1 .1 .1 .1 .1 .1 .1 .1 .1 .1 .1 .1 .1 .1 .0)
+    (λ c. inMetres c .ring-survey-metres .kept .1 .1 .1 .1 .1 .1 .1 .1 .1 .1 .1 .1 .1 .1 .1 .1 .1 .1 .0)
+    (λ c. inMetres c .ring-survey-metres .kept .1 .1 .1 .1 .1 .1 .1 .1 .1 .1 .1 .1 .1 .1 .1 .1 .1 .1 .1 .0)
+    (λ c. inMetres c .ring-survey-metres .kept .1 .1 .1 .1 .1 .1 .1 .1 .1 .1 .1 .1 .1 .1 .1 .1 .1 .1 .1 .1 .0)
     returns-2)

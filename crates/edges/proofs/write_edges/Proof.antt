@@ -5,22 +5,38 @@ use Prim.Native.Nat.{_-_}
 use native.Mathlib.Nat.{add-zero}
 use native.Mathlib.Omega.{arith}
 use borrow.Author.Needs.{needs}
+use denote.Ref.{now}
 use Rattle.model.specs.Format.{decode, patchNumbered}
 use Rattle.geometry.specs.Machine.{vecOf}
+use Rattle.geometry.specs.Raster.{FunctionIs}
 use Rattle.format.specs.Layout.{cornerNumber}
 use Rattle.edges.proofs.Places.{sign-small, sign-passed, next-inside}
-use Rattle.edges.proofs.Runs.{bounded-corner, run-count, run-written}
-use Rattle.edges.proofs.Writes.{function-by, writing-none, writing-more, writing-all}
+use Rattle.edges.proofs.Runs.{bounded-corner, run-count}
+use Rattle.slopes.proofs.Keeping.{KeepingAsked}
+use Rattle.edges.proofs.Writes.{function-by, seen, writing-none, edge-asked, writing-more, writing-all}
 use Rattle.edges.proofs.Rounds.{Going, goes-on, edge-of}
 use Rattle.edges.proofs.write_edges.Statement.{statement}
 use Rattle.edges.proofs.write_edges.Tie as tie
 
 abbrev Inv-loop : tie.InvT-loop
-Inv-loop bytes l k sight sign table₀ first count from₀ i₀ table from i =
-    Going bytes l sight (patchNumbered (decode bytes) k) first count table₀ table from i
+Inv-loop bytes l k sight sign table₀ first count sloped₀ from₀ i₀ table sloped from i =
+    Going bytes l sight (patchNumbered (decode bytes) k) first count (sloped₀ .reach) table₀ table sloped from i
 
 abbrev μ-loop : tie.MeasureT-loop
-μ-loop bytes l k sight sign table₀ first count from₀ i₀ table from i = count - i
+μ-loop bytes l k sight sign table₀ first count sloped₀ from₀ i₀ table sloped from i = count - i
+
+-- from after an edge function is known back to where its round began, to after the corner run is read, and to where the function began
+abbrev round : tie.After-edge-function Inv-loop μ-loop → tie.In-loop Inv-loop μ-loop
+round f = f .before .before .before .before
+
+abbrev running : tie.In-loop Inv-loop μ-loop → tie.After-corner-run Inv-loop μ-loop
+running r = r .before .before .before
+
+abbrev began : tie.After-corner-run Inv-loop μ-loop → tie.Start Inv-loop μ-loop
+began n = n .before .before
+
+keeping : (n : tie.After-corner-run Inv-loop μ-loop) → KeepingAsked (n .corner-run .result .count) (began n .args .reach) (now (began n .args .table))
+keeping n = let b = began n .pre .0 in record { eight = n .corner-run .ensures .eight; shaped = b .shaped; room = b .room }
 
 corner-run-requires : tie.Need-corner-run-requires Inv-loop μ-loop
 corner-run-requires c κs = search needs
@@ -31,7 +47,7 @@ corner-requires c κs = search needs
 loop-holds : tie.Need-loop-holds Inv-loop μ-loop
 loop-holds c =
     record {
-      writing = writing-none _ _ _ _ _;
+      writing = writing-none (keeping (c .before));
       from-is = λ h. c .corner .ensures .value ∙ ap (cornerNumber _ (c .before .before .before .args .l)) (sym (add-zero _));
     }
 
@@ -54,14 +70,29 @@ oriented-edge-requires c κs =
       sign-within = sign-small (sign-passed (c .before .before .before .before .before .before .before .pre .1));
     }
 
-add-store-function : tie.Need-add-store-function Inv-loop μ-loop
-add-store-function c = omega (arith, c .before .before .before .before .loop-test .taken, c .before .before .before .before .before .before .before .corner-run .ensures .run-inside, c .before .before .before .before .before .before .before .before .before .pre .0 .scene .laid .few-corners)
-
 edge-function-requires : tie.Need-edge-function-requires Inv-loop μ-loop
-edge-function-requires c κs = (c .before .before .before .before .before .before .before .before .before .pre .0 .sight .raster-bounded, c .before .oriented-edge .ensures .bounded)
+edge-function-requires c κs = (c .before .before .before .before .before .before .before .before .pre .0 .sight .raster-bounded, c .oriented-edge .ensures .bounded)
 
-store-function-requires : tie.Need-store-function-requires Inv-loop μ-loop
-store-function-requires c κs = (omega (arith, c .before .before .before .before .before .loop-test .taken, c .before .before .before .before .before .before .before .before .corner-run .ensures .run-inside, c .before .before .before .before .before .before .before .before .before .before .pre .0 .room, c .before .before .before .before .before .before .loop .inv .writing .long), c .edge-function .ensures .bounded)
+-- it is what the raster sees of the next edge
+edge-is :
+    (f : tie.After-edge-function Inv-loop μ-loop) →
+    let n = running (round f) in
+    let a = began n .args in
+    FunctionIs (seen (a .sight) (patchNumbered (decode (now (a .bytes))) (a .k)) (round f .before .loop .i)) (f .edge-function .result)
+edge-is f =
+    let r = round f in
+    let n = running r in
+    let s = began n in
+    let h = r .loop-test .taken in
+    let e =
+    edge-of (vecOf (s .args .sight .eye)) (n .corner-run .ensures) (sign-passed (s .pre .1)) h (r .before .loop .inv .from-is h) (f .before .before .before .next-place .ensures) (f .before .before .corner2 .ensures .value) in
+    function-by (s .args .sight .raster) (f .edge-function .ensures) (f .before .oriented-edge .ensures .value ∙ e)
+
+keep-one-requires : tie.Need-keep-one-requires Inv-loop μ-loop
+keep-one-requires c κs =
+    let f = c .before in
+    let r = round f in
+    edge-asked (keeping (running r)) (r .before .loop .inv .writing) (r .loop-test .taken) (edge-is f)
 
 add-i : tie.Need-add-i Inv-loop μ-loop
 add-i c = omega (arith, c .before .before .before .before .before .before .before .loop-test .taken, c .before .before .before .before .before .before .before .before .before .before .corner-run .ensures .eight)
@@ -71,26 +102,20 @@ loop-less c = omega (arith, c .before .before .before .before .before .before .b
 
 loop-again : tie.Need-loop-again Inv-loop μ-loop
 loop-again c =
-    let at = c .before .before .before .before .before .before .before .before .before .before .corner-run .ensures in
-    let s = c .before .before .before .before .before .before .before .before .before .before .before .before in
-    let h = c .before .before .before .before .before .before .before .loop-test .taken in
-    let v = c .before .before .before .before .before .before .before .before .loop .inv in
-    let e = edge-of (vecOf (s .args .sight .eye)) at (sign-passed (s .pre .1)) h (v .from-is h) (c .before .before .before .before .before .before .next-place .ensures) (c .before .before .before .before .before .corner2 .ensures .value) in
+    let f = c .before .before .before in
+    let r = round f in
     record {
-      writing = writing-more (v .writing) h (c .before .store-function .ensures) (function-by (s .args .sight .raster) (c .before .before .edge-function .ensures) (c .before .before .before .before .oriented-edge .ensures .value ∙ e));
-      from-is = goes-on _ (s .args .l) _ _ _ _ (c .before .before .before .before .before .before .next-place .ensures) (c .before .before .before .before .before .corner2 .ensures .value);
+      writing = writing-more (keeping (running r)) (r .before .loop .inv .writing) (r .loop-test .taken) (edge-is f) (c .before .keep-one .ensures);
+      from-is = goes-on _ (began (running r) .args .l) _ _ _ _ (f .before .before .before .next-place .ensures) (f .before .before .corner2 .ensures .value);
     }
 
 same-length : tie.Need-same-length Inv-loop μ-loop
-same-length c = c .before .loop .inv .writing .long
+same-length c = c .before .loop .inv .writing .kept .long
 
 returns : tie.Need-returns Inv-loop μ-loop
 returns c =
-    let s = c .before .before .before .before .before in
-    let at = c .before .before .before .corner-run .ensures in
-    let few = at .run-inside in
-    run-written at
-    (writing-all (c .before .loop .inv .writing) (run-count at) (omega (arith, s .pre .0 .scene .laid .few-corners)) (omega (arith, s .pre .0 .room)) (c .loop-test .left))
+    let n = c .before .before .before in
+    writing-all (keeping n) (c .before .loop .inv .writing) (run-count (n .corner-run .ensures)) (omega (arith, n .corner-run .ensures .three)) (c .loop-test .left)
 
 pub write-edges-spec : {M : Type 1} → statement M
 write-edges-spec =
@@ -105,9 +130,8 @@ write-edges-spec =
     add-corner
     corner-requires-2
     oriented-edge-requires
-    add-store-function
     edge-function-requires
-    store-function-requires
+    keep-one-requires
     add-i
     loop-less
     loop-again

@@ -25,7 +25,7 @@ began l = l .before .before .before .before .before .before .before
 
 -- from after the painting back to after the rays are known
 abbrev rastered : tie.After-paint-rows → tie.After-camera-raster
-rastered p = p .before .before .before .before .before .before .before .before
+rastered p = p .before .before .before .before .before .before
 
 cast-cells : tie.Need-cast-cells
 cast-cells c = let b = c .before .before .before .before .before .before .pre in omega (arith, b .framed .cells, mul-le-mul (b .framed .narrow) (b .framed .low))
@@ -44,17 +44,14 @@ slice-aggregate-paint-rows c = let w = c .before .before .before in walk-count (
 
 paint-rows-requires : tie.Need-paint-rows-requires
 paint-rows-requires c κs =
-    let r = c .before .before .before .before .before .before .before in
+    let r = c .before .before .before .before .before in
     let w = walked r in
     let l = laid w .read-layout .ensures in
     let b = began (laid w) .pre in
     let rays = r .camera-raster .ensures in
-    let corners = l .few-corners in
-    let patches = l .few-patches in
     record {
       paintable = walk-paintable (b .accepted) l (w .walk .ensures) (record { eye-bounded = b .near; raster-bounded = rays .bounded })
-          (omega (arith, b .framed .low, rays .rows));
-      room = record { edges-room = omega arith; rows-room = omega arith };
+          (omega (arith, b .framed .narrow, rays .columns)) (omega (arith, b .framed .low, rays .rows));
       framed = raster-framed rays (b .framed);
       entries = b .entries ∙ patch-count l;
     }
@@ -64,27 +61,27 @@ abbrev all-painted :
     (p : tie.After-paint-rows) →
     let l = laid (walked (rastered p)) in
     let a = began l .args in
-    Painted (now (a .scene)) (viewOf (a .eye) (a .camera)) (p .paint-rows .last .1 .1 .1 .1 .1 .1 .0) (p .paint-rows .last .1 .1 .1 .1 .1 .1 .1 .0)
-    (p .paint-rows .last .1 .1 .1 .1 .1 .1 .1 .1 .0) (p .paint-rows .last .1 .1 .1 .1 .1 .1 .1 .1 .1 .0)
+    Painted (now (a .scene)) (viewOf (a .eye) (a .camera)) (p .paint-rows .last .1 .1 .1 .1 .0) (p .paint-rows .last .1 .1 .1 .1 .1 .0)
+    (p .paint-rows .last .1 .1 .1 .1 .1 .1 .0) (p .paint-rows .last .1 .1 .1 .1 .1 .1 .1 .0)
 all-painted p =
     let r = rastered p in
     let w = walked r in
     let b = began (laid w) .pre in
     painted-all (b .accepted) (laid w .read-layout .ensures) (w .walk .ensures) (r .camera-raster .ensures)
-    (p .paint-rows .kept .1 .1 .1 .1 .1 .1 .1 .1 .1 .0 ∙ b .entries) (p .paint-rows .ensures .0) (p .paint-rows .ensures .1)
+    (p .paint-rows .kept .1 .1 .1 .1 .1 .1 .1 .0 ∙ b .entries) (p .paint-rows .ensures .0) (p .paint-rows .ensures .1)
 
 count-panels-requires : tie.Need-count-panels-requires
 count-panels-requires c κs =
-    let p = c .before .before .before .before .before .before .before .before .before .before .before .before in
+    let p = c .before .before .before .before .before .before .before .before .before .before in
     let l = laid (walked (rastered p)) in
     let b = began l .pre in
-    countable (b .accepted) (l .read-layout .ensures) (all-painted p) (p .paint-rows .kept .1 .1 .1 .1 .1 .1 .1 .1 .1 .0 ∙ b .entries)
+    countable (b .accepted) (l .read-layout .ensures) (all-painted p) (p .paint-rows .kept .1 .1 .1 .1 .1 .1 .1 .0 ∙ b .entries)
     (b .framed .cells) (b .framed .narrow) (b .aimed .height-within .within) (b .counted)
 
 returns : tie.Need-returns
 returns c =
     let n = c .before .before in
-    let p = n .before .before .before .before .before .before .before .before .before .before .before .before .before in
+    let p = n .before .before .before .before .before .before .before .before .before .before .before in
     let l = laid (walked (rastered p)) in
     let b = began l .pre in
     rendered (b .accepted) (l .read-layout .ensures) (all-painted p) (b .framed .cells) (n .count-panels .ensures)
@@ -100,8 +97,6 @@ paint-spec =
     (λ c κs. search needs)
     (λ c. search needs)
     slice-aggregate-paint-rows
-    (λ c. search needs)
-    (λ c. search needs)
     paint-rows-requires
     count-panels-requires
     (λ c. search needs)

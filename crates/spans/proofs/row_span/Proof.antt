@@ -6,19 +6,16 @@ use Rattle.spans.proofs.row_span.Statement.{statement}
 use Rattle.spans.proofs.row_span.Tie as tie
 
 abbrev Inv-loop : tie.InvT-loop
-Inv-loop table first count j lit within k₀ span k = Narrowed table first count j within lit k span
+Inv-loop table count j lit within k₀ span k = Narrowed table count j within lit k span
 
 abbrev μ-loop : tie.MeasureT-loop
-μ-loop table first count j lit within k₀ span k = count - k
+μ-loop table count j lit within k₀ span k = count - k
 
 loop-holds : tie.Need-loop-holds Inv-loop μ-loop
 loop-holds c = narrowed-none
 
 returns : tie.Need-returns Inv-loop μ-loop
 returns c = narrowed-empty (c .before .before .before .loop .inv) (c .if1 .taken)
-
-add-function-at : tie.Need-add-function-at Inv-loop μ-loop
-add-function-at c = omega (arith, c .before .before .loop-test .taken, c .before .before .before .before .pre .0 .few)
 
 function-at-requires : tie.Need-function-at-requires Inv-loop μ-loop
 function-at-requires c κs =
@@ -55,7 +52,6 @@ row-span-spec =
     μ-loop
     loop-holds
     returns
-    add-function-at
     function-at-requires
     clip-function-requires
     add-k

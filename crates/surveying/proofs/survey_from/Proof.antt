@@ -1,7 +1,6 @@
 -- `surveying::survey_from` meets its contract: it refuses before it writes, or paints, counts and raises the counter.
 use mathlib.Core.Path.{refl}
 use denote.Ref.{now}
-use borrow.Author.Needs.{needs}
 use Rattle.model.specs.Lent.{Lent}
 use Rattle.contract.specs.Contract.{lentOf}
 use Rattle.surveying.proofs.Calls.{refused, paintable, rendered-from, counter-rises, accepted}
@@ -51,14 +50,14 @@ pub survey-from-spec : {M : Type 1} → statement M
 survey-from-spec =
     tie.close
     (tie.spec
-    (λ c κs. search needs)
+    (λ c κs. tt)
     returns
-    (λ c κs. search needs)
+    (λ c κs. tt)
     paint-requires
     add-counter
-    (λ c. search needs)
-    (λ c. search needs)
-    (λ c. search needs)
-    (λ c. search needs)
-    (λ c. search needs)
+    (λ c. painted (c .before .before) .paint .kept .1 .1 .1 .0)
+    (λ c. painted (c .before .before) .paint .kept .1 .1 .1 .1 .1 .1 .1 .0)
+    (λ c. painted (c .before .before) .paint .kept .1 .1 .1 .1 .1 .1 .0)
+    (λ c. painted (c .before .before) .paint .kept .1 .1 .1 .1 .0)
+    (λ c. painted (c .before .before) .paint .kept .1 .1 .1 .1 .1 .0)
     returns-2)

@@ -1,14 +1,17 @@
 -- `survey::metres::ring_survey_metres` meets its contract: the doubles are the station's, and the camera's numbers pass through words unchanged, and demand 2 follows from the equations.
-use borrow.Author.Needs.{needs}
 use Rattle.contract.proofs.SameStation.{surveyed-from}
 use Rattle.demands.proofs.Demands.{closest-surveyed}
 use Rattle.handed.proofs.Handed.{same-camera}
 use Rattle.survey.proofs.metres.ring_survey_metres.Statement.{statement}
 use Rattle.survey.proofs.metres.ring_survey_metres.Tie as tie
 
+-- from where the survey has given back what it was lent to right after it
+abbrev surveyed : tie.After-slice-known10 → tie.After-survey-from
+surveyed c = c .before .before .before .before .before .before .before .before .before .before
+
 returns : tie.Need-returns
 returns c =
-    let p = c .before .before .before .before .before .before .before .before .before .before in
+    let p = surveyed c in
     let a = p .before .before .before .before .before .before .before in
     let s = a .before in
     let e = s .before .before .before .before .before .before .before .fits in
@@ -21,12 +24,12 @@ pub ring-survey-metres-spec : {M : Type 1} → statement M
 ring-survey-metres-spec =
     tie.close
     (tie.spec
-    (λ c κs. search needs)
-    (λ c κs. search needs)
-    (λ c κs. search needs)
-    (λ c. search needs)
-    (λ c. search needs)
-    (λ c. search needs)
-    (λ c. search needs)
-    (λ c. search needs)
+    (λ c κs. tt)
+    (λ c κs. tt)
+    (λ c κs. tt)
+    (λ c. surveyed c .survey-from .kept .1 .1 .1 .0)
+    (λ c. surveyed c .survey-from .kept .1 .1 .1 .1 .0)
+    (λ c. surveyed c .survey-from .kept .1 .1 .1 .1 .1 .0)
+    (λ c. surveyed c .survey-from .kept .1 .1 .1 .1 .1 .1 .0)
+    (λ c. surveyed c .survey-from .kept .1 .1 .1 .1 .1 .1 .1 .0)
     returns)

@@ -1,2 +1,0 @@
--- A band of rows.
-mod BandRows

@@ -1,2 +1,0 @@
--- Adding to a table's entries.
-pub mod Adding

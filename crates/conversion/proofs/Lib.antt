@@ -1,0 +1,7 @@
+-- The cells booked to patches while a picture is painted patch after patch.
+pub mod FirstBooked
+mod Totals
+pub mod PatchBooked
+pub mod Parts
+mod Painting
+mod Steps

@@ -1,0 +1,3 @@
+-- Laws on texts one after the other.
+pub mod Digits
+mod Lists

@@ -1,0 +1,2 @@
+-- What the contracts of this crate cite: texts one after the other.
+pub mod Listing

@@ -1,0 +1,2 @@
+-- Rows written one after the other.
+pub mod Writing

@@ -1,4 +1,0 @@
--- A row in its places.
-pub mod Framing
-pub mod Places
-pub mod Booked

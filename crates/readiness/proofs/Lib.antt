@@ -1,2 +1,0 @@
--- The ready part of a walk grows.
-pub mod ReadyWalk

@@ -1,0 +1,2 @@
+-- Functions kept, and rows left, one function after the other.
+pub mod Keeping
