@@ -26,8 +26,8 @@ from_c() {
 }
 from_c >"$log" 2>&1 &
 (cd tests/outside && cargo build --quiet --release --offline --features library)
-# The benchmark takes its scenes and calls from the program just built: its peers are tried, nothing is timed.
-(cd bench && cargo run --quiet --release --offline -- --only none >/dev/null)
+# The benchmark takes its scenes and calls from the program just built: its peers are tried, nothing is timed, so that it need not be optimised as a whole.
+(cd bench && cargo run --quiet --release --offline --config 'profile.release.lto="off"' --config profile.release.codegen-units=16 -- --only none >/dev/null)
 wait $! && status=0 || status=$?
 cat "$log"
 [ "$status" -eq 0 ]

@@ -9,12 +9,19 @@ pub fn wide(p: Point) -> Vector {
     p.map(i128::from)
 }
 
+/// Parts of points, differences and directions are below 2^20 and those of normals
+/// below 2^42, so that products stay far inside: a test of each for its range would
+/// take most of the time.
+fn product(m: i128, n: i128) -> i128 {
+    m.wrapping_mul(n)
+}
+
 pub fn plus(p: Vector, q: Vector) -> Vector {
     [p[0] + q[0], p[1] + q[1], p[2] + q[2]]
 }
 
 pub fn times(n: i128, p: Vector) -> Vector {
-    p.map(|part| n * part)
+    p.map(|part| product(n, part))
 }
 
 pub fn minus(p: Vector, q: Vector) -> Vector {
@@ -22,14 +29,14 @@ pub fn minus(p: Vector, q: Vector) -> Vector {
 }
 
 pub fn dot(p: Vector, q: Vector) -> i128 {
-    p[0] * q[0] + p[1] * q[1] + p[2] * q[2]
+    product(p[0], q[0]) + product(p[1], q[1]) + product(p[2], q[2])
 }
 
 pub fn cross(p: Vector, q: Vector) -> Vector {
     [
-        p[1] * q[2] - p[2] * q[1],
-        p[2] * q[0] - p[0] * q[2],
-        p[0] * q[1] - p[1] * q[0],
+        product(p[1], q[2]) - product(p[2], q[1]),
+        product(p[2], q[0]) - product(p[0], q[2]),
+        product(p[0], q[1]) - product(p[1], q[0]),
     ]
 }
 
