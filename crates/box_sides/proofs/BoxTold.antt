@@ -70,7 +70,7 @@ front-sum :
     sideOf s m +ℤ s .normal .x *ℤ (c .x -ℤ m .x) +ℤ s .normal .y *ℤ (c .y -ℤ m .y) +ℤ s .normal .z *ℤ (c .z -ℤ m .z) ≡ sideOf s c
 front-sum s m c =
     ring
-    (s .normal .x ∷ s .normal .y ∷ s .normal .z ∷ s .a .x ∷ s .a .y ∷ s .a .z ∷ m .x ∷ m .y ∷ m .z ∷ c .x ∷ c .y ∷ c .z ∷ [])
+    (s .normal .x ∷ s .normal .y ∷ s .normal .z ∷ s .level ∷ m .x ∷ m .y ∷ m .z ∷ c .x ∷ c .y ∷ c .z ∷ [])
     (search reify depth 40 fits 200000, tt)
 
 behind-sum :
@@ -78,7 +78,7 @@ behind-sum :
     negℤ (sideOf s m) +ℤ s .normal .x *ℤ (m .x -ℤ c .x) +ℤ s .normal .y *ℤ (m .y -ℤ c .y) +ℤ s .normal .z *ℤ (m .z -ℤ c .z) ≡ negℤ (sideOf s c)
 behind-sum s m c =
     ring
-    (s .normal .x ∷ s .normal .y ∷ s .normal .z ∷ s .a .x ∷ s .a .y ∷ s .a .z ∷ m .x ∷ m .y ∷ m .z ∷ c .x ∷ c .y ∷ c .z ∷ [])
+    (s .normal .x ∷ s .normal .y ∷ s .normal .z ∷ s .level ∷ m .x ∷ m .y ∷ m .z ∷ c .x ∷ c .y ∷ c .z ∷ [])
     (search reify depth 40 fits 200000, tt)
 
 module _ {e : Extent} {p : Patch} (i : Encloses e p) where

@@ -3,9 +3,9 @@ use boxes::Bounds;
 use boxes::Extent;
 use boxes::extent_at;
 use geometry::Vector;
-use geometry::side;
 use halfspaces::planes::Plane;
 use halfspaces::planes::Sides;
+use halfspaces::planes::side_of;
 ghost use Rattle.geometry.specs.Machine.{Bounded};
 ghost use Rattle.boxes.specs.Boxes.{BoxBounded};
 ghost use Rattle.boxes.specs.Enclosed.{ExtentBounded, ChildExtent};
@@ -76,10 +76,10 @@ fn least_number(b: Bounds, plane: Plane, front: bool) -> i64
 {
     if front {
         let c = corner_by(plane.normal, b.low, b.high);
-        return side(plane.normal, plane.a, c);
+        return side_of(plane, c);
     }
     let c = corner_by(plane.normal, b.high, b.low);
-    arithmetic::difference(0, side(plane.normal, plane.a, c))
+    arithmetic::difference(0, side_of(plane, c))
 }
 
 // all patches enclosed have corners on just the side that is wanted, or on that and the plane

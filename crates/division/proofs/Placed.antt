@@ -4,13 +4,14 @@ use mathlib.Core.Bool.{Bool, true, false, not, _&&_, _||_, Bool·beq, and-comm, 
 use mathlib.Core.List.{List, [], _∷_}
 use Prim.Native.Nat.{zero, suc, zero-le}
 use native.Mathlib.Nat.{zero-lt-suc}
-use lib.IntN.{ℤ, pos, negsuc, negℤ}
+use lib.IntN.{ℤ, pos, negsuc, negℤ, _-ℤ_}
 use lib.Signed.{ltZ, leZ}
 use borrow.Author.Tests.{lt-ltb, le-ltb}
+use Rattle.integer.proofs.Identity.{ring, reify}
 use Rattle.integer.proofs.Order.{leZ-not}
 use Rattle.model.specs.Lists.{every, any}
 use Rattle.model.specs.Vector as model
-use Rattle.model.specs.Vector.{Vec, side, minus, dot, isZero, turnedOver}
+use Rattle.model.specs.Vector.{Vec, side, planeNormal, minus, dot, isZero, turnedOver}
 use Rattle.model.specs.Patch.{Patch, liesOn}
 use Rattle.model.specs.Tree.{liesPositive}
 use Rattle.model.proofs.Vectors.{side-turned}
@@ -66,9 +67,15 @@ module _ {A : Type 0} where
 
 -- ---- planes
 
+dot-minus : (c a n : Vec) → dot (minus c a) n ≡ dot c n -ℤ dot a n
+dot-minus c a n =
+    ring (c .x ∷ c .y ∷ c .z ∷ a .x ∷ a .y ∷ a .z ∷ n .x ∷ n .y ∷ n .z ∷ []) (search reify depth 40 fits 200000, tt)
+
 module _ {s : model.Plane} {r : Plane} (is : PlaneIs s r) where
   side-is : (c : Vec) → side s c ≡ sideOf r c
-  side-is c = ap₂ (λ (a n : Vec). dot (minus c a) n) (sym (is .a-is)) (sym (is .normal-is))
+  side-is c =
+      dot-minus c (s .a) (planeNormal s)
+      ∙ ap₂ (λ (n : Vec) (k : ℤ). dot c n -ℤ k) (sym (is .normal-is)) (sym (is .level-is))
 
   pub held-on : liesOn s ≡ held r (record { negative = false; positive = false })
   unfolding liesOn held

@@ -91,6 +91,14 @@ pub fn plane_normal(a: Vector, b: Vector, c: Vector) -> Vector
     cross_product(from_to(a, b), from_to(a, c))
 }
 
+// p · n: the same for all points of a plane with this normal
+pub fn level(normal: Vector, p: Vector) -> i64
+    requires { ⌜ Bounded 800000000 normal × Bounded 10000 p ⌝ }
+    ensures { λ r. ⌜ NumberIs 24000000000000 (dot (vecOf p) (vecOf normal)) r ⌝ }
+{
+    dot_product(p, normal)
+}
+
 // (p − a) · n
 pub fn side(normal: Vector, a: Vector, p: Vector) -> i64
     requires { ⌜ Bounded 800000000 normal × Bounded 10000 a × Bounded 10000 p ⌝ }

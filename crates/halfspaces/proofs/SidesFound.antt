@@ -20,21 +20,6 @@ use Rattle.halfspaces.specs.declared.planes.Sides.{Sides}
 use Rattle.model.proofs.Tests.{any-append}
 use Rattle.model.proofs.Ranges.{range-append}
 
--- ---- one corner more
-
-module _ (s : Sides) {z : ℤ} where
-  pub joins-negative : z <ℤ pos 0 → Joins s z (record { negative = true; positive = s .positive })
-  joins-negative h =
-      record { negative-too = rw (lt-ltZ h) (sym (or-true (s .negative))); positive-too = rw (le-ltZ (<→≤ h)) (sym (or-false (s .positive))) }
-
-  pub joins-positive : pos 0 <ℤ z → Joins s z (record { negative = s .negative; positive = true })
-  joins-positive h =
-      record { negative-too = rw (le-ltZ (<→≤ h)) (sym (or-false (s .negative))); positive-too = rw (lt-ltZ h) (sym (or-true (s .positive))) }
-
-  pub joins-neither : pos 0 ≤ℤ z → z ≤ℤ pos 0 → Joins s z s
-  joins-neither h k =
-      record { negative-too = rw (le-ltZ h) (sym (or-false (s .negative))); positive-too = rw (le-ltZ k) (sym (or-false (s .positive))) }
-
 pub left-true : {a : Bool} (b : Bool) → a ≡ true → b ≡ (a && b)
 left-true b e = rw e
 

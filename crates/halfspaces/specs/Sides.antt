@@ -3,11 +3,12 @@ use mathlib.Core.Path.{_≡_}
 use mathlib.Core.Bool.{Bool, _&&_, _||_, Bool·beq}
 use mathlib.Core.List.{List}
 use Prim.Native.Nat.{ℕ}
-use lib.IntN.{ℤ, pos}
+use lib.IntN.{ℤ, pos, _-ℤ_}
 use lib.Signed.{ltZ}
+use Rattle.integer.specs.Magnitude.{Within}
 use Rattle.model.specs.Lists.{any}
 use Rattle.model.specs.Vector as model
-use Rattle.model.specs.Vector.{Vec, minus, dot, planeNormal}
+use Rattle.model.specs.Vector.{Vec, dot, planeNormal}
 use Rattle.model.specs.Patch.{Patch}
 use Rattle.geometry.specs.Machine.{vecOf, Bounded}
 use Rattle.format.specs.declared.layout.Layout.{Layout}
@@ -16,8 +17,8 @@ use Rattle.halfspaces.specs.declared.planes.Plane.{Plane}
 use Rattle.halfspaces.specs.declared.planes.Sides.{Sides}
 
 pub record PlaneBounded (r : Plane) : Type 0 where
-  pub a-bounded : Bounded 10000 (r .a)
   pub normal-bounded : Bounded 800000000 (r .normal)
+  pub level-within : Within 24000000000000 (r .level)
 
 -- a checked scene, and a plane that its patches are held against
 pub record PlaneAsked (bytes : List ℕ) (l : Layout) (r : Plane) : Type 0 where
@@ -26,13 +27,13 @@ pub record PlaneAsked (bytes : List ℕ) (l : Layout) (r : Plane) : Type 0 where
 
 -- the machine's plane r is s
 pub record PlaneIs (s : model.Plane) (r : Plane) : Type 0 where
-  pub a-is : vecOf (r .a) ≡ s .a
   pub normal-is : vecOf (r .normal) ≡ planeNormal s
+  pub level-is : r .level ≡ dot (s .a) (planeNormal s)
   pub bounded : PlaneBounded r
 
--- the side number of c
+-- the side number of c, (c − a) · n, as c · n − a · n
 abbrev pub sideOf : Plane → Vec → ℤ
-sideOf s c = dot (minus c (vecOf (s .a))) (vecOf (s .normal))
+sideOf s c = dot c (vecOf (s .normal)) -ℤ s .level
 
 abbrev pub onNegative : Plane → Vec → Bool
 onNegative s c = ltZ (sideOf s c) (pos 0)

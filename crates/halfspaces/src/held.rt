@@ -1,10 +1,10 @@
 // On which sides of a plane a patch has corners.
 use crate::planes::Plane;
 use crate::planes::Sides;
+use crate::planes::side_of;
 use checked::corner;
 use checked::corner_run;
 use format::layout::Layout;
-use geometry::side;
 ghost use mathlib.Core.Path.{_≡_};
 ghost use mathlib.Core.Bool.{Bool·beq, _&&_};
 ghost use mathlib.Core.List.{map};
@@ -18,19 +18,10 @@ ghost use Rattle.halfspaces.specs.Sides.{PlaneAsked, SidesAre, Joins, he
 fn joined(s: Sides, z: i64) -> Sides
     ensures { λ r. ⌜ Joins s z r ⌝ }
 {
-    if z < 0 {
-        return Sides {
-            negative: true,
-            positive: s.positive,
-        };
+    Sides {
+        negative: s.negative | (z < 0),
+        positive: s.positive | (0 < z),
     }
-    if 0 < z {
-        return Sides {
-            negative: s.negative,
-            positive: true,
-        };
-    }
-    s
 }
 
 fn same_sides(found: Sides, wanted: Sides) -> bool
@@ -51,7 +42,7 @@ fn corner_sides(bytes: &[u8], l: Layout, first: usize, count: usize, plane: Plan
     let mut i = 0;
     while i < count {
         let c = corner(bytes, l, first + i);
-        found = joined(found, side(plane.normal, plane.a, c));
+        found = joined(found, side_of(plane, c));
         i += 1;
     }
     found

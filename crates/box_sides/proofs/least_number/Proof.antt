@@ -12,32 +12,32 @@ use Rattle.box_sides.proofs.least_number.Tie as tie
 least-requires : tie.Need-corner-by-requires
 least-requires c κs = search needs
 
-side-requires : tie.Need-side-requires
+side-requires : tie.Need-side-of-requires
 side-requires c κs =
     let h = c .before .before .pre in
-    (h .1 .normal-bounded, h .1 .a-bounded, corner-bounded (c .corner-by .ensures) (h .0 .low-bounded) (h .0 .high-bounded))
+    (h .1, corner-bounded (c .corner-by .ensures) (h .0 .low-bounded) (h .0 .high-bounded))
 
 returns : tie.Need-returns
 returns c =
-    least-in-front (c .before .before .before .args .plane) _ (c .side .ensures) (c .before .before .if1 .taken) (c .before .corner-by .ensures)
+    least-in-front (c .before .before .before .args .plane) _ (c .side-of .ensures) (c .before .before .if1 .taken) (c .before .corner-by .ensures)
 
 greatest-requires : tie.Need-corner-by-requires-2
 greatest-requires c κs = search needs
 
-side-requires-2 : tie.Need-side-requires-2
+side-requires-2 : tie.Need-side-of-requires-2
 side-requires-2 c κs =
     let h = c .before .before .pre in
-    (h .1 .normal-bounded, h .1 .a-bounded, corner-bounded (c .corner-by2 .ensures) (h .0 .high-bounded) (h .0 .low-bounded))
+    (h .1, corner-bounded (c .corner-by2 .ensures) (h .0 .high-bounded) (h .0 .low-bounded))
 
 difference-requires : tie.Need-difference-requires
 difference-requires c κs =
-    let h : Within 48000000000000 (c .side2 .result) = c .side2 .ensures .bounded in
+    let h : Within 48000000000000 (c .side-of2 .result) = c .side-of2 .ensures .bounded in
     room w64 (search machine depth 40 fits 20000, tt)
 
 returns-2 : tie.Need-returns-2
 returns-2 c =
     let d = c .difference in
-    least-behind (c .before .before .before .before .args .plane) _ (c .before .side2 .ensures) (c .before .before .before .if1 .left)
+    least-behind (c .before .before .before .before .args .plane) _ (c .before .side-of2 .ensures) (c .before .before .before .if1 .left)
     (c .before .before .corner-by2 .ensures) (toZ-ofZ w64 (d .result) (record { sfits = d .ok })) (d .ensures)
 
 pub least-number-spec : {M : Type 1} → statement M

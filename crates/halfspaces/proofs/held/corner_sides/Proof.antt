@@ -25,10 +25,10 @@ add-corner c = omega arith
 corner-requires : tie.Need-corner-requires Inv-loop μ-loop
 corner-requires c κs = let h = c .before .before .before .pre in (h .0 .scene, omega (arith, h .1, c .loop-test .taken))
 
-side-requires : tie.Need-side-requires Inv-loop μ-loop
+side-requires : tie.Need-side-of-requires Inv-loop μ-loop
 side-requires c κs =
     let h = c .before .before .before .before .pre .0 .plane-bounded in
-    (h .normal-bounded, h .a-bounded, c .corner .ensures .bounded)
+    (h, c .corner .ensures .bounded)
 
 joined-requires : tie.Need-joined-requires Inv-loop μ-loop
 joined-requires c κs = tt
@@ -41,7 +41,7 @@ loop-less c = omega arith
 
 loop-again : tie.Need-loop-again Inv-loop μ-loop
 loop-again c =
-    let n = c .before .side in
+    let n = c .before .side-of in
     found-more (c .before .before .before .before .loop .inv) (c .before .before .before .loop-test .taken)
     (toZ-ofZ w64 (n .result) (record { sfits = n .ok })
     ∙ n .ensures .value
