@@ -11,11 +11,15 @@ use Rattle.model.specs.Patch.{Patch}
 use Rattle.model.specs.Ray.{met}
 use Rattle.model.specs.Booking.{firstIs}
 use Rattle.segments.proofs.Tallies.{tally-or, tally-congr}
-use Rattle.scanline.specs.Shown.{unlitAfter, newlyLit}
+use Rattle.scanline.specs.Shown.{unlitAfter}
 
 -- how many cells of a row are booked to patch n: those whose rays meet it, and no patch of the walk before it
 unfoldable pub rowCells : Vec → (ℕ → Vec) → (ℕ → Patch) → List ℕ → ℕ → ℕ → ℕ
 rowCells eye ray patch order width n = tally (λ (i : ℕ). firstIs eye (ray i) patch order n) (range 0 width)
+
+-- how many columns a patch newly lights after some are painted: those whose lines meet it and none of these
+unfoldable pub newlyLit : Vec → (ℕ → Vec) → ℕ → List Patch → Patch → ℕ
+newlyLit eye ray width painted p = tally (λ (i : ℕ). unlitAfter eye ray painted i && met eye (ray i) p) (range 0 width)
 
 module _ (eye d : Vec) (patch : ℕ → Patch) (n : ℕ) where
   -- one patch more is the first where none before it is met

@@ -13,11 +13,11 @@ use Rattle.model.specs.Ray.{met}
 use Rattle.model.specs.Booking.{firstIs, cellsWhere}
 use Rattle.model.proofs.Tables.{zero-at}
 use Rattle.segments.proofs.Tallies.{tally-most, tally-clear}
-use Rattle.scanline.specs.Shown.{unlitAfter, newlyLit}
+use Rattle.scanline.specs.Shown.{unlitAfter}
 use Rattle.cells.proofs.Adding.{grown}
-use Rattle.conversion.specs.Booked.{BookedUpTo}
+use Rattle.conversion.specs.Booked.{Booked}
 use Rattle.conversion.proofs.Totals.{total-same, total-adds, total-most, total-clear}
-use Rattle.conversion.proofs.FirstBooked.{rowCells, row-more, row-stays}
+use Rattle.conversion.proofs.FirstBooked.{rowCells, newlyLit, row-more, row-stays}
 
 module _ (eye : Vec) (ray : ℕ → ℕ → Vec) (patch : ℕ → Patch) (width : ℕ) where
   -- the cells whose rays meet patch m, and none of some patches
@@ -40,8 +40,8 @@ module _ (eye : Vec) (ray : ℕ → ℕ → Vec) (patch : ℕ → Patch) (width 
 
   -- one patch more adds what it newly lights in all rows to its own entry
   pub patch-booked :
-      (ks : List ℕ) (m height : ℕ) {booked : List ℕ} → m < length booked → BookedUpTo eye ray patch ks width booked height →
-      BookedUpTo eye ray patch (ks ++ m ∷ []) width (set booked m (getD booked m 0 + newCells ks m height)) height
+      (ks : List ℕ) (m height : ℕ) {booked : List ℕ} → m < length booked → Booked eye ray patch ks width booked height →
+      Booked eye ray patch (ks ++ m ∷ []) width (set booked m (getD booked m 0 + newCells ks m height)) height
   patch-booked ks m height {booked} h inv =
       let v : ℕ = newCells ks m height in
       record {
@@ -51,7 +51,7 @@ module _ (eye : Vec) (ray : ℕ → ℕ → Vec) (patch : ℕ → Patch) (width 
       }
 
   -- nothing is booked by no patch
-  pub none-booked : (n height : ℕ) → BookedUpTo eye ray patch [] width (replicate n 0) height
+  pub none-booked : (n height : ℕ) → Booked eye ray patch [] width (replicate n 0) height
   unfolding cellsWhere firstIs
   none-booked n height =
       let cells : ℕ → ℕ = λ (j : ℕ). tally (λ (i : ℕ). false) (range 0 width) in
@@ -63,7 +63,7 @@ module _ (eye : Vec) (ray : ℕ → ℕ → Vec) (patch : ℕ → Patch) (width 
 
   -- no entry is above all cells
   pub booked-most :
-      width ≤ 256 → {ks booked : List ℕ} {height : ℕ} → BookedUpTo eye ray patch ks width booked height →
+      width ≤ 256 → {ks booked : List ℕ} {height : ℕ} → Booked eye ray patch ks width booked height →
       (n : ℕ) → n < length booked → getD booked n 0 ≤ 256 * height
   unfolding cellsWhere
   booked-most narrow {ks} {booked} {height} inv n l =
@@ -75,7 +75,7 @@ module _ (eye : Vec) (ray : ℕ → ℕ → Vec) (patch : ℕ → Patch) (width 
   pub full-booked :
       (ks rest : List ℕ) {booked : List ℕ} {height : ℕ} →
       ((j : ℕ) → j < height → (i : ℕ) → i < width → unlitAfter eye (λ (i : ℕ). ray i j) (map patch ks) i ≡ false) →
-      BookedUpTo eye ray patch ks width booked height → BookedUpTo eye ray patch (ks ++ rest) width booked height
+      Booked eye ray patch ks width booked height → Booked eye ray patch (ks ++ rest) width booked height
   unfolding cellsWhere rowCells
   full-booked ks rest {booked} {height} full inv =
       record {

@@ -7,8 +7,8 @@ use Rattle.model.specs.Vector.{Vec}
 use Rattle.model.specs.Patch.{Patch}
 use Rattle.model.specs.Booking.{firstIs, cellsWhere}
 
--- each patch's entry has its cells of the rows before row j
-pub record BookedUpTo
-    (eye : Vec) (ray : ℕ → ℕ → Vec) (patch : ℕ → Patch) (order : List ℕ) (width : ℕ) (booked : List ℕ) (j : ℕ) : Type 0 where
+-- each patch's entry has its cells in a picture of so many columns and rows
+pub record Booked
+    (eye : Vec) (ray : ℕ → ℕ → Vec) (patch : ℕ → Patch) (order : List ℕ) (width : ℕ) (booked : List ℕ) (height : ℕ) : Type 0 where
   pub each :
-      (n : ℕ) → n < length booked → getD booked n 0 ≡ cellsWhere width j (λ (i k : ℕ). firstIs eye (ray i k) patch order n)
+      (n : ℕ) → n < length booked → getD booked n 0 ≡ cellsWhere width height (λ (i k : ℕ). firstIs eye (ray i k) patch order n)

@@ -16,7 +16,7 @@ use Rattle.reach.specs.declared.Planes.{Planes}
 use Rattle.reach.specs.Reach.{PlanesOf}
 use Rattle.scanline.specs.Shown.{PaintedUpTo}
 use Rattle.conversion.specs.Canvas.{rowPart}
-use Rattle.conversion.specs.Booked.{BookedUpTo}
+use Rattle.conversion.specs.Booked.{Booked}
 
 -- a scene and a walk that can be painted as it is seen
 pub record Paintable (bytes : List ℕ) (l : Layout) (s : Sight) (order : List ℕ) : Type 0 where
@@ -36,7 +36,7 @@ pub record WalkPainted
       PaintedUpTo (vecOf (s .eye)) (λ (i : ℕ). lineAt (s .raster) i j) (patchNumbered (decode bytes)) order (s .raster .width)
       (rowPart (s .raster .width) j picture) (getD rows j []) (getD words j []) k
   pub booked-are :
-      BookedUpTo (vecOf (s .eye)) (lineAt (s .raster)) (patchNumbered (decode bytes)) (take k order) (s .raster .width) booked (s .raster .height)
+      Booked (vecOf (s .eye)) (lineAt (s .raster)) (patchNumbered (decode bytes)) (take k order) (s .raster .width) booked (s .raster .height)
 
 -- what painting patch k of a walk asks
 pub record PatchAsked

@@ -53,7 +53,8 @@ pub record EdgeAsked (eye v w : Vector) (sign : ℤ) : Type 0 where
   pub w-bounded : Bounded 10000 w
   pub sign-within : Within 1 sign
 
--- In the rows of a reach the line just beside a ray meets the patch just where, in the rows that are left, the first functions of the table are above 0.
+-- In the rows of a reach the line just beside a ray meets the patch just where, in the rows that are left, the first functions of the table are above 0. Which functions
+-- these are, how many, and which rows are left is free.
 pub record EdgesKept (s : Sight) (p : Patch) (reach : Span) (table : List ℤ) (r : Sloped) : Type 0 where
   pub run : FunctionRun table (r .count)
   pub shaped : Shaped (reach .end) (r .reach)

@@ -16,7 +16,7 @@ ghost use Rattle.model.specs.Row.{segments, rowOf};
 ghost use Rattle.segments.specs.Columns.{inSpan};
 ghost use Rattle.segments.specs.Looks.{lookedAt};
 ghost use Rattle.segments.specs.Segments.{segmentAt};
-ghost use Rattle.laying.specs.Step.{Overlaps, Keeps, Reached, Steps};
+ghost use Rattle.laying.specs.Step.{Overlaps, Keeps, LieBefore, Reached, Steps};
 
 // The next segment to look at, whether the span may meet it, and how many cells of this one the span lit.
 struct Step {
@@ -113,6 +113,24 @@ fn lay_on(
     }
 }
 
+// How many segments at the front of a row end before a column. A loop of its own, as a row may have many: there is nothing in it but reading and comparing.
+fn segments_before(row: &[u16; 256], column: u16) -> usize
+    ensures { λ r. ⌜ LieBefore (now (row .entry)) column r ⌝ }
+{
+    let mut k: usize = 0;
+    while k < 128 {
+        let p = pair_at(row, k);
+        if p.count == 0 {
+            return k;
+        }
+        if (column as usize) < p.offset as usize + p.count as usize {
+            return k;
+        }
+        k += 1;
+    }
+    k
+}
+
 // The segments are looked at in order, up to the first that ends at or after the span's end. There are at most 128. The cells
 // that the span lights are counted segment by segment, so that no column is looked at for it.
 pub fn sweep(row: &mut [u16; 256], cells: &mut [u16], first: u16, last: u16, panel: u16) -> Swept
@@ -124,8 +142,9 @@ pub fn sweep(row: &mut [u16; 256], cells: &mut [u16], first: u16, last: u16, pan
     ensures looked { λ r. ⌜ ((unlit : ℕ → Bool) → now (row .entry) ≡ rowOf (length (now (cells .entry))) unlit →
         r .looked ≡ lookedAt last (segments (length (now (cells .entry))) unlit)) ⌝ }
 {
-    let mut k: usize = 0;
-    let mut looked: usize = 0;
+    let before = segments_before(row, first);
+    let mut k = before;
+    let mut looked = before;
     let mut lit: u16 = 0;
     while looked < 128 {
         let p = pair_at(row, k);

@@ -16,7 +16,7 @@ use Rattle.geometry.specs.Raster.{lineAt}
 use Rattle.edges.specs.declared.Sight.{Sight}
 use Rattle.scanline.proofs.WalkPainted.{walk-starts}
 use Rattle.conversion.specs.Canvas.{rowPart}
-use Rattle.conversion.specs.Booked.{BookedUpTo}
+use Rattle.conversion.specs.Booked.{Booked}
 use Rattle.conversion.specs.Progress.{WalkPainted}
 use Rattle.conversion.proofs.Parts.{part-long, row-inside}
 use Rattle.conversion.proofs.PatchBooked.{none-booked}
@@ -41,6 +41,6 @@ walk-fresh bytes s order {row} {picture} {booked} n m low fresh size cells none 
           (getD-replicate 128 j row [] (omega (arith, low)) ∙ fresh)
           (getD-replicate 128 j (0 ∷ 0 ∷ 0 ∷ 0 ∷ []) [] (omega (arith, low)) ∙ fresh-map (s .raster .width));
       booked-are =
-          subst (λ (l : List ℕ). BookedUpTo (vecOf (s .eye)) (lineAt (s .raster)) (patchNumbered (decode bytes)) [] (s .raster .width) l (s .raster .height)) (sym none)
+          subst (λ (l : List ℕ). Booked (vecOf (s .eye)) (lineAt (s .raster)) (patchNumbered (decode bytes)) [] (s .raster .width) l (s .raster .height)) (sym none)
           (none-booked (vecOf (s .eye)) (lineAt (s .raster)) (patchNumbered (decode bytes)) (s .raster .width) m (s .raster .height));
     }

@@ -14,7 +14,7 @@ use Rattle.geometry.specs.Raster.{lineAt}
 use Rattle.edges.specs.declared.Sight.{Sight}
 use Rattle.scanline.specs.Shown.{unlitAfter}
 use Rattle.scanline.proofs.WalkPainted.{row-full, walk-ends, full-more}
-use Rattle.conversion.specs.Booked.{BookedUpTo}
+use Rattle.conversion.specs.Booked.{Booked}
 use Rattle.conversion.specs.Progress.{WalkPainted}
 use Rattle.conversion.proofs.PatchBooked.{full-booked}
 use Rattle.painting.specs.Picture.{FullUpTo, WholePainted}
@@ -93,7 +93,7 @@ module _ {bytes : List ℕ} {s : Sight} {order : List ℕ} {picture booked : Lis
           booked-are =
               subst
               (λ (ks : List ℕ).
-              BookedUpTo (vecOf (s .eye)) (lineAt (s .raster)) (patchNumbered (decode bytes)) ks (s .raster .width) booked′ (s .raster .height))
+              Booked (vecOf (s .eye)) (lineAt (s .raster)) (patchNumbered (decode bytes)) ks (s .raster .width) booked′ (s .raster .height))
               (take-append-drop k order)
               (full-booked (vecOf (s .eye)) (lineAt (s .raster)) (patchNumbered (decode bytes)) (s .raster .width) (take k order) (drop k order) full (inv .walk .booked-are));
         }

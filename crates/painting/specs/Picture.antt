@@ -15,7 +15,7 @@ use Rattle.format.specs.declared.layout.Layout.{Layout}
 use Rattle.edges.specs.declared.Sight.{Sight}
 use Rattle.scanline.specs.Shown.{shownAfter, unlitAfter, RowPainted}
 use Rattle.conversion.specs.Canvas.{rowPart}
-use Rattle.conversion.specs.Booked.{BookedUpTo}
+use Rattle.conversion.specs.Booked.{Booked}
 use Rattle.conversion.specs.Progress.{Paintable, WalkPainted}
 
 -- the patches of a walk, by their numbers
@@ -44,6 +44,11 @@ pub record FullUpTo (rows : List (List ℕ)) (from height r : ℕ) : Type 0 wher
   pub below : r ≤ height
   pub full : (j : ℕ) → from ≤ j → j < r → getD (getD rows j []) 1 0 ≡ 0
 
+-- r is the first of them that is not full, or the height
+pub record FirstOpen (rows : List (List ℕ)) (from height r : ℕ) : Type 0 where
+  pub before : FullUpTo rows from height r
+  pub is-open : r < height → getD (getD rows r []) 1 0 ≡ 0 → ⊥
+
 -- the whole walk is painted in each row, and its cells booked
 pub record WholePainted
     (bytes : List ℕ) (s : Sight) (order : List ℕ) (rows words : List (List ℕ)) (picture booked : List ℕ) : Type 0 where
@@ -52,7 +57,7 @@ pub record WholePainted
       RowPainted (vecOf (s .eye)) (λ (i : ℕ). lineAt (s .raster) i j) (walkOf bytes order) (s .raster .width)
       (rowPart (s .raster .width) j picture) (getD rows j []) (getD words j [])
   pub booked-are :
-      BookedUpTo (vecOf (s .eye)) (lineAt (s .raster)) (patchNumbered (decode bytes)) order (s .raster .width) booked (s .raster .height)
+      Booked (vecOf (s .eye)) (lineAt (s .raster)) (patchNumbered (decode bytes)) order (s .raster .width) booked (s .raster .height)
 
 -- what painting a whole picture asks
 pub record PictureAsked

@@ -11,13 +11,13 @@ ghost use Prim.Native.Nat.{_≤_};
 ghost use Rattle.model.specs.Format.{decode, patchNumbered};
 ghost use Rattle.geometry.specs.Machine.{vecOf};
 ghost use Rattle.geometry.specs.Raster.{lineAt};
-ghost use Rattle.conversion.specs.Booked.{BookedUpTo};
-ghost use Rattle.painting.specs.Picture.{walkOf, FullUpTo, WalkAsked, WholePainted, PictureAsked, RowsPainted};
+ghost use Rattle.conversion.specs.Booked.{Booked};
+ghost use Rattle.painting.specs.Picture.{walkOf, FirstOpen, WalkAsked, WholePainted, PictureAsked, RowsPainted};
 
 // The first row from `from` on that is not full; the height where all are.
 fn first_open(rows: &[[u16; 256]; 128], from: usize, height: usize) -> usize
     requires { ⌜ (from ≤ height) × (height ≤ 128) ⌝ }
-    ensures { λ r. ⌜ FullUpTo (now (rows .entry)) from height r ⌝ }
+    ensures { λ r. ⌜ FirstOpen (now (rows .entry)) from height r ⌝ }
 {
     let mut j = from;
     while j < height {
@@ -82,7 +82,7 @@ pub fn paint_rows(
     requires { ⌜ PictureAsked (now bytes) l sight (now order) (now picture) (now unlit) (now lit) (now booked) ⌝ }
     ensures painted { λ r. ⌜ RowsPainted (vecOf (sight .eye)) (lineAt (sight .raster)) (walkOf (now (bytes .entry)) (now (order .entry)))
         (sight .raster .width) (sight .raster .height) (now (picture .exit)) (now (unlit .exit)) (now (lit .exit)) ⌝ }
-    ensures counted { λ r. ⌜ BookedUpTo (vecOf (sight .eye)) (lineAt (sight .raster)) (patchNumbered (decode (now (bytes .entry)))) (now (order .entry))
+    ensures counted { λ r. ⌜ Booked (vecOf (sight .eye)) (lineAt (sight .raster)) (patchNumbered (decode (now (bytes .entry)))) (now (order .entry))
         (sight .raster .width) (now (booked .exit)) (sight .raster .height) ⌝ }
 {
     clear_table(booked);

@@ -22,7 +22,7 @@ use Rattle.walk.proofs.Seen.{accepted, of-walk, first-met-closest}
 use Rattle.walk.proofs.Numbered.{first-has}
 use Rattle.scanline.specs.Shown.{shownAfter, unlitAfter}
 use Rattle.painting.specs.Picture.{RowsPainted}
-use Rattle.conversion.specs.Booked.{BookedUpTo}
+use Rattle.conversion.specs.Booked.{Booked}
 use Rattle.model.proofs.PanelSums.{patch-entries, patch-entry}
 use Rattle.model.proofs.PanelNumbers.{panel-positive}
 use Rattle.scanline.proofs.FirstShown.{unlit-shows-0}
@@ -83,7 +83,7 @@ module _
 pub painted-booked :
     {bytes : List ℕ} → AcceptedScene bytes → (eye : Vec) (ray : ℕ → ℕ → Vec) {width height : ℕ} {booked : List ℕ} →
     length booked ≡ length (decode bytes .patches) →
-    BookedUpTo eye ray (patchNumbered (decode bytes)) (order eye (numberTree (decode bytes))) width booked height →
+    Booked eye ray (patchNumbered (decode bytes)) (order eye (numberTree (decode bytes))) width booked height →
     booked ≡ patchCells eye width height ray (patchTable (decode bytes))
 unfolding patchTable
 painted-booked {bytes} h eye ray {width} {height} {booked} e cells =

@@ -30,7 +30,7 @@ use Rattle.edges.specs.declared.Sight.{Sight}
 use Rattle.edges.specs.Edges.{SightBounded}
 use Rattle.conversion.specs.Progress.{Paintable}
 use Rattle.painting.specs.Picture.{walkOf, Framed, RowsPainted}
-use Rattle.conversion.specs.Booked.{BookedUpTo}
+use Rattle.conversion.specs.Booked.{Booked}
 use Rattle.camera.specs.Rays.{RaysOf}
 use Rattle.camera.proofs.Rays.{line-is}
 use Rattle.rendering.specs.Painted.{Painted}
@@ -50,11 +50,11 @@ as-seen {eye} {walk} {a} {r} {cells} {unlit} {lit} rays seen =
 
 as-booked :
     {eye : Vec} {patch : ℕ → Patch} {order : List ℕ} {a : Camera} {r : Raster} {booked : List ℕ} → RaysOf a r →
-    BookedUpTo eye (lineAt r) patch order (r .width) booked (r .height) →
-    BookedUpTo eye (cellLine a) patch order (a .window .width) booked (a .window .height)
+    Booked eye (lineAt r) patch order (r .width) booked (r .height) →
+    Booked eye (cellLine a) patch order (a .window .width) booked (a .window .height)
 as-booked {eye} {patch} {order} {a} {r} {booked} rays counted =
-    subst (λ (d : ℕ → ℕ → Vec). BookedUpTo eye d patch order (a .window .width) booked (a .window .height)) (λ t i j. line-is a rays i j t)
-    (subst₂ (λ (w h : ℕ). BookedUpTo eye (lineAt r) patch order w booked h) (rays .columns) (rays .rows) counted)
+    subst (λ (d : ℕ → ℕ → Vec). Booked eye d patch order (a .window .width) booked (a .window .height)) (λ t i j. line-is a rays i j t)
+    (subst₂ (λ (w h : ℕ). Booked eye (lineAt r) patch order w booked h) (rays .columns) (rays .rows) counted)
 
 pub raster-framed :
     {a : Camera} {r : Raster} {picture unlit lit : List ℕ} → RaysOf a r → Framed (a .window .width) (a .window .height) picture unlit lit →
@@ -107,14 +107,14 @@ module _ {bytes : List ℕ} {l : Layout} {eye : Vec} {before after : List ℕ} {
     pub painted-all :
         {a : Camera} {r : Raster} {cells unlit lit booked : List ℕ} → RaysOf a r → length booked ≡ length (decode bytes .patches) →
         RowsPainted eye (lineAt r) (walkOf bytes (take n after)) (r .width) (r .height) cells unlit lit →
-        BookedUpTo eye (lineAt r) (patchNumbered (decode bytes)) (take n after) (r .width) booked (r .height) →
+        Booked eye (lineAt r) (patchNumbered (decode bytes)) (take n after) (r .width) booked (r .height) →
         Painted bytes (record { eye = eye; camera = a }) cells unlit lit booked
     painted-all {a} {r} {cells} {unlit} {lit} {booked} rays e seen counted =
         let p : RowsPainted eye (cellLine a) (walked bytes eye) (a .window .width) (a .window .height) cells unlit lit =
         subst (λ (o : List ℕ). RowsPainted eye (cellLine a) (walkOf bytes o) (a .window .width) (a .window .height) cells unlit lit)
         walk-front (as-seen rays seen) in
-        let b : BookedUpTo eye (cellLine a) (patchNumbered (decode bytes)) (order eye (numberTree (decode bytes))) (a .window .width) booked (a .window .height) =
-        subst (λ (o : List ℕ). BookedUpTo eye (cellLine a) (patchNumbered (decode bytes)) o (a .window .width) booked (a .window .height))
+        let b : Booked eye (cellLine a) (patchNumbered (decode bytes)) (order eye (numberTree (decode bytes))) (a .window .width) booked (a .window .height) =
+        subst (λ (o : List ℕ). Booked eye (cellLine a) (patchNumbered (decode bytes)) o (a .window .width) booked (a .window .height))
         walk-front (as-booked rays counted) in
         record {
           cells-are = painted-picture h eye (cellLine a) p;

@@ -4,7 +4,7 @@ use mathlib.Core.Bool.{false}
 use mathlib.Core.List.{[], _∷_}
 use Rattle.text.specs.Text.{ascii, digitsWithin, decimal, spaced}
 use Rattle.model.specs.Row.{usedPairs}
-use Rattle.listing.specs.Listing.{each, hexDigit, hexDigits, wordDigits, spacedWord}
+use Rattle.numerals.specs.Listing.{each, hexDigit, hexDigits, wordDigits, spacedWord}
 use Rattle.row_lines.specs.Line.{beginning, fields, rowLine}
 use Rattle.row_lines.specs.Told.{reported}
 

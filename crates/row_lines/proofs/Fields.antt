@@ -4,7 +4,7 @@ use Prim.Native.Nat.{ℕ}
 use Rattle.text.specs.Text.{ascii, spaced}
 use Rattle.text.specs.Put.{Room, Put}
 use Rattle.text.proofs.Puts.{put-then, room-first, room-then}
-use Rattle.listing.specs.Listing.{each, spacedWord}
+use Rattle.numerals.specs.Listing.{each, spacedWord}
 use Rattle.row_lines.specs.Line.{beginning, fields}
 
 module _ (number : ℕ) (reported pairs words cells : List ℕ) {before : List ℕ}

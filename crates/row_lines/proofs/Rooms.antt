@@ -10,9 +10,9 @@ use mir.Val.{Fits}
 use Rattle.text.specs.Text.{ascii, spaced}
 use Rattle.text.specs.Put.{Room}
 use Rattle.text.proofs.Lengths.{decimal-length, spaced-length}
-use Rattle.listing.specs.Listing.{each, wordDigits, spacedWord}
+use Rattle.numerals.specs.Listing.{each, wordDigits, spacedWord}
 use Rattle.row_lines.specs.Line.{beginning, fields}
-use Rattle.listing.proofs.Digits.{word-length}
+use Rattle.numerals.proofs.Digits.{word-length}
 
 -- texts of at most so many bytes each
 each-length :

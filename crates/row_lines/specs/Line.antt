@@ -2,7 +2,7 @@
 use mathlib.Core.List.{List, _++_}
 use Prim.Native.Nat.{ℕ}
 use Rattle.text.specs.Text.{ascii, decimal, spaced}
-use Rattle.listing.specs.Listing.{each, spacedWord}
+use Rattle.numerals.specs.Listing.{each, spacedWord}
 use Rattle.model.specs.Row.{usedPairs}
 
 -- how a line begins: its number, the numbers reported, and a colon

@@ -1,7 +1,7 @@
 // A row of unlit segments, its words of the lit map and its cells, written as a line, and spans laid with what they report: for the programs that show how spans are laid.
 use console::write_or_tell;
-use listing::put_numbers;
-use listing::put_words;
+use numerals::put_numbers;
+use numerals::put_words;
 use rows::Laid;
 use text::put_byte;
 use text::put_number;

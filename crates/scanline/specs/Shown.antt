@@ -1,10 +1,10 @@
 -- What a row shows after a walk is painted in it.
 use mathlib.Core.Path.{_≡_}
-use mathlib.Core.Bool.{Bool, not, _&&_}
+use mathlib.Core.Bool.{Bool, not}
 use mathlib.Core.List.{List, map}
 use Prim.Native.Nat.{ℕ, _≤_}
 use lib.ListN.{length, take}
-use Rattle.model.specs.Lists.{any, range, tally}
+use Rattle.model.specs.Lists.{any, range}
 use Rattle.model.specs.Vector.{Vec}
 use Rattle.model.specs.Patch.{Patch}
 use Rattle.model.specs.Ray.{met, panelOf, firstMet}
@@ -24,10 +24,6 @@ pub record RowPainted (eye : Vec) (ray : ℕ → Vec) (walk : List Patch) (width
   pub cells-are : cells ≡ map (shownAfter eye ray walk) (range 0 width)
   pub row-is : row ≡ rowOf width (unlitAfter eye ray walk)
   pub words-are : words ≡ mapRow width (unlitAfter eye ray walk)
-
--- how many columns a patch newly lights after some are painted: those whose lines meet it and none of these
-unfoldable pub newlyLit : Vec → (ℕ → Vec) → ℕ → List Patch → Patch → ℕ
-newlyLit eye ray width painted p = tally (λ (i : ℕ). unlitAfter eye ray painted i && met eye (ray i) p) (range 0 width)
 
 -- the first k patches of a walk are painted in the row
 pub record PaintedUpTo

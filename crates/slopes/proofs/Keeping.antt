@@ -155,7 +155,7 @@ module _ {f : ℕ → EdgeFunction} {count : ℕ} {reach : Span} {kept : List �
         KeptUpTo f count reach kept kept″ (r .reach) (r .count) (i + 1)
     keeping-goes {kept″} {r} (inl (e, same, n-is, clipped)) =
         subst₂ (λ (t : List ℤ) (m : ℕ). KeptUpTo f count reach kept t (r .reach) m (i + 1)) (sym same) (sym n-is) (keeping-level e clipped)
-    keeping-goes {kept″} {r} (inr (stored, r-is)) =
+    keeping-goes {kept″} {r} (inr (n, stored, r-is)) =
         subst (λ (s : Sloped). KeptUpTo f count reach kept kept″ (s .reach) (s .count) (i + 1)) (sym r-is) (keeping-sloped stored)
 
     pub one-asked : OneAsked (f i) (record { count = n; reach = left }) kept′

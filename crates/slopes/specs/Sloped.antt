@@ -24,4 +24,4 @@ pub record OneAsked (f : EdgeFunction) (so-far : Sloped) (kept : List ℤ) : Typ
 abbrev pub KeepsOne : EdgeFunction → Sloped → List ℤ → List ℤ → Sloped → Type 0
 KeepsOne f so-far kept kept′ r =
     ((f .slope ≡ pos 0) × (kept′ ≡ kept) × (r .count ≡ so-far .count) × Clipped (f .drop) (f .start) (so-far .reach) (r .reach))
-    ⊎ (Stored functionAt kept kept′ (so-far .count) f × (r ≡ record { count = so-far .count + 1; reach = so-far .reach }))
+    ⊎ ((f .slope ≡ pos 0 → ⊥) × Stored functionAt kept kept′ (so-far .count) f × (r ≡ record { count = so-far .count + 1; reach = so-far .reach }))

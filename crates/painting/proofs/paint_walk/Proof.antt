@@ -47,7 +47,7 @@ returns c =
     let r = round f in
     let l = r .before .loop in
     let e = c .if1 .taken in
-    walk-done (l .inv) (inr (λ j h. found-full (l .inv) (began (planed r) .pre .paintable .narrow) (f .first-open .ensures) j (omega (arith, e))))
+    walk-done (l .inv) (inr (λ j h. found-full (l .inv) (began (planed r) .pre .paintable .narrow) (f .first-open .ensures .before) j (omega (arith, e))))
 
 paint-patch-requires : tie.Need-paint-patch-requires Inv-loop μ-loop
 paint-patch-requires c κs =
@@ -76,7 +76,7 @@ loop-again c =
     let f = c .before .before .before .before .before .before .before .before .before .before in
     let r = round f in
     let l = r .before .loop in
-    walk-goes (l .inv) (r .loop-test .taken) (began (planed r) .pre .paintable .narrow) (f .first-open .ensures)
+    walk-goes (l .inv) (r .loop-test .taken) (began (planed r) .pre .paintable .narrow) (f .first-open .ensures .before)
     (p .paint-patch .kept .1 .1 .1 .1 .1 .1 .1 .1 .0) (p .paint-patch .kept .1 .1 .1 .1 .1 .1 .1 .1 .1 .0) (p .paint-patch .ensures)
 
 same-length-3 : tie.Need-same-length-3 Inv-loop μ-loop

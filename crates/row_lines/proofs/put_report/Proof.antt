@@ -4,7 +4,7 @@ use borrow.Author.Needs.{needs}
 use Rattle.text.specs.Text.{ascii, decimal, spaced}
 use Rattle.text.specs.Put.{Room}
 use Rattle.text.proofs.Puts.{put-then, room-first, room-then}
-use Rattle.listing.specs.Listing.{each}
+use Rattle.numerals.specs.Listing.{each}
 use Rattle.row_lines.specs.Line.{beginning}
 use Rattle.row_lines.proofs.put_report.Statement.{statement}
 use Rattle.row_lines.proofs.put_report.Tie as tie

@@ -1,8 +1,10 @@
 -- `keep_one` meets its contract.
-use mathlib.Core.Path.{refl}
+use mathlib.Core.Path.{refl, ap}
 use mathlib.Core.Logic.{inl, inr}
 use borrow.Author.Needs.{needs}
 use lib.IntN.{ℤ}
+use mir.Syntax.{w64}
+use mir.Val.{ofZ}
 use Rattle.integer.proofs.Comparison.{comparisons}
 use Rattle.spans.specs.Span.{Clipped}
 use Rattle.spans.proofs.RowFunctions.{words-linear, words-as, function-linear}
@@ -23,7 +25,7 @@ returns c =
     )
 
 returns-2 : tie.Need-returns-2
-returns-2 c = inr (c .before .store-function .ensures, refl)
+returns-2 c = inr (λ e. c .before .before .before .if1 .left (ap (ofZ w64) e), c .before .store-function .ensures, refl)
 
 pub keep-one-spec : {M : Type 1} → statement M
 keep-one-spec = tie.close (tie.spec clip-any-requires returns (λ c κs. search needs) (λ c. search needs) (λ c. search needs) returns-2)

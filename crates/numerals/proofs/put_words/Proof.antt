@@ -7,10 +7,10 @@ use lib.ListN.{length, getD}
 use Rattle.text.specs.Text.{ascii}
 use Rattle.text.specs.Put.{Room}
 use Rattle.text.proofs.Puts.{put-then, room-first, room-then}
-use Rattle.listing.specs.Listing.{wordDigits, spacedWord}
-use Rattle.listing.proofs.Lists.{Listed, listed-none, own-room, listed-more, listed-all}
-use Rattle.listing.proofs.put_words.Statement.{statement}
-use Rattle.listing.proofs.put_words.Tie as tie
+use Rattle.numerals.specs.Listing.{wordDigits, spacedWord}
+use Rattle.numerals.proofs.Lists.{Listed, listed-none, own-room, listed-more, listed-all}
+use Rattle.numerals.proofs.put_words.Statement.{statement}
+use Rattle.numerals.proofs.put_words.Tie as tie
 
 abbrev Inv-loop : tie.InvT-loop
 Inv-loop out₀ at words end₀ k₀ out end k = Listed spacedWord words out₀ at out end k × (length out ≡ length out₀)

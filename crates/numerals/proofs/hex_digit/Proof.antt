@@ -1,8 +1,8 @@
 -- `hex_digit` meets its contract: the letters follow the digits below ten.
 use borrow.Author.Needs.{needs}
-use Rattle.listing.proofs.Digits.{hex-low, hex-high}
-use Rattle.listing.proofs.hex_digit.Statement.{statement}
-use Rattle.listing.proofs.hex_digit.Tie as tie
+use Rattle.numerals.proofs.Digits.{hex-low, hex-high}
+use Rattle.numerals.proofs.hex_digit.Statement.{statement}
+use Rattle.numerals.proofs.hex_digit.Tie as tie
 
 returns : tie.Need-returns
 returns c = hex-low (c .before .args .d) (c .if1 .taken)

@@ -5,9 +5,9 @@ use native.Mathlib.Omega.{arith}
 use borrow.Author.Needs.{needs}
 use lib.ListN.{length}
 use Rattle.text.specs.Text.{spaced}
-use Rattle.listing.proofs.Lists.{Listed, listed-none, own-room, listed-more, listed-all}
-use Rattle.listing.proofs.put_numbers.Statement.{statement}
-use Rattle.listing.proofs.put_numbers.Tie as tie
+use Rattle.numerals.proofs.Lists.{Listed, listed-none, own-room, listed-more, listed-all}
+use Rattle.numerals.proofs.put_numbers.Statement.{statement}
+use Rattle.numerals.proofs.put_numbers.Tie as tie
 
 abbrev Inv-loop : tie.InvT-loop
 Inv-loop out₀ at numbers end₀ i₀ out end i = Listed spaced numbers out₀ at out end i × (length out ≡ length out₀)

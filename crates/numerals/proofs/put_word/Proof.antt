@@ -4,9 +4,9 @@ use Prim.Native.Nat.{_+_, _≤_}
 use native.Mathlib.Omega.{arith}
 use borrow.Author.Needs.{needs}
 use lib.ListN.{length, length-set}
-use Rattle.listing.proofs.Digits.{word-length, Ending, ending-none, ending-more, ending-all}
-use Rattle.listing.proofs.put_word.Statement.{statement}
-use Rattle.listing.proofs.put_word.Tie as tie
+use Rattle.numerals.proofs.Digits.{word-length, Ending, ending-none, ending-more, ending-all}
+use Rattle.numerals.proofs.put_word.Statement.{statement}
+use Rattle.numerals.proofs.put_word.Tie as tie
 
 abbrev Inv-loop : tie.InvT-loop
 Inv-loop out₀ at word rest₀ i₀ out rest i = (i ≤ 16) × Ending word out₀ at out rest i × (length out ≡ length out₀)

@@ -7,7 +7,7 @@ use lib.ListN.{length, drop, getD, drop-of-length-le}
 use lib.Seq.{drop-cons}
 use Rattle.text.specs.Put.{Room, Put}
 use Rattle.text.proofs.Puts.{room-same, put-same, put-nothing, put-then, room-first, room-then}
-use Rattle.listing.specs.Listing.{each}
+use Rattle.numerals.specs.Listing.{each}
 
 -- the first i texts are put, and there is room for the others
 pub record Listed (text : ℕ → List ℕ) (ns before : List ℕ) (at : ℕ) (after : List ℕ) (end i : ℕ) : Type 0 where

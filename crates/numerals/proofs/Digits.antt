@@ -9,7 +9,7 @@ use Rattle.model.specs.Lists.{range}
 use Rattle.model.proofs.Ranges.{range-at}
 use Rattle.text.specs.Text.{digit}
 use Rattle.text.specs.Put.{Put}
-use Rattle.listing.specs.Listing.{hexDigit, hexDigits, wordDigits}
+use Rattle.numerals.specs.Listing.{hexDigit, hexDigits, wordDigits}
 
 -- consecutive bytes: the digits below ten are such, and so are the letters after them
 abbrev run : ℕ → ℕ → List ℕ

@@ -5,7 +5,7 @@ ghost use mathlib.Core.Path.{_≡_};
 ghost use Prim.Native.Nat.{_<_};
 ghost use Rattle.text.specs.Text.{spaced};
 ghost use Rattle.text.specs.Put.{Room, Put};
-ghost use Rattle.listing.specs.Listing.{each, hexDigit, wordDigits, spacedWord};
+ghost use Rattle.numerals.specs.Listing.{each, hexDigit, wordDigits, spacedWord};
 
 // Each number after a space.
 pub fn put_numbers(out: &mut [u8], at: usize, numbers: &[u16]) -> usize
