@@ -7,7 +7,7 @@ use Prim.Native.Nat.{ℕ, zero, suc, _+_, _*_, _<_}
 use native.Mathlib.Nat.{not-suc-le-zero, zero-add}
 use native.Mathlib.Omega.{arith}
 use lib.IntN.{ℤ, pos, negsuc, _+ℤ_, _*ℤ_}
-use lib.ListN.{length, length-map}
+use lib.ListN.{length}
 use lib.Signed.{ltZ, ltZ-yes, leZ-yes}
 use Rattle.integer.specs.Magnitude.{signOf}
 use Rattle.integer.proofs.Identity.{ring, reify}

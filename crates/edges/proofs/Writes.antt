@@ -14,7 +14,6 @@ use Rattle.geometry.specs.declared.Raster.{Raster}
 use Rattle.geometry.specs.declared.EdgeFunction.{EdgeFunction}
 use Rattle.geometry.specs.Machine.{vecOf}
 use Rattle.geometry.specs.Raster.{seenBy, FunctionIs, FunctionBounded}
-use Rattle.tables.specs.Functions.{functionsIn}
 use Rattle.spans.specs.declared.Span.{Span}
 use Rattle.spans.specs.Span.{covers}
 use Rattle.spans.specs.Row.{allAbove}

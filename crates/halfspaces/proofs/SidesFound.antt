@@ -1,12 +1,11 @@
 -- On which sides of a plane a patch has corners, and what that says of it.
 use mathlib.Core.Path.{_≡_, refl, sym, ap, ap₂, subst, _∙_}
-use mathlib.Core.Bool.{Bool, true, false, _&&_, _||_, Bool·beq, or-true, or-false}
+use mathlib.Core.Bool.{Bool, true, false, _&&_, _||_, Bool·beq, or-false}
 use mathlib.Core.List.{List, [], _∷_, map, map-append}
 use Prim.Native.Nat.{ℕ, _+_, _≤_, _<_}
 use native.Mathlib.Omega.{arith}
 use lib.IntN.{ℤ, pos}
-use lib.Signed.{ltZ, _<ℤ_, _≤ℤ_}
-use Rattle.integer.proofs.Order.{lt-ltZ, le-ltZ, <→≤}
+use lib.Signed.{ltZ}
 use Rattle.model.specs.Lists.{any, range}
 use Rattle.model.specs.Vector.{Vec}
 use Rattle.model.specs.Format.{decode, patchNumbered}

@@ -17,7 +17,7 @@ use Rattle.model.proofs.Tests.{both, of-append, of-one}
 use Rattle.geometry.specs.declared.Vector.{Vector}
 use Rattle.geometry.specs.Machine.{vecOf, Bounded, NumberIs}
 use Rattle.spans.specs.declared.Span.{Span}
-use Rattle.spans.specs.Span.{covers, Shaped, numberAt, Linear, Clipped}
+use Rattle.spans.specs.Span.{covers, numberAt, Linear, Clipped}
 use Rattle.spans.proofs.RowFunctions.{words-linear}
 use Rattle.spans.proofs.Rows.{shaped-all}
 use Rattle.model.proofs.Ranges.{range-append}
