@@ -9,4 +9,4 @@ for text in samples/stations/*.txt; do
     python3 tools/scene.py build "$text" - | cmp - "crates/stations/data/$(basename "$text" .txt)"
 done
 tests/outside/stub/check.sh
-tests/outside/target/stub/release/selftest | grep -v '^holds \|^found '
+tests/outside/target/release/selftest | grep -v '^holds \|^found '

@@ -21,7 +21,7 @@ gives() {
     fi
 }
 
-model() { (cd "$root/tests/outside" && cargo run --quiet --release --offline --features library --bin selftest -- --bill); }
+model() { (cd "$root/tests/outside" && cargo run --quiet --release --offline --bin selftest -- --bill); }
 
 # billed VIEW BILL: the two independent programs and `ringbill` print this bill
 billed() {

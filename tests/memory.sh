@@ -10,7 +10,7 @@ set -eu
 SURVEY_LIB_DIR=$(cd "$SURVEY_LIB_DIR" && pwd)
 export SURVEY_LIB_DIR
 cd "$(dirname "$0")/outside"
-cargo build --release --offline --quiet --features library --bin differential
+cargo build --release --offline --quiet --package differential
 exec valgrind --quiet --error-exitcode=99 \
     --leak-check=full --errors-for-leak-kinds=definite \
     "${CARGO_TARGET_DIR:-target}/release/differential" \

@@ -25,7 +25,7 @@ from_c() {
     tests/console.sh "$SURVEY_LIB_DIR"
 }
 from_c >"$log" 2>&1 &
-(cd tests/outside && cargo build --quiet --release --offline --features library)
+(cd tests/outside && cargo build --quiet --release --offline --workspace)
 # The benchmark takes its scenes and calls from the program just built: its peers are tried, nothing is timed, so that it need not be optimised as a whole.
 (cd bench && cargo run --quiet --release --offline --config 'profile.release.lto="off"' --config profile.release.codegen-units=16 -- --only none >/dev/null)
 wait $! && status=0 || status=$?
@@ -34,9 +34,9 @@ cat "$log"
 
 tests/bills.sh "$ringbill"
 tests/failures.sh "$programs"
-(cd tests/outside && cargo run --quiet --release --offline --features library --bin laying -- --sequences $((cases / 5)) --seed "$seed" --rows-laid "$programs/rows_laid" --rows-worst "$programs/rows_worst")
+(cd tests/outside && cargo run --quiet --release --offline --bin laying -- --sequences $((cases / 5)) --seed "$seed" --rows-laid "$programs/rows_laid" --rows-worst "$programs/rows_worst")
 tests/memory.sh 100 "$seed" >"$log" 2>&1 &
-(cd tests/outside && cargo run --quiet --release --offline --features library --bin differential -- --cases "$cases" --seed "$seed" --ringbill "$ringbill")
+(cd tests/outside && cargo run --quiet --release --offline --package differential -- --cases "$cases" --seed "$seed" --ringbill "$ringbill")
 wait $! && status=0 || status=$?
 cat "$log"
 [ "$status" -eq 0 ]

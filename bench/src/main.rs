@@ -4,7 +4,7 @@
 mod check;
 mod clock;
 mod jobs;
-#[path = "../../tests/outside/src/library.rs"]
+#[path = "../../tests/outside/linked/src/library.rs"]
 mod library;
 mod memory;
 mod options;

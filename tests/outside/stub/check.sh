@@ -7,16 +7,17 @@ here=$(cd "$(dirname "$0")" && pwd)
 work=$(mktemp -d)
 trap 'rm -rf "$work"' EXIT
 cd "$here/.."
-# The build is kept apart from that with the library, and is done once.
-built=${CARGO_TARGET_DIR:-target}/stub
-mkdir -p "$built"
+# What is linked is kept apart from what is linked with the library.
+products=${CARGO_TARGET_DIR:-target}
+mkdir -p "$products/stub"
+built=$(cd "$products/stub" && pwd)
 [ "$built/libsurvey.a" -nt "$here/stub.c" ] || {
     ${CC:-cc} -std=c11 -Wall -Wextra -O1 -g -c "$here/stub.c" -o "$built/stub.o"
     ar rcs "$built/libsurvey.a" "$built/stub.o"
 }
-export SURVEY_LIB_DIR="$built" CARGO_TARGET_DIR="$built"
-cargo build --release --offline --quiet --features library
-differential="$built/release/differential"
+SURVEY_LIB_DIR="$built" cargo build --release --offline --quiet --workspace
+cp "$products/release/differential" "$built/differential"
+differential=$built/differential
 # A number that no bill has: its view is level.
 printf '#!/bin/sh\ncat >/dev/null\necho refused 14\n' >"$work/ringbill"
 chmod +x "$work/ringbill"
@@ -74,7 +75,7 @@ fi
 "$differential" --no-such-word 2>/dev/null && exit 1
 
 # The programs of rows: the model in their place, and with it wrong in one way.
-laying="$built/release/laying" selftest=$(cd "$built/release" && pwd)/selftest
+laying=$built/../release/laying selftest=$built/../release/selftest
 # rows NAME COMMAND: a program in the folder of this run
 rows() {
     printf '#!/bin/sh\n%s\n' "$2" >"$work/$1"
