@@ -1,6 +1,4 @@
--- One segment, and all of them one after the other.
-mod Keeping
+-- All segments, one after the other.
 mod Passing
-pub mod Stepping
 mod Sweeping
 mod Sweeps

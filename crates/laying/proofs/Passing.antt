@@ -12,9 +12,8 @@ use borrow.Author.Tests.{lt-ltb, lt-leb}
 use Rattle.model.specs.Row.{Segment}
 use Rattle.segments.specs.Segments.{segmentAt, Reads}
 use Rattle.positions.specs.Positions.{Acts}
-use Rattle.laying.specs.Laid.{Row}
-use Rattle.laying.specs.Step.{LieBefore}
-use Rattle.laying.proofs.Stepping.{steps-missed}
+use Rattle.laying.specs.Laid.{Row, LieBefore}
+use Rattle.stepping.proofs.Stepping.{steps-missed}
 use Rattle.laying.proofs.Sweeps.{Sweeps, starts, sweep-reached, sweep-goes}
 
 -- the first k segments end before a column

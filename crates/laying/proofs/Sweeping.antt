@@ -15,7 +15,7 @@ use Rattle.segments.specs.Columns.{inSpan, painted, remainsBefore, remains}
 use Rattle.laying.specs.Laid.{Row, Lays}
 use Rattle.segments.specs.Segments.{inSegment, Placed, Ordered, rowFrom, segmentAt, Holds}
 use Rattle.segments.specs.Looks.{lookedAt}
-use Rattle.laying.specs.Step.{Steps}
+use Rattle.stepping.specs.Step.{Steps}
 use Rattle.model.proofs.Tests.{lt-or-ge}
 use Rattle.segments.proofs.Segments.{member, lower, tail-ordered, head-placed, column-after, member-before}
 use Rattle.segments.proofs.Sets.{segments-ordered, segments-member, segments-congr, few}
@@ -26,8 +26,8 @@ use Rattle.segments.proofs.Tallies.{tally-or, tally-congr, tally-clear}
 use Rattle.segments.proofs.Numbers.{shaped}
 use Rattle.pairs.proofs.Moves.{read-here, two-zeros}
 use Rattle.segments.proofs.Remains.{after-none, one-before, cut-rest}
-use Rattle.laying.proofs.Keeping.{held-segment}
-use Rattle.laying.proofs.Stepping.{spanned}
+use Rattle.stepping.proofs.Keeping.{held-segment}
+use Rattle.stepping.proofs.Stepping.{spanned}
 
 -- the span has been laid on the segments before `rest`; it is still to be laid on these
 pub record Sweeping (row₀ cells₀ : List ℕ) (first last panel : ℕ) (row cells : List ℕ) (k looked lit : ℕ) (rest : List Segment) : Type 0 where

@@ -11,12 +11,12 @@ use Rattle.laying.specs.Laid.{Row}
 use Rattle.segments.specs.Columns.{inSpan}
 use Rattle.segments.specs.Looks.{lookedAt}
 use Rattle.segments.specs.Segments.{inSegment, Placed, rowFrom, segmentAt, Reads}
-use Rattle.laying.specs.Step.{Reached, Steps}
+use Rattle.stepping.specs.Step.{Reached, Steps}
 use Rattle.segments.proofs.Segments.{member, head-placed}
 use Rattle.segments.proofs.Cut.{cut}
 use Rattle.segments.proofs.Painting.{painted-none}
 use Rattle.segments.proofs.Tallies.{tally-most, tally-clear}
-use Rattle.laying.proofs.Keeping.{held-segment}
+use Rattle.stepping.proofs.Keeping.{held-segment}
 use Rattle.laying.proofs.Sweeping.{Sweeping, Swept, sweep-starts, swept, held-end, step-stops, step-goes}
 
 -- some segments are left

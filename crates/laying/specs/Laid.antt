@@ -1,11 +1,13 @@
 -- Laying a span of columns on a row's segments.
 use mathlib.Core.Path.{_≡_}
+use mathlib.Core.Logic.{_⊎_}
 use mathlib.Core.Bool.{Bool, _&&_}
 use mathlib.Core.List.{List}
-use Prim.Native.Nat.{ℕ, _≤_}
+use Prim.Native.Nat.{ℕ, _+_, _≤_, _<_}
 use lib.ListN.{length}
 use Rattle.model.specs.Row.{rowOf, afterSpan}
 use Rattle.segments.specs.Columns.{inSpan, painted}
+use Rattle.segments.specs.Segments.{segmentAt}
 
 -- the numbers are those of a row under work, for some set of unlit columns
 pub record Row (width : ℕ) (row : List ℕ) : Type 0 where
@@ -18,3 +20,9 @@ pub record Row (width : ℕ) (row : List ℕ) : Type 0 where
 pub record Lays (unlit : ℕ → Bool) (first last panel : ℕ) (cells row′ cells′ : List ℕ) : Type 0 where
   pub row-is : row′ ≡ rowOf (length cells) (afterSpan unlit first last)
   pub cells-are : cells′ ≡ painted (λ (i : ℕ). unlit i && inSpan first last i) panel cells
+
+-- so many segments at the front of a row end before a column, and the next one does not, if there is one
+pub record LieBefore (row : List ℕ) (column r : ℕ) : Type 0 where
+  pub few : r ≤ 128
+  pub each : (m : ℕ) → m < r → (0 < segmentAt row m .count) × (segmentAt row m .offset + segmentAt row m .count ≤ column)
+  pub next : r < 128 → (segmentAt row r .count ≡ 0) ⊎ (column < segmentAt row r .offset + segmentAt row r .count)

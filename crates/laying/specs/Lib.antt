@@ -1,3 +1,2 @@
--- What the contracts of this crate cite: laying a span, and the parts that it is made of.
+-- What the contracts of this crate cite: laying a span.
 pub mod Laid
-pub mod Step

@@ -18,7 +18,8 @@ use Rattle.edges.specs.declared.Sight.{Sight}
 use Rattle.lists.specs.Writing.{WritingAsked, rowAfterRow}
 use Rattle.lists.proofs.Written.{last-row}
 use Rattle.conversion.specs.Canvas.{rowPart}
-use Rattle.painting.specs.Picture.{walkOf, WholePainted, RowsPainted}
+use Rattle.traversal.specs.Walk.{walkOf, WholePainted}
+use Rattle.painting.specs.Picture.{RowsPainted}
 
 -- the front of a list, as so many rows
 rows-front : (width : ℕ) (list : List ℕ) (j : ℕ) → take (j * width) list ≡ flatten (map (λ (m : ℕ). rowPart width m list) (range 0 j))

@@ -29,7 +29,8 @@ use Rattle.geometry.specs.Raster.{lineAt}
 use Rattle.edges.specs.declared.Sight.{Sight}
 use Rattle.edges.specs.Edges.{SightBounded}
 use Rattle.conversion.specs.Progress.{Paintable}
-use Rattle.painting.specs.Picture.{walkOf, Framed, RowsPainted}
+use Rattle.traversal.specs.Walk.{walkOf}
+use Rattle.painting.specs.Picture.{Framed, RowsPainted}
 use Rattle.conversion.specs.Booked.{Booked}
 use Rattle.camera.specs.Rays.{RaysOf}
 use Rattle.camera.proofs.Rays.{line-is}

@@ -15,7 +15,7 @@ use Rattle.segments.proofs.Cut.{span-empty}
 use Rattle.segments.proofs.Full.{first-length}
 use Rattle.segments.proofs.Painting.{painted-none}
 use Rattle.segments.proofs.Tallies.{tally-clear}
-use Rattle.laying.proofs.Stepping.{spanned}
+use Rattle.stepping.proofs.Stepping.{spanned}
 
 pub reports :
     {unlit : ℕ → Bool} {first last panel : ℕ} {cells row′ cells′ : List ℕ} → length cells ≤ 256 →

@@ -10,7 +10,7 @@ use Rattle.model.specs.Row.{Segment, numbersOf}
 use Rattle.segments.specs.Segments.{rowFrom, segmentAt, written, Holds, Reads}
 use Rattle.segments.specs.Columns.{remains}
 use Rattle.pairs.specs.Pairs.{Inserts, Removes}
-use Rattle.laying.specs.Step.{Overlaps, Keeps}
+use Rattle.stepping.specs.Step.{Overlaps, Keeps}
 use Rattle.segments.proofs.Segments.{lower, tail-ordered, head-placed}
 use Rattle.segments.proofs.Remains.{before-some, before-none, after-some, after-none}
 use Rattle.segments.proofs.Numbers.{shaped, shape-row, pair-written}

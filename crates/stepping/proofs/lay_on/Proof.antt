@@ -3,9 +3,9 @@ use Prim.Native.Nat.{_≤_, _<_}
 use native.Mathlib.Omega.{arith}
 use borrow.Author.Needs.{needs}
 use lib.ListN.{length}
-use Rattle.laying.proofs.Stepping.{overlaps, run-placed, steps-met, steps-missed}
-use Rattle.laying.proofs.lay_on.Statement.{statement}
-use Rattle.laying.proofs.lay_on.Tie as tie
+use Rattle.stepping.proofs.Stepping.{overlaps, run-placed, steps-met, steps-missed}
+use Rattle.stepping.proofs.lay_on.Statement.{statement}
+use Rattle.stepping.proofs.lay_on.Tie as tie
 
 pair-at-requires : tie.Need-pair-at-requires
 pair-at-requires c κs = search needs

@@ -15,14 +15,14 @@ use Rattle.model.proofs.Tests.{same-test, both}
 use Rattle.segments.specs.Columns.{inSpan, painted, piece, remainsBefore, remains}
 use Rattle.segments.specs.Segments.{inSegment, Placed, segmentAt, Reads}
 use Rattle.positions.specs.Positions.{Acts}
-use Rattle.laying.specs.Step.{Overlaps, Keeps, Reached, Steps}
+use Rattle.stepping.specs.Step.{Overlaps, Keeps, Reached, Steps}
 use Rattle.segments.proofs.Tests.{same-le, failed, and-failed}
 use Rattle.segments.proofs.Segments.{column-bounds, bounds-column}
 use Rattle.segments.proofs.Remains.{apart}
 use Rattle.segments.proofs.Painting.{painted-congr, painted-none}
 use Rattle.segments.proofs.Tallies.{tally-congr, tally-clear, tally-span}
 use Rattle.pairs.proofs.Moves.{read-segment}
-use Rattle.laying.proofs.Keeping.{held-segment}
+use Rattle.stepping.proofs.Keeping.{held-segment}
 
 advance : (b : Bool) (s : Segment) (k : ℕ) → cond b (k + 1) k ≡ k + length (piece b s)
 advance true s k = refl

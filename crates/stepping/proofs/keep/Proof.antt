@@ -1,9 +1,9 @@
 -- `keep` meets its contract: each of its four arms leaves what the span leaves.
 use native.Mathlib.Omega.{arith}
 use borrow.Author.Needs.{needs}
-use Rattle.laying.proofs.Keeping.{starts-after, ends-before, keeps-both, keeps-before, keeps-after, keeps-none}
-use Rattle.laying.proofs.keep.Statement.{statement}
-use Rattle.laying.proofs.keep.Tie as tie
+use Rattle.stepping.proofs.Keeping.{starts-after, ends-before, keeps-both, keeps-before, keeps-after, keeps-none}
+use Rattle.stepping.proofs.keep.Statement.{statement}
+use Rattle.stepping.proofs.keep.Tie as tie
 
 pair-at-requires : tie.Need-pair-at-requires
 pair-at-requires c κs = search needs

@@ -17,7 +17,7 @@ use Rattle.scanline.proofs.WalkPainted.{row-full, walk-ends, full-more}
 use Rattle.conversion.specs.Booked.{Booked}
 use Rattle.conversion.specs.Progress.{WalkPainted}
 use Rattle.conversion.proofs.PatchBooked.{full-booked}
-use Rattle.painting.specs.Picture.{FullUpTo, WholePainted}
+use Rattle.traversal.specs.Walk.{FullUpTo, WholePainted}
 
 -- ---- full rows, one after the other
 

@@ -4,9 +4,9 @@ use mathlib.Core.Logic.{inl, inr}
 use Prim.Native.Nat.{_-_}
 use native.Mathlib.Omega.{arith}
 use lib.ListN.{length}
-use Rattle.painting.proofs.Walking.{Going, walk-starts, found-full, walk-goes, walk-done}
-use Rattle.painting.proofs.paint_walk.Statement.{statement}
-use Rattle.painting.proofs.paint_walk.Tie as tie
+use Rattle.traversal.proofs.Walking.{Going, walk-starts, found-full, walk-goes, walk-done}
+use Rattle.traversal.proofs.paint_walk.Statement.{statement}
+use Rattle.traversal.proofs.paint_walk.Tie as tie
 
 abbrev Inv-loop : tie.InvT-loop
 Inv-loop bytes l order sight rows₀ words₀ picture₀ booked₀ planes height top₀ k₀ rows words picture booked top k =

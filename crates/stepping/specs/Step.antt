@@ -1,6 +1,5 @@
 -- What the parts of laying a span do with one segment.
 use mathlib.Core.Path.{_≡_}
-use mathlib.Core.Logic.{_⊎_}
 use mathlib.Core.Bool.{Bool, _&&_}
 use mathlib.Core.List.{List, _∷_, _++_}
 use Prim.Native.Nat.{ℕ, suc, _+_, _≤_, _<_}
@@ -25,12 +24,6 @@ pub record Overlaps (k first last : ℕ) (s : Segment) (before after : Bool) : T
   pub ends : s .offset ≤ last
   pub before-is : before ≡ ltb (s .offset) first
   pub after-is : after ≡ ltb (suc last) (s .offset + s .count)
-
--- so many segments at the front of a row end before a column, and the next one does not, if there is one
-pub record LieBefore (row : List ℕ) (column r : ℕ) : Type 0 where
-  pub few : r ≤ 128
-  pub each : (m : ℕ) → m < r → (0 < segmentAt row m .count) × (segmentAt row m .offset + segmentAt row m .count ≤ column)
-  pub next : r < 128 → (segmentAt row r .count ≡ 0) ⊎ (column < segmentAt row r .offset + segmentAt row r .count)
 
 -- segment k is one that a span can be laid on
 pub record Reached (k first last : ℕ) (row cells : List ℕ) : Type 0 where

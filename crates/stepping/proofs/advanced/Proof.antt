@@ -1,7 +1,7 @@
 -- `advanced` meets its contract: each arm is a case of it.
 use borrow.Author.Needs.{needs}
-use Rattle.laying.proofs.advanced.Statement.{statement}
-use Rattle.laying.proofs.advanced.Tie as tie
+use Rattle.stepping.proofs.advanced.Statement.{statement}
+use Rattle.stepping.proofs.advanced.Tie as tie
 
 add-result : tie.Need-add-result
 add-result c = search needs

@@ -2,10 +2,10 @@
 use Prim.Native.Nat.{_-_}
 use native.Mathlib.Omega.{arith}
 use denote.Ref.{now}
-use Rattle.painting.specs.Picture.{FullUpTo}
-use Rattle.painting.proofs.Walking.{full-none, one-more-full}
-use Rattle.painting.proofs.first_open.Statement.{statement}
-use Rattle.painting.proofs.first_open.Tie as tie
+use Rattle.traversal.specs.Walk.{FullUpTo}
+use Rattle.traversal.proofs.Walking.{full-none, one-more-full}
+use Rattle.traversal.proofs.first_open.Statement.{statement}
+use Rattle.traversal.proofs.first_open.Tie as tie
 
 abbrev Inv-loop : tie.InvT-loop
 Inv-loop rows from height j₀ j = FullUpTo rows from height j

@@ -1,0 +1,3 @@
+-- What a span leaves of one segment.
+pub mod Keeping
+pub mod Stepping

@@ -1,0 +1,2 @@
+-- A walk that goes on, row by row full.
+mod Walking
