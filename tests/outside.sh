@@ -4,7 +4,7 @@
 #   outside.sh [CASES [SEED]]      more cases, or others; for each case there are two pairs of cuttings besides, and for five of them a sequence of spans
 set -euo pipefail
 cd "$(dirname "${BASH_SOURCE[0]}")/.."
-cases=${1:-2000}
+cases=${1:-3000}
 seed=${2:-1}
 
 log=$(mktemp)
