@@ -12,28 +12,23 @@ use borrow.Author.Tests.{lt-ltb, lt-leb}
 use Rattle.model.specs.Row.{Segment}
 use Rattle.segments.specs.Segments.{segmentAt, Reads}
 use Rattle.positions.specs.Positions.{Acts}
-use Rattle.laying.specs.Laid.{Row, LieBefore}
+use Rattle.laying.specs.Laid.{Row, Before, AllBefore}
 use Rattle.stepping.proofs.Stepping.{steps-missed}
 use Rattle.laying.proofs.Sweeps.{Sweeps, starts, sweep-reached, sweep-goes}
-
--- the first k segments end before a column
-pub record Before (row : List ℕ) (column k : ℕ) : Type 0 where
-  pub few : k ≤ 128
-  pub each : (m : ℕ) → m < k → (0 < segmentAt row m .count) × (segmentAt row m .offset + segmentAt row m .count ≤ column)
 
 pub before-none : (row : List ℕ) (column : ℕ) → Before row column 0
 before-none row column = record { few = omega arith; each = λ m h. absurd (omega arith) }
 
 module _ {row : List ℕ} {column k : ℕ} (before : Before row column k) where
-  pub before-out : 128 ≤ k → LieBefore row column k
-  before-out h = record { few = before .few; each = before .each; next = λ l. absurd (omega arith) }
+  pub before-out : 128 ≤ k → AllBefore row column k
+  before-out h = record { before = before; next = λ l. absurd (omega arith) }
 
   module _ {offset count : ℕ} (r : Reads row k offset count) where
-    pub before-ends : count ≡ 0 → LieBefore row column k
-    before-ends e = record { few = before .few; each = before .each; next = λ l. inl (omega (arith, r .count-is)) }
+    pub before-ends : count ≡ 0 → AllBefore row column k
+    before-ends e = record { before = before; next = λ l. inl (omega (arith, r .count-is)) }
 
-    pub before-stops : column < offset + count → LieBefore row column k
-    before-stops e = record { few = before .few; each = before .each; next = λ l. inr (omega (arith, r .offset-is, r .count-is)) }
+    pub before-stops : column < offset + count → AllBefore row column k
+    before-stops e = record { before = before; next = λ l. inr (omega (arith, r .offset-is, r .count-is)) }
 
     pub before-more : k < 128 → (count ≡ 0 → ⊥) → offset + count ≤ column → Before row column (k + 1)
     before-more h n e = record { few = omega arith; each = λ m l. at m l (ℕ-discrete m k) }
@@ -50,14 +45,14 @@ module _ {row : List ℕ} {column k : ℕ} (before : Before row column k) where
 
 -- laying the span may begin after them, as if it had been laid on each
 module _ {row cells : List ℕ} (first last panel : ℕ) (span : first ≤ last) (r : Row (length cells) row) where
-  pub passes : {n : ℕ} → LieBefore row first n → Sweeps row cells first last panel row cells n n 0
-  passes {n} before = go n (omega arith)
+  pub passes : {n : ℕ} → AllBefore row first n → Sweeps row cells first last panel row cells n n 0
+  passes {n} all = go n (omega arith)
     where
       go : (m : ℕ) → m ≤ n → Sweeps row cells first last panel row cells m m 0
       go zero h = starts first last panel r
       go (suc m) h =
           let s : Segment = segmentAt row m in
-          let b = before .each m (omega arith) in
+          let b = all .before .each m (omega arith) in
           let on = go m (omega arith) .on in
           let reads : Reads row m (s .offset) (s .count) = record { offset-is = refl; count-is = refl } in
           let right : ℕ = s .offset + (s .count - 1) in
@@ -69,7 +64,7 @@ module _ {row cells : List ℕ} (first last panel : ℕ) (span : first ≤ last)
             next-is = sym (lt-ltb right last (omega arith));
           } in
           let some : s .count ≡ 0 → ⊥ = λ e. omega arith in
-          let reached = sweep-reached span reads on (omega (arith, before .few)) some in
+          let reached = sweep-reached span reads on (omega (arith, all .before .few)) some in
           let one : m + 1 ≡ suc m = omega arith in
           subst (λ (k : ℕ). Sweeps row cells first last panel row cells k k 0) one
-          (sweep-goes span reads (steps-missed reached reads acts refl refl) on (omega (arith, before .few)) some refl)
+          (sweep-goes span reads (steps-missed reached reads acts refl refl) on (omega (arith, all .before .few)) some refl)

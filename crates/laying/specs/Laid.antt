@@ -21,8 +21,12 @@ pub record Lays (unlit : ℕ → Bool) (first last panel : ℕ) (cells row′ ce
   pub row-is : row′ ≡ rowOf (length cells) (afterSpan unlit first last)
   pub cells-are : cells′ ≡ painted (λ (i : ℕ). unlit i && inSpan first last i) panel cells
 
--- so many segments at the front of a row end before a column, and the next one does not, if there is one
-pub record LieBefore (row : List ℕ) (column r : ℕ) : Type 0 where
-  pub few : r ≤ 128
-  pub each : (m : ℕ) → m < r → (0 < segmentAt row m .count) × (segmentAt row m .offset + segmentAt row m .count ≤ column)
-  pub next : r < 128 → (segmentAt row r .count ≡ 0) ⊎ (column < segmentAt row r .offset + segmentAt row r .count)
+-- the first k segments of a row end before a column
+pub record Before (row : List ℕ) (column k : ℕ) : Type 0 where
+  pub few : k ≤ 128
+  pub each : (m : ℕ) → m < k → (0 < segmentAt row m .count) × (segmentAt row m .offset + segmentAt row m .count ≤ column)
+
+-- they do, and the next one does not, if there is one
+pub record AllBefore (row : List ℕ) (column k : ℕ) : Type 0 where
+  pub before : Before row column k
+  pub next : k < 128 → (segmentAt row k .count ≡ 0) ⊎ (column < segmentAt row k .offset + segmentAt row k .count)

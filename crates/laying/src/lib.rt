@@ -9,7 +9,7 @@ ghost use Rattle.model.specs.Lists.{range, tally};
 ghost use Rattle.model.specs.Row.{segments, rowOf};
 ghost use Rattle.segments.specs.Columns.{inSpan};
 ghost use Rattle.segments.specs.Looks.{lookedAt};
-ghost use Rattle.laying.specs.Laid.{Row, Lays, LieBefore};
+ghost use Rattle.laying.specs.Laid.{Row, Lays, AllBefore};
 
 // What a sweep counts.
 pub struct Swept {
@@ -21,7 +21,7 @@ pub struct Swept {
 
 // How many segments at the front of a row end before a column. A loop of its own, as a row may have many: there is nothing in it but reading and comparing.
 fn segments_before(row: &[u16; 256], column: u16) -> usize
-    ensures { λ r. ⌜ LieBefore (now (row .entry)) column r ⌝ }
+    ensures { λ r. ⌜ AllBefore (now (row .entry)) column r ⌝ }
 {
     let mut k: usize = 0;
     while k < 128 {

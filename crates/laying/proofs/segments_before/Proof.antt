@@ -1,7 +1,8 @@
 -- `segments_before` meets its contract: the first k segments end before the column.
 use Prim.Native.Nat.{_-_}
 use native.Mathlib.Omega.{arith}
-use Rattle.laying.proofs.Passing.{Before, before-none, before-out, before-ends, before-stops, before-more}
+use Rattle.laying.specs.Laid.{Before}
+use Rattle.laying.proofs.Passing.{before-none, before-out, before-ends, before-stops, before-more}
 use Rattle.laying.proofs.segments_before.Statement.{statement}
 use Rattle.laying.proofs.segments_before.Tie as tie
 
