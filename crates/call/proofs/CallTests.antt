@@ -36,6 +36,18 @@ module _ (a b c d r : Bool) (first : r ≡ a) where
       pub fourth-decides : (u : Bool) → u ≡ d → r ≡ true → s ≡ true → t ≡ true → u ≡ (a && b && c && d)
       fourth-decides u fourth e f g = simp (← first, ← second, ← third, ← fourth, e, f, g)
 
+-- the same of three tests
+module _ (a b c r : Bool) (first : r ≡ a) where
+  pub first-of-three : r ≡ false → false ≡ (a && b && c)
+  first-of-three f = simp (← first, f)
+
+  module _ (s : Bool) (second : s ≡ b) where
+    pub second-of-three : s ≡ false → false ≡ (a && b && c)
+    second-of-three f = simp (← second, f, and-false)
+
+    pub third-of-three : (t : Bool) → t ≡ c → r ≡ true → s ≡ true → t ≡ (a && b && c)
+    third-of-three t third e f = simp (← first, ← second, ← third, e, f)
+
 module _ (area height patches picture counts patchCounts unlit lit : ℕ) where
   abbrev fit : Bool
   fit =

@@ -7,8 +7,10 @@ use geometry::cross_product;
 use geometry::dot_product;
 use geometry::parts_up_to;
 ghost use mathlib.Core.Path.{_≡_};
-ghost use Prim.Native.Nat.{_*_};
-ghost use Rattle.model.specs.Questions.{within, viewInRange, axesProper, lengthsFit, counterBelowEnd};
+ghost use Prim.Native.Nat.{_+_, _*_, _<_};
+ghost use lib.Dec.{T, leb};
+ghost use Rattle.model.specs.Questions.{within, windowInRange, tileInWindow, viewInRange, axesProper, lengthsFit, counterBelowEnd};
+ghost use Rattle.model.specs.Picture.{nextCounter};
 ghost use Rattle.camera.specs.Machine.{axesOf, cameraOf, viewOf};
 
 fn between(low: u16, n: u16, high: u16) -> bool
@@ -20,6 +22,43 @@ fn between(low: u16, n: u16, high: u16) -> bool
     n <= high
 }
 
+// the window's part of question 10
+fn window_in_range(camera: Camera) -> bool
+    ensures { λ r. ⌜ r ≡ windowInRange (cameraOf camera .window) ⌝ }
+{
+    if !between(1, camera.width, 1024) {
+        return false;
+    }
+    if !between(1, camera.height, 512) {
+        return false;
+    }
+    between(1, camera.lens, 4096)
+}
+
+// `count` cells from cell `first` on are among the first `all`: added in wider numbers, so that the sum does not wrap
+fn ends_within(first: u16, count: u16, all: u16) -> bool
+    ensures { λ r. ⌜ r ≡ leb (first + count) all ⌝ }
+{
+    (first as u32) + (count as u32) <= (all as u32)
+}
+
+// the tile's part of question 10
+fn tile_in_window(camera: Camera) -> bool
+    ensures { λ r. ⌜ r ≡ tileInWindow (cameraOf camera .window) (cameraOf camera .tile) ⌝ }
+{
+    let tile = camera.tile;
+    if !between(1, tile.width, 256) {
+        return false;
+    }
+    if !between(1, tile.height, 128) {
+        return false;
+    }
+    if !ends_within(tile.left, tile.width, camera.width) {
+        return false;
+    }
+    ends_within(tile.top, tile.height, camera.height)
+}
+
 // question 10
 pub fn view_in_range(eye: Vector, camera: Camera) -> bool
     ensures { λ r. ⌜ r ≡ viewInRange (viewOf eye camera) ⌝ }
@@ -27,13 +66,10 @@ pub fn view_in_range(eye: Vector, camera: Camera) -> bool
     if !point_in_range(eye) {
         return false;
     }
-    if !between(1, camera.width, 256) {
+    if !window_in_range(camera) {
         return false;
     }
-    if !between(1, camera.height, 128) {
-        return false;
-    }
-    between(1, camera.lens, 4096)
+    tile_in_window(camera)
 }
 
 // Question 14. The range is asked first, so that the product is of small numbers.
@@ -70,7 +106,8 @@ pub fn lengths_fit(
 ) -> bool
     ensures { λ r. ⌜ r ≡ lengthsFit (cameraOf camera) patches (record { picture = picture; counts = counts; patchCounts = «patch_counts»; unlit = unlit; lit = lit }) ⌝ }
 {
-    if picture != area(camera.width, camera.height) {
+    let tile = camera.tile;
+    if picture != area(tile.width, tile.height) {
         return false;
     }
     if counts != 1025 {
@@ -79,10 +116,10 @@ pub fn lengths_fit(
     if patch_counts != patches {
         return false;
     }
-    if unlit != (camera.height as usize) * 256 {
+    if unlit != (tile.height as usize) * 256 {
         return false;
     }
-    lit == (camera.height as usize) * 4
+    lit == (tile.height as usize) * 4
 }
 
 // question 12
@@ -90,4 +127,19 @@ pub fn counter_below_end(counter: u32) -> bool
     ensures { λ r. ⌜ r ≡ counterBelowEnd counter ⌝ }
 {
     counter < 4294967295
+}
+
+// The station counter after an accepted picture: it rises with the tile that ends where the window ends.
+pub fn next_counter(camera: Camera, counter: u32) -> u32
+    requires { ⌜ T (tileInWindow (cameraOf camera .window) (cameraOf camera .tile)) × (counter < 4294967295) ⌝ }
+    ensures { λ r. ⌜ r ≡ nextCounter (cameraOf camera) counter ⌝ }
+{
+    let tile = camera.tile;
+    if (tile.left as u32) + (tile.width as u32) != (camera.width as u32) {
+        return counter;
+    }
+    if (tile.top as u32) + (tile.height as u32) != (camera.height as u32) {
+        return counter;
+    }
+    counter + 1
 }

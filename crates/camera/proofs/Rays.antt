@@ -1,31 +1,36 @@
 -- The directions of a camera's cells are the rays of a raster, and the lines that its cells are read along are those just beside these rays.
-use mathlib.Core.Path.{_≡_, refl, _∙_}
+use mathlib.Core.Path.{_≡_, refl, sym, _∙_, ap, subst}
+use mathlib.Core.Bool.{Bool, true, false, cond}
 use mathlib.Core.List.{[], _∷_}
-use Prim.Native.Nat.{ℕ, _*_}
-use lib.IntN.{ℤ, pos, negsuc, _+ℤ_, _-ℤ_, _*ℤ_}
-use mir.Syntax.{w64}
-use mir.Val.{toZ, ofZ}
+use Prim.Native.Nat.{ℕ, zero, suc, _+_, _*_, _-_, _≤_, _<_}
+use native.Mathlib.Omega.{arith}
+use lib.Dec.{ltb, ltb→lt}
+use lib.IntN.{ℤ, pos, negsuc, natAbs, negℤ, _+ℤ_, _-ℤ_, _*ℤ_}
+use mir.Syntax.{w16, w64}
+use mir.Val.{Fits, SFits, toZ, ofZ}
 use Rattle.integer.specs.Magnitude.{Within}
 use Rattle.integer.proofs.Identity.{ring, reify}
-use Rattle.integer.proofs.Machine.{machine, casts}
+use Rattle.integer.proofs.Machine.{machine, casts, exact, no-overflow}
+use Rattle.integer.proofs.Magnitude.{within-more}
+use Rattle.model.proofs.Tests.{is-true}
 use Rattle.model.specs.Vector.{Vec, vec, plus, times}
-use Rattle.model.specs.View.{Axes, Camera as ModelCamera, direction}
-use Rattle.model.specs.Beside.{fine, cellLine}
+use Rattle.model.specs.View.{Axes, Camera as ModelCamera, direction, windowColumn, windowRow}
+use Rattle.model.specs.Beside.{fine, cellLine, tileLine}
 use Rattle.geometry.specs.declared.Vector.{Vector}
 use Rattle.geometry.specs.declared.Raster.{Raster}
 use Rattle.geometry.specs.Machine.{vecOf, VectorIs, NumberIs}
 use Rattle.geometry.specs.Raster.{lineAt}
 use Rattle.geometry.proofs.Results.{number}
 use Rattle.camera.specs.declared.Camera.{Camera}
-use Rattle.camera.specs.Machine.{cameraOf, CameraBounded}
-use Rattle.camera.specs.Rays.{RaysOf}
+use Rattle.camera.specs.Machine.{cameraOf}
+use Rattle.camera.specs.Rays.{fromMiddle, RaysOf}
 
--- the first direction, and how it changes from column to column and from row to row
+-- the direction of the tile's first cell, and how it changes from column to column and from row to row
 abbrev firstDirection : ModelCamera → Vec
 firstDirection c =
     plus
-    (plus (times (pos 1 -ℤ pos (c .window .width)) (c .axes .right)) (times (pos (c .window .lens)) (c .axes .forward)))
-    (times (pos (c .window .height) -ℤ pos 1) (c .axes .up))
+    (plus (times (fromMiddle (c .tile .left) (c .window .width)) (c .axes .right)) (times (pos (c .window .lens)) (c .axes .forward)))
+    (times (negℤ (fromMiddle (c .tile .top) (c .window .height))) (c .axes .up))
 
 abbrev toNextColumn : ModelCamera → Vec
 toNextColumn c = times (pos 2) (c .axes .right)
@@ -35,50 +40,80 @@ toNextRow c = times (negsuc 1) (c .axes .up)
 
 -- any one part of the vectors
 part-by-steps :
-    (w l h i j r f u : ℤ) →
-    (pos 1 -ℤ w) *ℤ r +ℤ l *ℤ f +ℤ (h -ℤ pos 1) *ℤ u +ℤ i *ℤ (pos 2 *ℤ r) +ℤ j *ℤ (negsuc 1 *ℤ u)
-    ≡ (pos 2 *ℤ i +ℤ pos 1 -ℤ w) *ℤ r +ℤ l *ℤ f +ℤ (h -ℤ (pos 1 +ℤ pos 2 *ℤ j)) *ℤ u
-part-by-steps w l h i j r f u = ring (w ∷ l ∷ h ∷ i ∷ j ∷ r ∷ f ∷ u ∷ []) (search reify depth 40 fits 200000, tt)
+    (w l h a b i j r f u : ℤ) →
+    (pos 2 *ℤ a +ℤ pos 1 -ℤ w) *ℤ r +ℤ l *ℤ f +ℤ negℤ (pos 2 *ℤ b +ℤ pos 1 -ℤ h) *ℤ u +ℤ i *ℤ (pos 2 *ℤ r) +ℤ j *ℤ (negsuc 1 *ℤ u)
+    ≡ (pos 2 *ℤ (a +ℤ i) +ℤ pos 1 -ℤ w) *ℤ r +ℤ l *ℤ f +ℤ (h -ℤ (pos 1 +ℤ pos 2 *ℤ (b +ℤ j))) *ℤ u
+part-by-steps w l h a b i j r f u =
+    ring (w ∷ l ∷ h ∷ a ∷ b ∷ i ∷ j ∷ r ∷ f ∷ u ∷ []) (search reify depth 40 fits 200000, tt)
 
 direction-by-steps :
     (c : ModelCamera) (i j : ℕ) →
-    plus (plus (firstDirection c) (times (pos i) (toNextColumn c))) (times (pos j) (toNextRow c)) ≡ direction c i j
+    plus (plus (firstDirection c) (times (pos i) (toNextColumn c))) (times (pos j) (toNextRow c))
+    ≡ direction c (windowColumn c i) (windowRow c j)
 direction-by-steps c i j =
     let a = c .axes in
-    let part = part-by-steps (pos (c .window .width)) (pos (c .window .lens)) (pos (c .window .height)) (pos i) (pos j) in
+    let part =
+    part-by-steps (pos (c .window .width)) (pos (c .window .lens)) (pos (c .window .height)) (pos (c .tile .left)) (pos (c .tile .top)) (pos i)
+    (pos j) in
     λ t.
     vec (part (a .right .x) (a .forward .x) (a .up .x) t) (part (a .right .y) (a .forward .y) (a .up .y) t)
     (part (a .right .z) (a .forward .z) (a .up .z) t)
 
 -- ---- the raster that is made of a machine camera
 
--- the first cell's numbers as the machine has them
-pub first-column : {n : ℕ} → Within 256 (pos n) → NumberIs 257 (pos 1 -ℤ pos n) (toZ w64 (ofZ w64 (pos 1 -ℤ toZ w64 n)))
-first-column h = number (search (machine, casts) depth 40 fits 20000, tt, tt, refl)
+-- a cell lies no farther from the middle than the last one
+middle-within : (n all : ℕ) → n < all → Within (all - 1) (fromMiddle n all)
+middle-within n zero h = absurd (omega arith)
+middle-within n (suc b) h = record { within = go (ltb (2 * n + 1) (suc b)) refl }
+  where
+    go : (t : Bool) → ltb (2 * n + 1) (suc b) ≡ t → natAbs (cond t (negsuc (suc b - suc (2 * n + 1))) (pos ((2 * n + 1) - suc b))) ≤ suc b - 1
+    go true e = let l : 2 * n + 1 < suc b = ltb→lt (2 * n + 1) (suc b) (is-true e) in omega arith
+    go false e = omega arith
 
-pub first-row : {n : ℕ} → Within 128 (pos n) → NumberIs 129 (pos n -ℤ pos 1) (toZ w64 (ofZ w64 (toZ w64 n -ℤ pos 1)))
-first-row h = number (search (machine, casts) depth 40 fits 20000, tt, tt, refl)
+-- the same as the machine has it
+pub middle-made :
+    {n all : ℕ} → Fits w16 n → Fits w16 all → n < all →
+    NumberIs (all - 1) (fromMiddle n all) (toZ w64 (ofZ w64 (toZ w64 (ofZ w64 (toZ w64 (ofZ w64 (pos 2 *ℤ toZ w64 n)) +ℤ pos 1)) -ℤ toZ w64 all)))
+middle-made {n} {all} f g h =
+    record { value = same; bounded = subst (Within (all - 1)) (sym same) (middle-within n all h) }
+  where
+    same :
+        toZ w64 (ofZ w64 (toZ w64 (ofZ w64 (toZ w64 (ofZ w64 (pos 2 *ℤ toZ w64 n)) +ℤ pos 1)) -ℤ toZ w64 all)) ≡ fromMiddle n all
+    same = exact w64 (search (machine, casts) depth 40 fits 20000, tt, refl)
+
+-- the first cell's numbers as the machine has them
+pub first-column : {n : ℕ} {z r : ℤ} → n ≤ 1024 → NumberIs (n - 1) z r → NumberIs 1023 z (toZ w64 (ofZ w64 r))
+first-column {z = z} {r} h is = go (within-more (is .bounded) (omega arith))
+  where
+    go : Within 1023 r → NumberIs 1023 z (toZ w64 (ofZ w64 r))
+    go b = number (search machine depth 40 fits 20000, tt, tt, is .value)
+
+pub row-fits : {n : ℕ} {z r : ℤ} → n ≤ 512 → NumberIs (n - 1) z r → SFits w64 (pos 0 -ℤ toZ w64 (ofZ w64 r))
+row-fits {r = r} h is = go (within-more (is .bounded) (omega arith))
+  where
+    go : Within 511 r → SFits w64 (pos 0 -ℤ toZ w64 (ofZ w64 r))
+    go b = no-overflow (search machine depth 40 fits 20000, tt)
+
+pub first-row : {n : ℕ} {z r : ℤ} → n ≤ 512 → NumberIs (n - 1) z r → NumberIs 511 (negℤ z) (toZ w64 (ofZ w64 (pos 0 -ℤ toZ w64 (ofZ w64 r))))
+first-row {z = z} {r} h is = go (within-more (is .bounded) (omega arith))
+  where
+    go : Within 511 r → NumberIs 511 (negℤ z) (toZ w64 (ofZ w64 (pos 0 -ℤ toZ w64 (ofZ w64 r))))
+    go b = number (search machine depth 40 fits 20000, tt, tt, ap negℤ (is .value))
 
 pub straight-on : {n : ℕ} → Within 4096 (pos n) → NumberIs 4096 (pos n) (toZ w64 n)
 straight-on h = number (search (machine, casts) depth 40 fits 20000, tt, tt, refl)
 
-module _ (c : Camera) (h : CameraBounded c) where
+module _ (c : Camera) {a b d : ℤ} (p : a ≡ fromMiddle (c .tile .left) (c .width)) (q : b ≡ pos (c .lens)) (s : d ≡ negℤ (fromMiddle (c .tile .top) (c .height))) where
   -- the first direction by these numbers
   abbrev firstMade : Vec
-  firstMade =
-      plus
-      (plus (times (toZ w64 (ofZ w64 (pos 1 -ℤ toZ w64 (c .width)))) (vecOf (c .axes .right))) (times (toZ w64 (c .lens)) (vecOf (c .axes .forward))))
-      (times (toZ w64 (ofZ w64 (toZ w64 (c .height) -ℤ pos 1))) (vecOf (c .axes .up)))
+  firstMade = plus (plus (times a (vecOf (c .axes .right))) (times b (vecOf (c .axes .forward)))) (times d (vecOf (c .axes .up)))
 
   first-meant : firstMade ≡ firstDirection (cameraOf c)
-  first-meant = λ t.
-      plus
-      (plus (times (first-column (h .width-within) .value t) (vecOf (c .axes .right))) (times (straight-on (h .lens-within) .value t) (vecOf (c .axes .forward))))
-      (times (first-row (h .height-within) .value t) (vecOf (c .axes .up)))
+  first-meant = λ t. plus (plus (times (p t) (vecOf (c .axes .right))) (times (q t) (vecOf (c .axes .forward)))) (times (s t) (vecOf (c .axes .up)))
 
   pub rays-made :
-      {o a d : Vector} → VectorIs 563000 firstMade o → VectorIs 200 (toNextColumn (cameraOf c)) a → VectorIs 200 (toNextRow (cameraOf c)) d →
-      RaysOf (cameraOf c) (record { origin = o; across = a; down = d; width = c .width; height = c .height })
+      {o x y : Vector} → VectorIs 563000 firstMade o → VectorIs 200 (toNextColumn (cameraOf c)) x → VectorIs 200 (toNextRow (cameraOf c)) y →
+      RaysOf (cameraOf c) (record { origin = o; across = x; down = y; width = c .tile .width; height = c .tile .height })
   rays-made e f g =
       record {
         rays = λ i j.
@@ -97,8 +132,8 @@ module _ (c : Camera) (h : CameraBounded c) where
 part-beside : (α β γ d r u : ℤ) → α *ℤ d +ℤ β *ℤ (pos 2 *ℤ r) +ℤ γ *ℤ (negsuc 1 *ℤ u) ≡ α *ℤ d +ℤ (pos 2 *ℤ β) *ℤ r -ℤ (pos 2 *ℤ γ) *ℤ u
 part-beside α β γ d r u = ring (α ∷ β ∷ γ ∷ d ∷ r ∷ u ∷ []) (search reify depth 40 fits 200000, tt)
 
--- a cell is read along the raster's line
-pub line-is : (c : ModelCamera) {r : Raster} → RaysOf c r → (i j : ℕ) → lineAt r i j ≡ cellLine c i j
+-- a cell of the tile is read along the raster's line
+pub line-is : (c : ModelCamera) {r : Raster} → RaysOf c r → (i j : ℕ) → lineAt r i j ≡ tileLine c i j
 unfolding lineAt cellLine
 line-is c h i j =
     (λ t.
@@ -110,7 +145,7 @@ line-is c h i j =
     a = c .axes
 
     d : Vec
-    d = direction c i j
+    d = direction c (windowColumn c i) (windowRow c j)
 
     part :
         (d r u : ℤ) →

@@ -27,6 +27,10 @@ pub struct CameraNumbers {
     pub width: u16,
     pub height: u16,
     pub lens: u16,
+    pub left: u16,
+    pub top: u16,
+    pub tile_width: u16,
+    pub tile_height: u16,
 }
 
 // The survey call for the form that the station has.
@@ -63,6 +67,10 @@ fn survey_at(
             camera.width,
             camera.height,
             camera.lens,
+            camera.left,
+            camera.top,
+            camera.tile_width,
+            camera.tile_height,
             picture,
             counts,
             patch_counts,
@@ -87,6 +95,10 @@ fn survey_at(
             camera.width,
             camera.height,
             camera.lens,
+            camera.left,
+            camera.top,
+            camera.tile_width,
+            camera.tile_height,
             picture,
             counts,
             patch_counts,

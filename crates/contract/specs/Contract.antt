@@ -3,7 +3,7 @@ use mathlib.Core.Path.{_≡_}
 use mathlib.Core.List.{List}
 use Prim.Native.Nat.{ℕ, zero, suc}
 use Rattle.model.specs.Vector.{Vec}
-use Rattle.model.specs.View.{Axes, Camera}
+use Rattle.model.specs.View.{Axes, Tile, Camera}
 use Rattle.model.specs.Station.{Station}
 use Rattle.model.specs.Lent.{Lent, Lengths, lengthsOf}
 use Rattle.model.specs.Call.{Call}
@@ -14,9 +14,13 @@ use Rattle.model.specs.Survey.{callPicture, callCounts, callPatchCells, callUnl
 abbrev pub axesBy : Vec → Vec → Vec → Axes
 axesBy r f u = record { right = r; forward = f; up = u }
 
--- a camera by its axes and its window's three numbers
-abbrev pub cameraBy : Axes → ℕ → ℕ → ℕ → Camera
-cameraBy a w h l = record { axes = a; window = record { width = w; height = h; lens = l } }
+-- a tile by its four numbers: the place of its top left cell in the window, and its size
+abbrev pub tileBy : ℕ → ℕ → ℕ → ℕ → Tile
+tileBy l t w h = record { left = l; top = t; width = w; height = h }
+
+-- a camera by its axes, its window's three numbers and its tile
+abbrev pub cameraBy : Axes → ℕ → ℕ → ℕ → Tile → Camera
+cameraBy a w h l t = record { axes = a; window = record { width = w; height = h; lens = l }; tile = t }
 
 -- the five buffers and the counter
 abbrev pub lentOf : List ℕ → List ℕ → List ℕ → List ℕ → List ℕ → ℕ → Lent

@@ -1,7 +1,7 @@
 -- One patch more is painted in all rows, and booked.
-use mathlib.Core.Path.{_≡_, refl, sym, ap, subst, _∙_, fun-ext}
+use mathlib.Core.Path.{_≡_, refl, sym, ap, subst, _∙_}
 use mathlib.Core.Logic.{inl, ⊎-elim}
-use mathlib.Core.Bool.{Bool, true, false, _&&_, true≢false}
+use mathlib.Core.Bool.{Bool, true, false, not, _&&_, true≢false}
 use mathlib.Core.List.{List, [], map}
 use Prim.Native.Nat.{ℕ, _+_, _*_, _≤_, _<_}
 use native.Mathlib.Nat.{add-zero, mul-comm, mul-le-mul-right}
@@ -18,7 +18,10 @@ use Rattle.model.specs.Booking.{cellsWhere}
 use Rattle.model.specs.Format.{decode, patchNumbered}
 use Rattle.geometry.specs.Machine.{vecOf}
 use Rattle.geometry.specs.Raster.{lineAt}
+use Rattle.model.proofs.LitMap.{map-congr}
+use Rattle.segments.proofs.Rows.{row-congr}
 use Rattle.segments.proofs.Tallies.{tally-congr}
+use Rattle.segments.proofs.Painting.{painted-congr}
 use Rattle.format.specs.declared.layout.Layout.{Layout}
 use Rattle.tables.specs.Functions.{functionsIn}
 use Rattle.spans.specs.declared.Span.{Span}
@@ -26,8 +29,9 @@ use Rattle.spans.specs.Span.{covers, Limited}
 use Rattle.edges.specs.declared.Sight.{Sight}
 use Rattle.edges.specs.Edges.{EdgesAsked, EdgesKept}
 use Rattle.slopes.specs.declared.Sloped.{Sloped}
-use Rattle.reach.specs.declared.Planes.{Planes}
-use Rattle.reach.specs.Reach.{Sighting, Reach}
+use Rattle.reach.specs.declared.RasterPlanes.{RasterPlanes}
+use Rattle.reach.specs.Planes.{Sighting}
+use Rattle.reach.specs.Reach.{Reach}
 use Rattle.reach.proofs.ProperPatches.{numbered-proper}
 use Rattle.scanline.specs.Shown.{unlitAfter}
 use Rattle.scanline.specs.Laying.{ColumnsPainted}
@@ -55,7 +59,7 @@ module _ {bytes : List ℕ} {s : Sight} {order : List ℕ} {rows words : List (L
 
   module _
       {columns : ℕ → ℕ → Bool} {rows′ words′ : List (List ℕ)} {picture′ : List ℕ} {lit : ℕ} (h : k < length order)
-      (same : (j : ℕ) → j < s .raster .height → (i : ℕ) → columns j i ≡ meets j i)
+      (same : (j : ℕ) → j < s .raster .height → (i : ℕ) → i < s .raster .width → columns j i ≡ meets j i)
       (over : RowsPaintedOver columns (next .panel) (s .raster .width) (s .raster .height) unlitBy picture rows′ words′ picture′ lit)
     where
       lit-cells : lit ≡ cellsWhere (s .raster .width) (s .raster .height) (λ (i j : ℕ). unlitBy j i && meets j i)
@@ -63,7 +67,7 @@ module _ {bytes : List ℕ} {s : Sight} {order : List ℕ} {rows words : List (L
       lit-cells =
           over .lit-is
           ∙ total-same _ _ (s .raster .height)
-          (λ j b. tally-congr _ _ (s .raster .width) (λ i l. ap (λ (c : Bool). unlitBy j i && c) (same j b i)))
+          (λ j b. tally-congr _ _ (s .raster .width) (λ i l. ap (λ (c : Bool). unlitBy j i && c) (same j b i l)))
 
       pub patch-goes : getD order k 0 < length booked → WalkPainted bytes s order rows′ words′ picture′ (set booked (getD order k 0) (getD booked (getD order k 0) 0 + lit)) (k + 1)
       patch-goes entry =
@@ -79,22 +83,23 @@ module _ {bytes : List ℕ} {s : Sight} {order : List ℕ} {rows words : List (L
               ColumnsPainted (meets j) (next .panel) (unlitBy j) (rowPart (s .raster .width) j picture) (getD rows′ j []) (getD words′ j []) (rowPart (s .raster .width) j picture′)
               (tally (λ (i : ℕ). unlitBy j i && meets j i) (range 0 (length (rowPart (s .raster .width) j picture))))
           painted j b =
-              subst
-              (λ (c : ℕ → Bool).
-              ColumnsPainted c (next .panel) (unlitBy j) (rowPart (s .raster .width) j picture) (getD rows′ j []) (getD words′ j []) (rowPart (s .raster .width) j picture′)
-              (tally (λ (i : ℕ). unlitBy j i && c i) (range 0 (length (rowPart (s .raster .width) j picture)))))
-              (fun-ext (same j b))
-              (record {
-                row-is = rw (inv .each j b .long) (over .sets .rows-are j b);
-                words-are = rw (inv .each j b .long) (over .sets .words-are j b);
-                cells-are = over .cells-are j b;
+              record {
+                row-is = rw long (over .sets .rows-are j b ∙ row-congr (s .raster .width) _ _ (λ i l. ap (λ (c : Bool). unlitBy j i && not c) (same j b i l)));
+                words-are = rw long (over .sets .words-are j b ∙ map-congr (s .raster .width) _ _ (λ i l. ap (λ (c : Bool). unlitBy j i && not c) (same j b i l)));
+                cells-are =
+                    over .cells-are j b
+                    ∙ painted-congr _ _ (next .panel) (rowPart (s .raster .width) j picture)
+                    (λ i l. ap (λ (c : Bool). unlitBy j i && c) (same j b i (omega (arith, long))));
                 lit-is = refl;
-              })
+              }
+            where
+              long : length (rowPart (s .raster .width) j picture) ≡ s .raster .width
+              long = inv .each j b .long
 
 -- ---- what a call for one patch gives
 
 module _
-    {bytes : List ℕ} {l : Layout} {order : List ℕ} {k : ℕ} {s : Sight} {planes : Planes} {rows words : List (List ℕ)} {picture booked : List ℕ}
+    {bytes : List ℕ} {l : Layout} {order : List ℕ} {k : ℕ} {s : Sight} {planes : RasterPlanes} {rows words : List (List ℕ)} {picture booked : List ℕ}
     (asked : PatchAsked bytes l order k s planes rows words picture booked)
   where
     abbrev p : Patch
@@ -114,17 +119,19 @@ module _
           proper = numbered-proper (asked .paintable .checked) (asked .paintable .proper) (getD order k 0) number;
           eye-bounded = asked .paintable .sight .eye-bounded;
           planes-of = asked .planes-of;
+          width-limit = omega (arith, asked .paintable .narrow);
           height-limit = omega (arith, asked .paintable .low);
         }
 
-    -- a patch that no row can meet changes nothing
+    -- a patch that no cell's line meets changes nothing
     pub patch-missed :
-        {reach : Span} → Reach (vecOf (s .eye)) (s .raster) p reach → reach .end ≤ reach .first → WalkPainted bytes s order rows words picture booked (k + 1)
-    patch-missed {reach} found none =
+        ((j : ℕ) → j < s .raster .height → (i : ℕ) → i < s .raster .width → met (vecOf (s .eye)) (lineAt (s .raster) i j) p ≡ false) →
+        WalkPainted bytes s order rows words picture booked (k + 1)
+    patch-missed missed =
         subst (λ (b : List ℕ). WalkPainted bytes s order rows words picture b (k + 1))
         (ap (set booked (getD order k 0)) (add-zero (getD booked (getD order k 0) 0)) ∙ set-getD booked (getD order k 0) 0)
         (patch-goes (asked .so-far) (asked .next)
-        (λ j b i. rw (none-covered 0 j) (sym (found .missed j b (λ x y. absurd (omega arith)) i)))
+        (λ j b i l. rw (none-covered 0 j) (sym (missed j b i l)))
         (over-none [] (p .panel) (s .raster .width) (s .raster .height) (unlitBy (asked .so-far)) picture 0 (under-work (asked .so-far)))
         entry)
 
@@ -172,8 +179,8 @@ module _
             RowsPaintedOver (inRows (r .reach) (functionsIn table (r .count))) panel (s .raster .width) height unlit picture rows′ words′ picture′ lit)
           where
             -- it is met in the rows of its reach alone, and there in the rows that are left, where the functions kept are above 0
-            met-there : (j : ℕ) → j < s .raster .height → (i : ℕ) → inRows (r .reach) (functionsIn table (r .count)) j i ≡ met (vecOf (s .eye)) (lineAt (s .raster) i j) p
-            met-there j b i = edges .same j i ∙ go (covers reach j) refl
+            met-there : (j : ℕ) → j < s .raster .height → (i : ℕ) → i < s .raster .width → inRows (r .reach) (functionsIn table (r .count)) j i ≡ met (vecOf (s .eye)) (lineAt (s .raster) i j) p
+            met-there j b i l = edges .same j i ∙ go (covers reach j) refl
               where
                 outside : covers reach j ≡ false → reach .first ≤ j → j < reach .end → ⊥
                 outside e x y = let t : true ≡ false = sym (rw (le-leb (reach .first) j x, lt-ltb j (reach .end) y)) ∙ e in absurd (true≢false t)

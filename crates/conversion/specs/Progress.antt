@@ -12,8 +12,8 @@ use Rattle.format.specs.declared.layout.Layout.{Layout}
 use Rattle.checked.specs.Checked.{Checked}
 use Rattle.edges.specs.declared.Sight.{Sight}
 use Rattle.edges.specs.Edges.{SightBounded}
-use Rattle.reach.specs.declared.Planes.{Planes}
-use Rattle.reach.specs.Reach.{PlanesOf}
+use Rattle.reach.specs.declared.RasterPlanes.{RasterPlanes}
+use Rattle.reach.specs.Planes.{RasterPlanesOf}
 use Rattle.scanline.specs.Shown.{PaintedUpTo}
 use Rattle.conversion.specs.Canvas.{rowPart}
 use Rattle.conversion.specs.Booked.{Booked}
@@ -40,9 +40,9 @@ pub record WalkPainted
 
 -- what painting patch k of a walk asks
 pub record PatchAsked
-    (bytes : List ℕ) (l : Layout) (order : List ℕ) (k : ℕ) (s : Sight) (planes : Planes) (rows words : List (List ℕ)) (picture booked : List ℕ) : Type 0 where
+    (bytes : List ℕ) (l : Layout) (order : List ℕ) (k : ℕ) (s : Sight) (planes : RasterPlanes) (rows words : List (List ℕ)) (picture booked : List ℕ) : Type 0 where
   pub paintable : Paintable bytes l s order
-  pub planes-of : PlanesOf (s .raster) planes
+  pub planes-of : RasterPlanesOf (s .raster) planes
   pub next : k < length order
   pub cells : length picture ≡ s .raster .width * s .raster .height
   pub entries : length booked ≡ l .patches

@@ -3,7 +3,8 @@ use checked::patch_record;
 use edges::Sight;
 use edges::patch_edges;
 use format::layout::Layout;
-use reach::Planes;
+use reach::RasterPlanes;
+use reach::beside_columns;
 use reach::patch_rows;
 use scanline::lay_patch;
 use spans::Span;
@@ -52,14 +53,14 @@ fn convert_rows(
     lit
 }
 
-// Paints patch k of a walk in the rows that it reaches, and books the cells that it newly lit to it. One that no row can meet has no edge functions worked out.
+// Paints patch k of a walk in the rows that it reaches, and books the cells that it newly lit to it. One that no row or no column can meet has no edge functions worked out.
 pub fn paint_patch(
     bytes: &[u8],
     l: Layout,
     order: &[u16],
     k: usize,
     sight: Sight,
-    planes: Planes,
+    planes: RasterPlanes,
     rows: &mut [[u16; 256]; 128],
     words: &mut [[u64; 4]; 128],
     picture: &mut [u16],
@@ -71,6 +72,9 @@ pub fn paint_patch(
     let n = order[k] as usize;
     let reach = patch_rows(bytes, l, n, sight.eye, sight.raster, planes);
     if reach.end <= reach.first {
+        return;
+    }
+    if beside_columns(bytes, l, n, sight.eye, sight.raster, planes) {
         return;
     }
     let panel = patch_record(bytes, l, n).panel;

@@ -12,14 +12,14 @@ use lib.ListN.{length, getD, take, drop, length-map}
 use Rattle.model.specs.Lists.{every, range, tally, occurrences}
 use Rattle.model.specs.Patch.{numbered}
 use Rattle.model.specs.Ray.{closest}
-use Rattle.model.specs.View.{Camera, View, viewWidth, viewHeight}
+use Rattle.model.specs.View.{Camera, View, windowColumn, windowRow, pictureWidth, pictureHeight}
 use Rattle.model.specs.Station.{Station, eyeOf, viewAt}
-use Rattle.model.specs.Beside.{ShownBeside, cellLine}
+use Rattle.model.specs.Beside.{tileLine}
 use Rattle.model.specs.Lent.{Lent, lengthsOf}
 use Rattle.model.specs.Format.{decode, patchesIn}
 use Rattle.model.specs.Row.{rowOf, rowLength, listOf}
 use Rattle.model.specs.Map.{rowWords, rowBits, mapRow, litAt, SameCells, wordsOf, insideMap, litCells, firstOf, firstUnlit}
-use Rattle.model.specs.Picture.{cells, picture, counts, countEntries, unlitLists, litMap}
+use Rattle.model.specs.Picture.{cells, cellPanel, picture, counts, countEntries, unlitLists, litMap}
 use Rattle.model.specs.Accepted.{AcceptedScene}
 use Rattle.model.specs.Questions.{Question, answer, sceneQuestions, sceneAnswer, lengthsFit, counterBelowEnd, callQuestions, questions, surveyAnswer}
 use Rattle.model.specs.Booking.{cellsWhere}
@@ -47,10 +47,10 @@ use Rattle.model.proofs.PanelNumbers.{panel-bounded}
 use Rattle.contract.specs.Contract.{callOn, results, leftBy, Surveyed}
 use Rattle.coverage.specs.Coverage.{SameCover}
 use Rattle.coverage.proofs.Agreement.{same-cells}
-use Rattle.demands.specs.Demands.{cell, patchHas, RefusesRightly, ClosestPanels, ClosestSurveyed, ChosenTakenAway, DemandThree, SameSurvey, TwoCuttings, PairSurveyed}
+use Rattle.demands.specs.Demands.{cell, CellShows, patchHas, RefusesRightly, ClosestPanels, ClosestSurveyed, ChosenTakenAway, DemandThree, SameSurvey, TwoCuttings, PairSurveyed}
 
 -- an accepted call leaves the results
-accepted-leaves :
+pub accepted-leaves :
     {bytes : List ℕ} {s : Station} {c : Camera} {before after : Lent} {result : ℕ} →
     Surveyed bytes s c before after result →
     result ≡ 0 →
@@ -60,7 +60,7 @@ accepted-leaves {bytes} {s} {c} {before} h e =
     ∙ ap (λ (n : ℕ). leftBy n (results (callOn bytes s c before)) before) (sym (h .answered) ∙ e)
 
 -- and so it was accepted
-accepted :
+pub accepted :
     {bytes : List ℕ} {s : Station} {c : Camera} {before after : Lent} {result : ℕ} →
     Surveyed bytes s c before after result →
     result ≡ 0 →
@@ -124,67 +124,67 @@ module _ (bytes : List ℕ) (s : Station) (c : Camera) (before : Lent) (accepted
   sound = table-sound (accepted .scene)
 
   at :
-      (i j : ℕ) → i < viewWidth v → j < viewHeight v →
-      cell v (callPicture (callOn bytes s c before)) i j ≡ closest (v .eye) (cellLine (v .camera) i j) (patchesIn bytes)
+      (i j : ℕ) → i < pictureWidth v → j < pictureHeight v →
+      cell v (callPicture (callOn bytes s c before)) i j ≡ closest (v .eye) (tileLine (v .camera) i j) (patchesIn bytes)
   unfolding callPicture
-  at = picture-at (v .eye) (viewWidth v) (viewHeight v) (cellLine (v .camera)) (patchesIn bytes)
+  at = picture-at (v .eye) (pictureWidth v) (pictureHeight v) (tileLine (v .camera)) (patchesIn bytes)
 
   abbrev cellRow : ℕ → List ℕ
-  cellRow j = rowOf (viewWidth v) (λ (i : ℕ). eqb (closest (v .eye) (cellLine (v .camera) i j) (patchesIn bytes)) 0)
+  cellRow j = rowOf (pictureWidth v) (λ (i : ℕ). eqb (closest (v .eye) (tileLine (v .camera) i j) (patchesIn bytes)) 0)
 
   -- the columns of row j that show no panel
   abbrev noneAt : ℕ → ℕ → Bool
   noneAt j i = eqb (cell v (callPicture (callOn bytes s c before)) i j) 0
 
   unlit-row :
-      (j : ℕ) → j < viewHeight v →
-      listOf (callUnlit (callOn bytes s c before)) j ≡ rowOf (viewWidth v) (noneAt j)
+      (j : ℕ) → j < pictureHeight v →
+      listOf (callUnlit (callOn bytes s c before)) j ≡ rowOf (pictureWidth v) (noneAt j)
   unfolding callUnlit unlitLists callPicture
   unlit-row j h =
-      ap (λ (n : ℕ). take rowLength (drop n (unlitLists (viewWidth v) (viewHeight v) (λ (i j : ℕ). closest (v .eye) (cellLine (v .camera) i j) (patchesIn bytes))))) (mul-comm rowLength j)
-      ∙ rows-part rowLength cellRow (λ k. row-length (viewWidth v) _) 0 (viewHeight v) j h
+      ap (λ (n : ℕ). take rowLength (drop n (unlitLists (pictureWidth v) (pictureHeight v) (λ (i j : ℕ). closest (v .eye) (tileLine (v .camera) i j) (patchesIn bytes))))) (mul-comm rowLength j)
+      ∙ rows-part rowLength cellRow (λ k. row-length (pictureWidth v) _) 0 (pictureHeight v) j h
       ∙ ap cellRow (zero-add j)
-      ∙ row-congr (viewWidth v) _ _
+      ∙ row-congr (pictureWidth v) _ _
       (λ i k. ap (λ (n : ℕ). eqb n 0) (sym (at i j k h)))
 
   -- ---- the map
 
   abbrev mapOf : ℕ → List ℕ
-  mapOf j = mapRow (viewWidth v) (λ (i : ℕ). eqb (closest (v .eye) (cellLine (v .camera) i j) (patchesIn bytes)) 0)
+  mapOf j = mapRow (pictureWidth v) (λ (i : ℕ). eqb (closest (v .eye) (tileLine (v .camera) i j) (patchesIn bytes)) 0)
 
-  map-count : length (callLit (callOn bytes s c before)) ≡ viewHeight v * rowWords
+  map-count : length (callLit (callOn bytes s c before)) ≡ pictureHeight v * rowWords
   unfolding callLit litMap
-  map-count = rows-length rowWords mapOf (λ k. map-length (viewWidth v) _) 0 (viewHeight v) ∙ mul-comm rowWords (viewHeight v)
+  map-count = rows-length rowWords mapOf (λ k. map-length (pictureWidth v) _) 0 (pictureHeight v) ∙ mul-comm rowWords (pictureHeight v)
 
-  narrow : viewWidth v ≤ rowBits
+  narrow : pictureWidth v ≤ rowBits
   narrow = view-bounded v (accepted .view) .narrow
 
-  module _ (j : ℕ) (h : j < viewHeight v) where
-    map-row : wordsOf (callLit (callOn bytes s c before)) j ≡ mapRow (viewWidth v) (noneAt j)
+  module _ (j : ℕ) (h : j < pictureHeight v) where
+    map-row : wordsOf (callLit (callOn bytes s c before)) j ≡ mapRow (pictureWidth v) (noneAt j)
     unfolding callLit litMap callPicture
     map-row =
-        ap (λ (n : ℕ). take rowWords (drop n (litMap (viewWidth v) (viewHeight v) (λ (i j : ℕ). closest (v .eye) (cellLine (v .camera) i j) (patchesIn bytes))))) (mul-comm rowWords j)
-        ∙ rows-part rowWords mapOf (λ k. map-length (viewWidth v) _) 0 (viewHeight v) j h
+        ap (λ (n : ℕ). take rowWords (drop n (litMap (pictureWidth v) (pictureHeight v) (λ (i j : ℕ). closest (v .eye) (tileLine (v .camera) i j) (patchesIn bytes))))) (mul-comm rowWords j)
+        ∙ rows-part rowWords mapOf (λ k. map-length (pictureWidth v) _) 0 (pictureHeight v) j h
         ∙ ap mapOf (zero-add j)
-        ∙ map-congr (viewWidth v) _ _ (λ i k. ap (λ (n : ℕ). eqb n 0) (sym (at i j k h)))
+        ∙ map-congr (pictureWidth v) _ _ (λ i k. ap (λ (n : ℕ). eqb n 0) (sym (at i j k h)))
 
-    map-same : SameCells (viewWidth v) (listOf (callUnlit (callOn bytes s c before)) j) (wordsOf (callLit (callOn bytes s c before)) j)
-    map-same = rw (unlit-row j h, map-row) (same-of-set (viewWidth v) narrow (noneAt j))
+    map-same : SameCells (pictureWidth v) (listOf (callUnlit (callOn bytes s c before)) j) (wordsOf (callLit (callOn bytes s c before)) j)
+    map-same = rw (unlit-row j h, map-row) (same-of-set (pictureWidth v) narrow (noneAt j))
 
     map-inside : insideMap (callLit (callOn bytes s c before)) j ≡ true
     map-inside = le-leb (rowWords * (j + 1)) (length (callLit (callOn bytes s c before))) (omega (arith, map-count))
 
-    lit-in-row : litCells (callLit (callOn bytes s c before)) j ≡ tally (λ (i : ℕ). not (noneAt j i)) (range 0 (viewWidth v))
+    lit-in-row : litCells (callLit (callOn bytes s c before)) j ≡ tally (λ (i : ℕ). not (noneAt j i)) (range 0 (pictureWidth v))
     unfolding litCells
-    lit-in-row = rw (map-inside, map-row) (map-tally (viewWidth v) narrow (noneAt j))
+    lit-in-row = rw (map-inside, map-row) (map-tally (pictureWidth v) narrow (noneAt j))
 
-    first-in-row : firstUnlit (callLit (callOn bytes s c before)) (viewWidth v) j ≡ firstOf (noneAt j) 0 (viewWidth v)
+    first-in-row : firstUnlit (callLit (callOn bytes s c before)) (pictureWidth v) j ≡ firstOf (noneAt j) 0 (pictureWidth v)
     unfolding firstUnlit
-    first-in-row = rw (map-inside, map-row) (map-first (viewWidth v) narrow (noneAt j))
+    first-in-row = rw (map-inside, map-row) (map-first (pictureWidth v) narrow (noneAt j))
 
   -- the cells of patch k, and its entry in the table; and such a number where the patch is of panel n
   abbrev cellsOf : ℕ → ℕ
-  cellsOf k = cellsWhere (viewWidth v) (viewHeight v) (λ (i j : ℕ). patchHas bytes v i j k)
+  cellsOf k = cellsWhere (pictureWidth v) (pictureHeight v) (λ (i j : ℕ). patchHas bytes v i j k)
 
   abbrev entryOf : ℕ → ℕ
   entryOf k = getD (callPatchCells (callOn bytes s c before)) k 0
@@ -194,7 +194,7 @@ module _ (bytes : List ℕ) (s : Station) (c : Camera) (before : Lent) (accepted
 
   entry : (k : ℕ) → k < length (patchesIn bytes) → entryOf k ≡ cellsOf k
   unfolding callPatchCells
-  entry = patch-entry (v .eye) (viewWidth v) (viewHeight v) (cellLine (v .camera)) (patchesIn bytes)
+  entry = patch-entry (v .eye) (pictureWidth v) (pictureHeight v) (tileLine (v .camera)) (patchesIn bytes)
 
   -- a panel's occurrences are the sum over the table's entries of its patches
   entries-sum :
@@ -202,7 +202,7 @@ module _ (bytes : List ℕ) (s : Station) (c : Camera) (before : Lent) (accepted
       occurrences n (callPicture (callOn bytes s c before)) ≡ sum _+_ 0 (map (ofPanel n entryOf) (range 0 (length (patchesIn bytes))))
   unfolding callPicture total
   entries-sum n h =
-      panel-sum (v .eye) (viewWidth v) (viewHeight v) (cellLine (v .camera)) (patchesIn bytes) n h
+      panel-sum (v .eye) (pictureWidth v) (pictureHeight v) (tileLine (v .camera)) (patchesIn bytes) n h
       ∙ total-cong (ofPanel n cellsOf) (ofPanel n entryOf) (range 0 (length (patchesIn bytes)))
       (λ k m.
       ap (λ (x : ℕ). cond (eqb (numbered (patchesIn bytes) k .panel) n) x 0)
@@ -214,31 +214,31 @@ module _ (bytes : List ℕ) (s : Station) (c : Camera) (before : Lent) (accepted
       record {
         cells =
             λ i j h k.
-            subst (ShownBeside v (patchesIn bytes) i j) (sym (at i j h k))
-            (beside-right v (accepted .view) (accepted .axes) sound i j);
-        cellsOnly = λ i j n h k s. beside-only v (accepted .view) (accepted .axes) sound i j s ∙ sym (at i j h k);
-        whole = picture-length (v .eye) (viewWidth v) (viewHeight v) (cellLine (v .camera)) (patchesIn bytes);
+            subst (CellShows v (patchesIn bytes) i j) (sym (at i j h k))
+            (beside-right v (accepted .view) (accepted .axes) sound (windowColumn c i) (windowRow c j));
+        cellsOnly = λ i j n h k s. beside-only v (accepted .view) (accepted .axes) sound (windowColumn c i) (windowRow c j) s ∙ sym (at i j h k);
+        whole = picture-length (v .eye) (pictureWidth v) (pictureHeight v) (tileLine (v .camera)) (patchesIn bytes);
         counted = λ n h. counts-at (callPicture (callOn bytes s c before)) n h;
         entries =
             length-map (range 0 countEntries) (λ (n : ℕ). occurrences n (callPicture (callOn bytes s c before)))
             ∙ range-length 0 countEntries;
-        summed = picture-total (v .eye) (viewWidth v) (viewHeight v) (cellLine (v .camera)) (patchesIn bytes)
+        summed = picture-total (v .eye) (pictureWidth v) (pictureHeight v) (tileLine (v .camera)) (patchesIn bytes)
             (panel-bounded (decode bytes) (accepted .scene .panels));
         booked = entry;
-        patchEntries = patch-entries (v .eye) (viewWidth v) (viewHeight v) (cellLine (v .camera)) (patchesIn bytes);
-        bookedFirst = λ i j. beside-has v (accepted .view) (accepted .axes) sound i j;
+        patchEntries = patch-entries (v .eye) (pictureWidth v) (pictureHeight v) (tileLine (v .camera)) (patchesIn bytes);
+        bookedFirst = λ i j. beside-has v (accepted .view) (accepted .axes) sound (windowColumn c i) (windowRow c j);
         bookedSome =
             λ i j hi hj f.
-            booked-some (v .eye) (cellLine (v .camera) i j) (patchesIn bytes)
+            booked-some (v .eye) (tileLine (v .camera) i j) (patchesIn bytes)
             (λ e. f (at i j hi hj ∙ e));
-        bookedOnce = λ i j. booked-once (v .eye) (cellLine (v .camera) i j) (patchesIn bytes);
+        bookedOnce = λ i j. booked-once (v .eye) (tileLine (v .camera) i j) (patchesIn bytes);
         bookedPanel =
             λ i j k hi hj hk t.
-            at i j hi hj ∙ booked-panel (v .eye) (cellLine (v .camera) i j) (patchesIn bytes) k hk t;
+            at i j hi hj ∙ booked-panel (v .eye) (tileLine (v .camera) i j) (patchesIn bytes) k hk t;
         panelSum = λ n one h. counts-at (callPicture (callOn bytes s c before)) n h ∙ entries-sum n one;
         rows = unlit-row;
-        rowCount = rows-length rowLength cellRow (λ k. row-length (viewWidth v) _) 0 (viewHeight v) ∙ mul-comm rowLength (viewHeight v);
-        lit = λ i j h k. ap (λ (words : List ℕ). litAt words i) (map-row j k) ∙ map-bit (viewWidth v) (noneAt j) i h;
+        rowCount = rows-length rowLength cellRow (λ k. row-length (pictureWidth v) _) 0 (pictureHeight v) ∙ mul-comm rowLength (pictureHeight v);
+        lit = λ i j h k. ap (λ (words : List ℕ). litAt words i) (map-row j k) ∙ map-bit (pictureWidth v) (noneAt j) i h;
         wordCount = map-count;
         same = map-same;
         litInRow = lit-in-row;
@@ -262,22 +262,22 @@ module _
         let v = viewAt s c in
         let first = patchesIn firstBytes in
         let second = patchesIn secondBytes in
-        let same = pictures-counts chosen first second taken (v .eye) (viewWidth v) (viewHeight v) (cellLine (v .camera)) in
+        let same = pictures-counts chosen first second taken (v .eye) (pictureWidth v) (pictureHeight v) (tileLine (v .camera)) in
         record {
           equal = (λ e. same .0 (sym e), λ f. sym (same .1 f));
           closest =
               λ i j h k.
-              subst (ShownBeside v first i j) (sym (at firstBytes s c before₁ accepted i j h k))
-              (beside-right v (accepted .view) (accepted .axes) (table-sound (accepted .scene)) i j);
+              subst (CellShows v first i j) (sym (at firstBytes s c before₁ accepted i j h k))
+              (beside-right v (accepted .view) (accepted .axes) (table-sound (accepted .scene)) (windowColumn c i) (windowRow c j));
           differ =
               λ i j h k.
-              let d = cell-differs chosen first second taken (v .eye) (viewWidth v) (viewHeight v) (cellLine (v .camera)) i j h k in
+              let d = cell-differs chosen first second taken (v .eye) (pictureWidth v) (pictureHeight v) (tileLine (v .camera)) i j h k in
               (λ f. d .0 (λ e. f (sym e)), λ t e. d .1 t (sym e));
           shown =
               λ i j h k t.
-              subst (ShownBeside v (kept chosen first) i j)
-              (sym (cell-shows chosen first second taken (v .eye) (viewWidth v) (viewHeight v) (cellLine (v .camera)) i j h k))
-              (beside-right v (accepted .view) (accepted .axes) (kept-sound chosen (table-sound (accepted .scene))) i j);
+              subst (CellShows v (kept chosen first) i j)
+              (sym (cell-shows chosen first second taken (v .eye) (pictureWidth v) (pictureHeight v) (tileLine (v .camera)) i j h k))
+              (beside-right v (accepted .view) (accepted .axes) (kept-sound chosen (table-sound (accepted .scene))) (windowColumn c i) (windowRow c j));
         }
 
 module _
@@ -291,13 +291,14 @@ module _
     unfolding callPicture callCounts callUnlit callLit picture
     same-survey =
         let v = viewAt s c in
-        let shown =
-        same-cells v (first-accepted .view) (first-accepted .axes) (table-sound (first-accepted .scene)) (table-sound second-accepted) same in
+        let window = same-cells v (first-accepted .view) (first-accepted .axes) (table-sound (first-accepted .scene)) (table-sound second-accepted) same in
+        let shown : cellPanel (v .eye) (tileLine c) (patchesIn firstBytes) ≡ cellPanel (v .eye) (tileLine c) (patchesIn secondBytes) =
+        λ t i j. window t (windowColumn c i) (windowRow c j) in
         record {
-          pictures = ap (cells (viewWidth v) (viewHeight v)) shown;
-          panelCounts = ap (λ (f : ℕ → ℕ → ℕ). counts (cells (viewWidth v) (viewHeight v) f)) shown;
-          unlitLists = ap (unlitLists (viewWidth v) (viewHeight v)) shown;
-          litMaps = ap (litMap (viewWidth v) (viewHeight v)) shown;
+          pictures = ap (cells (pictureWidth v) (pictureHeight v)) shown;
+          panelCounts = ap (λ (f : ℕ → ℕ → ℕ). counts (cells (pictureWidth v) (pictureHeight v) f)) shown;
+          unlitLists = ap (unlitLists (pictureWidth v) (pictureHeight v)) shown;
+          litMaps = ap (litMap (pictureWidth v) (pictureHeight v)) shown;
         }
 
 -- Demand 2.

@@ -7,10 +7,10 @@ use Prim.Native.Nat.{ℕ, _+_, _*_, _≤_, _<_}
 use lib.Dec.{T, eqb}
 use lib.ListN.{length, getD}
 use Rattle.model.specs.Lists.{every, range, tally, occurrences}
-use Rattle.model.specs.Patch.{numbered}
-use Rattle.model.specs.View.{Camera, View, viewWidth, viewHeight}
+use Rattle.model.specs.Patch.{Patch, numbered}
+use Rattle.model.specs.View.{Camera, View, windowColumn, windowRow, pictureWidth, pictureHeight}
 use Rattle.model.specs.Station.{Station, eyeOf, viewAt}
-use Rattle.model.specs.Beside.{ShownBeside, HasBeside, cellLine}
+use Rattle.model.specs.Beside.{ShownBeside, HasBeside, tileLine}
 use Rattle.model.specs.Lent.{Lent}
 use Rattle.model.specs.Format.{patchesIn}
 use Rattle.model.specs.Row.{rowOf, rowLength, listOf}
@@ -23,13 +23,20 @@ use Rattle.model.specs.Removal.{isChosen, kept, TakenAway}
 use Rattle.contract.specs.Contract.{callOn, results, Surveyed}
 use Rattle.coverage.specs.Coverage.{SameCover}
 
--- cell (i, j) of a view's picture
+-- cell (i, j) of a view's picture, counted from the tile's top left cell
 abbrev pub cell : View → List ℕ → ℕ → ℕ → ℕ
-cell v picture i j = getD picture (j * viewWidth v + i) 0
+cell v picture i j = getD picture (j * pictureWidth v + i) 0
+
+-- What the lines just beside the sight line of cell (i, j) of a view's picture show, and the patch that has the cell. Document 02, F-9: "A tile's cells are those of the whole window's sight lines at that place."
+abbrev pub CellShows : View → List Patch → ℕ → ℕ → ℕ → Type 0
+CellShows v ps i j n = ShownBeside v ps (windowColumn (v .camera) i) (windowRow (v .camera) j) n
+
+abbrev pub CellHeldBy : View → List Patch → ℕ → ℕ → ℕ → Type 0
+CellHeldBy v ps i j k = HasBeside v ps (windowColumn (v .camera) i) (windowRow (v .camera) j) k
 
 -- Patch k of a scene has cell (i, j) of a view. The test goes by the one line that an equation needs; `bookedFirst` below says it by the lines just beside.
 abbrev pub patchHas : List ℕ → View → ℕ → ℕ → ℕ → Bool
-patchHas bytes v i j k = hasCell (v .eye) (cellLine (v .camera) i j) (patchesIn bytes) k
+patchHas bytes v i j k = hasCell (v .eye) (tileLine (v .camera) i j) (patchesIn bytes) k
 
 -- Demand 1: "every call ends with a full picture or with the one numbered refusal that document 01 gives, a scene is accepted exactly if it keeps the rules there,
 -- and a refusal leaves picture, counts, unlit lists and station counter untouched." So it leaves everything lent, the table of the patches' cells and the lit map too.
@@ -46,31 +53,31 @@ pub record RefusesRightly (bytes : List ℕ) (s : Station) (c : Camera) (before 
 -- patches." No cell is booked to two patches, the patch that has a cell is of the panel that the cell shows, and each cell that shows a panel is some patch's. Whose it is: "Where two patches
 -- of one panel overlap in a plane, the earlier in the list has the cell." F-3: what is met and what is closest is read by the lines just beside the cell's sight line, and one
 -- number alone is what they show. F-8: "bit i mod 64 of word i / 64 set when column i is lit. Columns beyond the width stay clear." Map and lists describe the same cells, and the two answers on a
--- row are those of its cells.
+-- row are those of its cells. F-9: the picture is that of the view's tile, each cell read by the whole window's sight line at that place, and the counts, lists and map are those of the tile's cells.
 pub record ClosestPanels (bytes : List ℕ) (v : View) (after : Lent) : Type 0 where
   pub cells :
-      (i j : ℕ) → i < viewWidth v → j < viewHeight v →
-      ShownBeside v (patchesIn bytes) i j (cell v (after .picture) i j)
+      (i j : ℕ) → i < pictureWidth v → j < pictureHeight v →
+      CellShows v (patchesIn bytes) i j (cell v (after .picture) i j)
   pub cellsOnly :
-      (i j n : ℕ) → i < viewWidth v → j < viewHeight v → ShownBeside v (patchesIn bytes) i j n → n ≡ cell v (after .picture) i j
-  pub whole : length (after .picture) ≡ viewWidth v * viewHeight v
+      (i j n : ℕ) → i < pictureWidth v → j < pictureHeight v → CellShows v (patchesIn bytes) i j n → n ≡ cell v (after .picture) i j
+  pub whole : length (after .picture) ≡ pictureWidth v * pictureHeight v
   pub counted : (n : ℕ) → n < countEntries → getD (after .counts) n 0 ≡ occurrences n (after .picture)
   pub entries : length (after .counts) ≡ countEntries
-  pub summed : sum _+_ 0 (after .counts) ≡ viewWidth v * viewHeight v
+  pub summed : sum _+_ 0 (after .counts) ≡ pictureWidth v * pictureHeight v
   pub booked :
       (k : ℕ) → k < length (patchesIn bytes) →
-      getD (after .patchCounts) k 0 ≡ cellsWhere (viewWidth v) (viewHeight v) (λ (i j : ℕ). patchHas bytes v i j k)
+      getD (after .patchCounts) k 0 ≡ cellsWhere (pictureWidth v) (pictureHeight v) (λ (i j : ℕ). patchHas bytes v i j k)
   pub patchEntries : length (after .patchCounts) ≡ length (patchesIn bytes)
   pub bookedFirst :
-      (i j k : ℕ) → T (patchHas bytes v i j k) ↔ HasBeside v (patchesIn bytes) i j k
+      (i j k : ℕ) → T (patchHas bytes v i j k) ↔ CellHeldBy v (patchesIn bytes) i j k
   pub bookedSome :
-      (i j : ℕ) → i < viewWidth v → j < viewHeight v → ¬ (cell v (after .picture) i j ≡ 0) →
+      (i j : ℕ) → i < pictureWidth v → j < pictureHeight v → ¬ (cell v (after .picture) i j ≡ 0) →
       (k : ℕ) × (k < length (patchesIn bytes)) × T (patchHas bytes v i j k)
   pub bookedOnce :
       (i j k m : ℕ) → k < length (patchesIn bytes) → m < length (patchesIn bytes) →
       T (patchHas bytes v i j k) → T (patchHas bytes v i j m) → k ≡ m
   pub bookedPanel :
-      (i j k : ℕ) → i < viewWidth v → j < viewHeight v → k < length (patchesIn bytes) → T (patchHas bytes v i j k) →
+      (i j k : ℕ) → i < pictureWidth v → j < pictureHeight v → k < length (patchesIn bytes) → T (patchHas bytes v i j k) →
       cell v (after .picture) i j ≡ numbered (patchesIn bytes) k .panel
   pub panelSum :
       (n : ℕ) → 1 ≤ n → n < countEntries →
@@ -79,20 +86,20 @@ pub record ClosestPanels (bytes : List ℕ) (v : View) (after : Lent) : Type 0 w
       (map (λ (k : ℕ). cond (eqb (numbered (patchesIn bytes) k .panel) n) (getD (after .patchCounts) k 0) 0)
       (range 0 (length (patchesIn bytes))))
   pub rows :
-      (j : ℕ) → j < viewHeight v →
-      listOf (after .unlit) j ≡ rowOf (viewWidth v) (λ (i : ℕ). eqb (cell v (after .picture) i j) 0)
-  pub rowCount : length (after .unlit) ≡ viewHeight v * rowLength
+      (j : ℕ) → j < pictureHeight v →
+      listOf (after .unlit) j ≡ rowOf (pictureWidth v) (λ (i : ℕ). eqb (cell v (after .picture) i j) 0)
+  pub rowCount : length (after .unlit) ≡ pictureHeight v * rowLength
   pub lit :
-      (i j : ℕ) → i < rowBits → j < viewHeight v →
-      litAt (wordsOf (after .lit) j) i ≡ litColumn (viewWidth v) (λ (k : ℕ). eqb (cell v (after .picture) k j) 0) i
-  pub wordCount : length (after .lit) ≡ viewHeight v * rowWords
-  pub same : (j : ℕ) → j < viewHeight v → SameCells (viewWidth v) (listOf (after .unlit) j) (wordsOf (after .lit) j)
+      (i j : ℕ) → i < rowBits → j < pictureHeight v →
+      litAt (wordsOf (after .lit) j) i ≡ litColumn (pictureWidth v) (λ (k : ℕ). eqb (cell v (after .picture) k j) 0) i
+  pub wordCount : length (after .lit) ≡ pictureHeight v * rowWords
+  pub same : (j : ℕ) → j < pictureHeight v → SameCells (pictureWidth v) (listOf (after .unlit) j) (wordsOf (after .lit) j)
   pub litInRow :
-      (j : ℕ) → j < viewHeight v →
-      litCells (after .lit) j ≡ tally (λ (i : ℕ). not (eqb (cell v (after .picture) i j) 0)) (range 0 (viewWidth v))
+      (j : ℕ) → j < pictureHeight v →
+      litCells (after .lit) j ≡ tally (λ (i : ℕ). not (eqb (cell v (after .picture) i j) 0)) (range 0 (pictureWidth v))
   pub firstInRow :
-      (j : ℕ) → j < viewHeight v →
-      firstUnlit (after .lit) (viewWidth v) j ≡ firstOf (λ (i : ℕ). eqb (cell v (after .picture) i j) 0) 0 (viewWidth v)
+      (j : ℕ) → j < pictureHeight v →
+      firstUnlit (after .lit) (pictureWidth v) j ≡ firstOf (λ (i : ℕ). eqb (cell v (after .picture) i j) 0) 0 (pictureWidth v)
 
 -- All that the survey call promises: its equations, and demand 2 of every accepted call.
 pub record ClosestSurveyed (bytes : List ℕ) (s : Station) (c : Camera) (before after : Lent) (result : ℕ) : Type 0 where
@@ -100,7 +107,8 @@ pub record ClosestSurveyed (bytes : List ℕ) (s : Station) (c : Camera) (before
   pub closestPanels : result ≡ 0 → ClosestPanels bytes (viewAt s c) after
 
 -- Document 02, F-1: "Closest panel and chosen panels are meant along these directions, and the two pictures compared are of one view." F-3: each direction is read by the lines just beside it.
--- Demand 3, of two accepted calls with one view (eye, axes and window), on a scene and on one that "has just the first's patches less all those of the chosen panels":
+-- F-9: "The chosen-panel comparison is between tiles of one place and size".
+-- Demand 3, of two accepted calls with one view (eye, axes, window and tile), on a scene and on one that "has just the first's patches less all those of the chosen panels":
 -- "The two pictures are equal, cell by cell, exactly when every chosen panel's count, from the call on the first scene, is zero. Equal or not, each cell of the
 -- first holds its closest panel .., or 0; the pictures differ in exactly the cells where the first shows a chosen panel, and in each of these the second shows
 -- the closest of the panels kept, or 0." Of the cell's closest among the panels kept: "among the first scene's patches with those of chosen panels left out".
@@ -108,14 +116,14 @@ pub record ChosenTakenAway (bytes : List ℕ) (chosen : ℕ → Bool) (v : View)
   pub equal :
       (first .picture ≡ second .picture) ↔ ((n : ℕ) → T (isChosen chosen n) → getD (first .counts) n 0 ≡ 0)
   pub closest :
-      (i j : ℕ) → i < viewWidth v → j < viewHeight v →
-      ShownBeside v (patchesIn bytes) i j (cell v (first .picture) i j)
+      (i j : ℕ) → i < pictureWidth v → j < pictureHeight v →
+      CellShows v (patchesIn bytes) i j (cell v (first .picture) i j)
   pub differ :
-      (i j : ℕ) → i < viewWidth v → j < viewHeight v →
+      (i j : ℕ) → i < pictureWidth v → j < pictureHeight v →
       (¬ (cell v (first .picture) i j ≡ cell v (second .picture) i j)) ↔ T (isChosen chosen (cell v (first .picture) i j))
   pub shown :
-      (i j : ℕ) → i < viewWidth v → j < viewHeight v → T (isChosen chosen (cell v (first .picture) i j)) →
-      ShownBeside v (kept chosen (patchesIn bytes)) i j (cell v (second .picture) i j)
+      (i j : ℕ) → i < pictureWidth v → j < pictureHeight v → T (isChosen chosen (cell v (first .picture) i j)) →
+      CellShows v (kept chosen (patchesIn bytes)) i j (cell v (second .picture) i j)
 
 -- Demand 3, for any chosen panels: "All this holds whatever the two trees are and whatever the lent buffers held before." Of the two stations it asks that they have one eye, in
 -- whatever form they came (document 02, F-7: "The picture is that of the whole-number station"). The calls' contracts stand beside it below.

@@ -7,7 +7,7 @@ use native.Mathlib.Nat.{mul-le-mul}
 use native.Mathlib.Omega.{arith}
 use lib.ListN.{length}
 use Rattle.model.specs.Vector.{Vec}
-use Rattle.model.specs.View.{View, levelAxes}
+use Rattle.model.specs.View.{View}
 use Rattle.model.specs.Station.{units, viewAt}
 use Rattle.model.specs.Format.{decode}
 use Rattle.model.specs.Call.{Call}
@@ -16,15 +16,16 @@ use Rattle.model.proofs.Tests.{is-true}
 use Rattle.model.proofs.Answers.{scene-first, call-next}
 use Rattle.model.proofs.FirstNo.{refused-at}
 use Rattle.model.proofs.CallLimits.{view-bounded}
-use Rattle.contract.specs.Contract.{cameraBy, lengthsBy, gateCall}
+use Rattle.input.specs.Input.{oneTile}
+use Rattle.contract.specs.Contract.{lengthsBy, gateCall}
 
 module _ (bytes : List ℕ) (eye : Vec) (w h l entries : ℕ) where
   abbrev view : View
-  view = viewAt (units eye) (cameraBy levelAxes w h l)
+  view = viewAt (units eye) (oneTile w h l)
 
   -- the call with a picture, a table, unlit lists and a lit map of these lengths
   abbrev pub lending : ℕ → ℕ → ℕ → ℕ → Call
-  lending cells patches rows words = gateCall bytes (units eye) (cameraBy levelAxes w h l) (lengthsBy cells entries patches rows words) 0
+  lending cells patches rows words = gateCall bytes (units eye) (oneTile w h l) (lengthsBy cells entries patches rows words) 0
 
   -- the answer where a question before 11 says no
   scene-refused : (cells patches rows words : ℕ) {n : ℕ} → sceneAnswer bytes ≡ suc n → surveyAnswer (lending cells patches rows words) ≡ suc n

@@ -10,15 +10,14 @@ use mir.Syntax.{w16}
 use mir.Val.{hbits, toZ, ofZ}
 use mir.ValLaws.{toZ-ofZ}
 use Rattle.model.specs.Vector.{Vec, vec}
-use Rattle.model.specs.View.{levelAxes}
 use Rattle.model.specs.Station.{units}
 use Rattle.model.specs.Call.{Call}
 use Rattle.model.specs.Format.{u16At, i16At, decode}
 use Rattle.model.specs.Questions.{sceneAnswer, surveyAnswer}
 use Rattle.model.specs.Survey.{callPicture, callCounts}
 use Rattle.model.specs.Lent.{Lent}
-use Rattle.contract.specs.Contract.{lentOf, cameraBy, results, leftBy, Surveyed}
-use Rattle.input.specs.Input.{inputCall, countsBy, inputCounts}
+use Rattle.contract.specs.Contract.{lentOf, results, leftBy, Surveyed}
+use Rattle.input.specs.Input.{oneTile, inputCall, countsBy, inputCounts}
 use Rattle.input.proofs.Caps.{lending, asked, capped-answer}
 
 -- the counts of what is left
@@ -37,7 +36,7 @@ rest n xs = ap (λ (k : ℕ). take k (drop n xs)) (sym (length-drop n xs)) ∙ t
 -- a survey with the numbers that stand in the input is the one that the input asks for
 pub surveyed-input :
     (input : List ℕ) {bytes picture counts booked unlit lit : List ℕ} {eye : Vec} {w h l r : ℕ} {after : Lent} →
-    Surveyed bytes (units eye) (cameraBy levelAxes w h l) (lentOf picture counts booked unlit lit 0) after r →
+    Surveyed bytes (units eye) (oneTile w h l) (lentOf picture counts booked unlit lit 0) after r →
     bytes ≡ drop 12 input →
     eye ≡ vec (i16At input 0) (i16At input 2) (i16At input 4) →
     w ≡ u16At input 6 →

@@ -3,7 +3,7 @@ use mathlib.Core.List.{List}
 use Prim.Native.Nat.{ℕ, zero, suc, _*_}
 use lib.ListN.{length, drop}
 use Rattle.model.specs.Vector.{vec}
-use Rattle.model.specs.View.{levelAxes}
+use Rattle.model.specs.View.{Window, Camera, levelAxes, wholeTile}
 use Rattle.model.specs.Station.{units}
 use Rattle.model.specs.Format.{u16At, i16At, decode}
 use Rattle.model.specs.Row.{rowLength}
@@ -11,15 +11,21 @@ use Rattle.model.specs.Map.{rowWords}
 use Rattle.model.specs.Call.{Call}
 use Rattle.model.specs.Questions.{surveyAnswer}
 use Rattle.model.specs.Survey.{callCounts}
-use Rattle.contract.specs.Contract.{cameraBy, lengthsBy, gateCall}
+use Rattle.contract.specs.Contract.{lengthsBy, gateCall}
 
--- Document 02, F-1, of the old view: "`ringbill` keeps it". The picture, the table of the patches' cells, the unlit lists and the lit map are as long as question 11 asks. The
+-- a level camera with a window of these columns, rows and lens. Document 02, F-1, of the old view: "`ringbill` keeps it"; F-9: "`ringbill` draws its window as one tile."
+abbrev pub oneTile : ℕ → ℕ → ℕ → Camera
+oneTile w h l =
+    let window : Window = record { width = w; height = h; lens = l } in
+    record { axes = levelAxes; window = window; tile = wholeTile window }
+
+-- The picture, the table of the patches' cells, the unlit lists and the lit map are as long as question 11 asks. The
 -- station counter is 0.
 unfoldable pub inputCall : List ℕ → ℕ → Call
 inputCall input entries =
     gateCall (drop 12 input)
     (units (vec (i16At input 0) (i16At input 2) (i16At input 4)))
-    (cameraBy levelAxes (u16At input 6) (u16At input 8) (u16At input 10))
+    (oneTile (u16At input 6) (u16At input 8) (u16At input 10))
     (lengthsBy (u16At input 6 * u16At input 8) entries (length (decode (drop 12 input) .patches)) (u16At input 8 * rowLength) (u16At input 8 * rowWords))
     0
 

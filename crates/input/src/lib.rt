@@ -22,7 +22,7 @@ pub fn word(bytes: &[u8], at: usize) -> u16
     u16_at(bytes, at) as u16
 }
 
-// The survey of an input of an eye, a window and a scene, seen by a level camera, with the station counter at 0: the answer, and the counts.
+// The survey of an input of an eye, a window and a scene, seen by a level camera that draws its window as one tile, with the station counter at 0: the answer, and the counts.
 pub fn survey_input(input: &[u8], counts: &mut [u32]) -> u32
     requires { ⌜ 12 ≤ length (now input) ⌝ }
     ensures { λ r. ⌜ r ≡ surveyAnswer (inputCall (now (input .entry)) (length (now (counts .entry)))) ⌝ }
@@ -57,6 +57,10 @@ pub fn survey_input(input: &[u8], counts: &mut [u32]) -> u32
         width,
         height,
         lens,
+        0,
+        0,
+        width,
+        height,
         &mut picture[..cells],
         counts,
         &mut patch_counts[..patches],

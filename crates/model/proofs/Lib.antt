@@ -16,6 +16,7 @@ pub mod Struck
 pub mod WholeStation
 pub mod Nearest
 pub mod CallLimits
+pub mod LastCell
 pub mod PanelNumbers
 -- the geometry of met patches
 pub mod Vectors

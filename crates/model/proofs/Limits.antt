@@ -13,15 +13,15 @@ use Rattle.model.specs.Patch.{Patch, cornersCounted}
 use Rattle.model.specs.Format.{Scene, u16At, u32At, signed16}
 use Rattle.model.specs.Row.{segments, rowPairs, rowOf, usedPart}
 use Rattle.model.specs.Map.{mapRow, litCells, firstUnlit}
-use Rattle.model.specs.Picture.{counts}
-use Rattle.model.specs.View.{Axes, Camera, levelAxes}
+use Rattle.model.specs.Picture.{counts, nextCounter}
+use Rattle.model.specs.View.{Window, Axes, Tile, Camera, levelAxes}
 use Rattle.model.specs.Lent.{Lengths}
 use Rattle.model.specs.Call.{callView}
 use Rattle.model.specs.Questions.{hasHeader, hasSections, coordinatesInRange, properChild, panelsInRange, wholeInRange, viewInRange, axesProper, lengthsFit, counterBelowEnd}
 use Rattle.model.specs.Removal.{isChosen}
 use Rattle.model.proofs.Encode.{headerBytes}
 use Rattle.model.proofs.Computing.{everything}
-use Rattle.model.proofs.Scenes.{fittingCall}
+use Rattle.model.proofs.Scenes.{fittingCall, tileCall}
 
 -- a test, numbers that pass it, and numbers that do not
 record Limit : Type 0 where
@@ -163,9 +163,19 @@ axesLimits =
 
 -- ---- question 15 of a whole number, and questions 10 to 12 of a call
 
--- a camera with a window of 5 by 3 cells, and lengths for it and a scene of six patches
+abbrev window : ℕ → ℕ → ℕ → Window
+window w h l = record { width = w; height = h; lens = l }
+
+abbrev tile : ℕ → ℕ → ℕ → ℕ → Tile
+tile l t w h = record { left = l; top = t; width = w; height = h }
+
+-- a camera with a tile of 5 by 3 cells of a window of 9 by 7, and lengths for it and a scene of six patches
 abbrev fiveByThree : Camera
-fiveByThree = record { axes = levelAxes; window = record { width = 5; height = 3; lens = 4 } }
+fiveByThree = record { axes = levelAxes; window = window 9 7 4; tile = tile 2 1 5 3 }
+
+-- question 10 of a window and a tile, from the origin
+abbrev tileAsked : Window → Tile → Bool
+tileAsked w t = viewInRange (callView (tileCall [] w t))
 
 abbrev lengths : ℕ → ℕ → ℕ → ℕ → ℕ → Lengths
 lengths p n b u m = record { picture = p; counts = n; patchCounts = b; unlit = u; lit = m }
@@ -177,6 +187,23 @@ callLimits =
     ∷ limit (λ n. viewInRange (callView (fittingCall [] origin n 4 4))) (1 ∷ 256 ∷ []) (0 ∷ 257 ∷ [])
     ∷ limit (λ n. viewInRange (callView (fittingCall [] origin 4 n 4))) (1 ∷ 128 ∷ []) (0 ∷ 129 ∷ [])
     ∷ limit (λ n. viewInRange (callView (fittingCall [] origin 4 4 n))) (1 ∷ 4096 ∷ []) (0 ∷ 4097 ∷ [])
+    -- a tile of a wide window: the window's width and height, the tile's place and size at the window's end, and its own limits
+    ∷ limit (λ n. tileAsked (window n 4 4) (tile 0 0 1 1)) (1 ∷ 257 ∷ 1024 ∷ []) (0 ∷ 1025 ∷ [])
+    ∷ limit (λ n. tileAsked (window 4 n 4) (tile 0 0 1 1)) (1 ∷ 129 ∷ 512 ∷ []) (0 ∷ 513 ∷ [])
+    ∷ limit (λ n. tileAsked (window 4 4 n) (tile 0 0 1 1)) (1 ∷ 4096 ∷ []) (0 ∷ 4097 ∷ [])
+    ∷ limit (λ n. tileAsked (window 1024 512 4) (tile n 384 256 128)) (0 ∷ 768 ∷ []) (769 ∷ 65535 ∷ [])
+    ∷ limit (λ n. tileAsked (window 1024 512 4) (tile 768 n 256 128)) (0 ∷ 384 ∷ []) (385 ∷ 65535 ∷ [])
+    ∷ limit (λ n. tileAsked (window 1024 512 4) (tile 700 0 n 1)) (1 ∷ 256 ∷ []) (0 ∷ 257 ∷ [])
+    ∷ limit (λ n. tileAsked (window 1024 512 4) (tile 0 300 1 n)) (1 ∷ 128 ∷ []) (0 ∷ 129 ∷ [])
+    -- the whole numbers 65,535 + 1 are not 0, and a tile of a narrow or low window ends with it
+    ∷ limit (λ n. tileAsked (window 9 7 4) (tile n 0 1 1)) (0 ∷ 8 ∷ []) (9 ∷ 65535 ∷ [])
+    ∷ limit (λ n. tileAsked (window 9 7 4) (tile 0 n 1 1)) (0 ∷ 6 ∷ []) (7 ∷ 65535 ∷ [])
+    ∷ limit (λ n. tileAsked (window 9 7 4) (tile 2 1 n 3)) (1 ∷ 7 ∷ []) (0 ∷ 8 ∷ [])
+    ∷ limit (λ n. tileAsked (window 9 7 4) (tile 2 1 5 n)) (1 ∷ 6 ∷ []) (0 ∷ 7 ∷ [])
+    -- the counter: it rises with the tile that holds the window's last cell
+    ∷ limit (λ n. eqb (nextCounter (record { axes = levelAxes; window = window 9 7 4; tile = tile n 1 5 6 }) 7) 8) (4 ∷ []) (0 ∷ 3 ∷ [])
+    ∷ limit (λ n. eqb (nextCounter (record { axes = levelAxes; window = window 9 7 4; tile = tile 4 n 5 3 }) 7) 8) (4 ∷ []) (0 ∷ 3 ∷ [])
+    ∷ limit (λ n. eqb (nextCounter (record { axes = levelAxes; window = window 9 7 4; tile = tile 4 1 5 n }) 7) 7) (1 ∷ 5 ∷ []) (6 ∷ [])
     ∷ limit (λ n. lengthsFit fiveByThree 6 (lengths n 1025 6 768 12)) (15 ∷ []) (14 ∷ 16 ∷ [])
     ∷ limit (λ n. lengthsFit fiveByThree 6 (lengths 15 n 6 768 12)) (1025 ∷ []) (1024 ∷ 1026 ∷ [])
     ∷ limit (λ n. lengthsFit fiveByThree 6 (lengths 15 1025 n 768 12)) (6 ∷ []) (5 ∷ 7 ∷ [])

@@ -25,17 +25,17 @@ use Rattle.model.proofs.Booked.{has-once, has-panel, NoneOrOne, none-or
 -- ---- sums over the cells of a picture
 
 module _ (width height : ℕ) where
-  abbrev overCells : (ℕ → ℕ → ℕ) → ℕ
+  abbrev pub overCells : (ℕ → ℕ → ℕ) → ℕ
   overCells f = total (λ (j : ℕ). total (λ (i : ℕ). f i j) (range 0 width)) (range 0 height)
 
   -- how many cells pass a test
-  where-total : (test : ℕ → ℕ → Bool) → cellsWhere width height test ≡ overCells (λ (i j : ℕ). only (test i j) 1)
+  pub where-total : (test : ℕ → ℕ → Bool) → cellsWhere width height test ≡ overCells (λ (i j : ℕ). only (test i j) 1)
   unfolding cellsWhere total
   where-total test =
       ap (λ (f : ℕ → ℕ). total f (range 0 height)) (fun-ext (λ j. tally-total (λ (i : ℕ). test i j) (range 0 width)))
 
   -- a number stands among the cells as often as cells hold it
-  occurrences-where :
+  pub occurrences-where :
       (value : ℕ → ℕ → ℕ) (n : ℕ) →
       occurrences n (cells width height value) ≡ cellsWhere width height (λ (i j : ℕ). eqb (value i j) n)
   unfolding cells cellsWhere total
@@ -49,7 +49,7 @@ module _ (width height : ℕ) where
       row j = map (λ (i : ℕ). value i j) (range 0 width)
 
   -- a sum in each cell
-  cells-swap :
+  pub cells-swap :
       {A : Type 0} (f : ℕ → ℕ → A → ℕ) (l : List A) →
       overCells (λ (i j : ℕ). total (f i j) l) ≡ total (λ (a : A). overCells (λ (i j : ℕ). f i j a)) l
   cells-swap {A} f l =

@@ -27,7 +27,7 @@ module _ (eye : Vec) (width height : ℕ) (direction : ℕ → ℕ → Vec) (ps 
   unfolding picture
   picture-at i j h k = cells-at width height (cellPanel eye direction ps) i j h k
 
-  closest-counted : (d : Vec) → ((p : Patch) → List·Memᴰ p ps → p .panel ≤ highestPanel) → closest eye d ps < countEntries
+  pub closest-counted : (d : Vec) → ((p : Patch) → List·Memᴰ p ps → p .panel ≤ highestPanel) → closest eye d ps < countEntries
   closest-counted d f = go (closest-right eye d ps)
     where
       go : {n : ℕ} → IsClosest eye d ps n → n < countEntries

@@ -58,7 +58,7 @@ module _ (chosen : ℕ → Bool) (eye d : Vec) where
 
 -- ---- what a picture shows
 
-chosen-counted : (chosen : ℕ → Bool) (n : ℕ) → T (isChosen chosen n) → n < countEntries
+pub chosen-counted : (chosen : ℕ → Bool) (n : ℕ) → T (isChosen chosen n) → n < countEntries
 chosen-counted chosen n t =
     let s = both (leb 1 n && leb n highestPanel) (chosen n) .0 t in
     let h : n ≤ highestPanel = leb→le n highestPanel (both (leb 1 n) (leb n highestPanel) .0 (s .0) .1) in
@@ -90,7 +90,7 @@ module _
         (λ e i j h k. ray-same i j .0 (equal .0 e i j h k), λ f. equal .1 (λ i j h k. ray-same i j .1 (f i j h k)))
 
     -- that is, when no chosen panel's number stands in the first
-    pictures-counted : (after ≡ before) ↔ ((n : ℕ) → T (isChosen chosen n) → occurrences n before ≡ 0)
+    pub pictures-counted : (after ≡ before) ↔ ((n : ℕ) → T (isChosen chosen n) → occurrences n before ≡ 0)
     unfolding picture
     pictures-counted =
         let unseen = occurrences-none width height (cellPanel eye direction first) in (

@@ -4,7 +4,7 @@ use Prim.Native.Nat.{ℕ, _*_}
 use lib.ListN.{length}
 use lib.IntN.{ℤ, pos, negℤ}
 use Rattle.model.specs.Vector.{Vec, Plane, vec, origin}
-use Rattle.model.specs.View.{Axes, levelAxes}
+use Rattle.model.specs.View.{Window, Axes, Tile, Camera, levelAxes, wholeTile}
 use Rattle.model.specs.Format.{decode}
 use Rattle.model.specs.Station.{Station, units}
 use Rattle.model.specs.Call.{Call}
@@ -156,16 +156,28 @@ sceneWalls =
     (patchLine 1 0 4 ∷ patchLine 9 4 4 ∷ [])
     (openWall (pos 150) ++ openWall (pos 80))
 
--- a call with buffers of the right lengths and the counter at 0, from a station, seen by a camera with these axes
-abbrev pub stationCall : Station → Axes → List ℕ → ℕ → ℕ → ℕ → Call
-stationCall s a bytes w h l =
+-- a call with buffers of the right lengths and the counter at 0, from a station, seen by this camera
+abbrev cameraCall : Station → Camera → List ℕ → Call
+cameraCall s c bytes =
+    let t : Tile = c .tile in
     record {
       scene = bytes;
       station = s;
-      camera = record { axes = a; window = record { width = w; height = h; lens = l } };
-      lengths = record { picture = w * h; counts = 1025; patchCounts = length (decode bytes .patches); unlit = h * 256; lit = h * 4 };
+      camera = c;
+      lengths =
+          record { picture = t .width * t .height; counts = 1025; patchCounts = length (decode bytes .patches); unlit = t .height * 256; lit = t .height * 4 };
       counter = 0;
     }
+
+-- the same with these axes, the window drawn as one tile
+abbrev pub stationCall : Station → Axes → List ℕ → ℕ → ℕ → ℕ → Call
+stationCall s a bytes w h l =
+    let window : Window = record { width = w; height = h; lens = l } in
+    cameraCall s (record { axes = a; window = window; tile = wholeTile window }) bytes
+
+-- the same seen by a level camera at the origin, with this tile of its window
+abbrev pub tileCall : List ℕ → Window → Tile → Call
+tileCall bytes w t = cameraCall (units origin) (record { axes = levelAxes; window = w; tile = t }) bytes
 
 -- the same from a station in units
 abbrev pub turnedCall : Axes → List ℕ → Vec → ℕ → ℕ → ℕ → Call

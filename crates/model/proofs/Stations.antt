@@ -1,4 +1,4 @@
--- What is seen of calls over scene bytes, and the stations that the model's own edits are told by: four quarters, S from stations in metres, and S's lit map. `worked` has the others.
+-- What is seen of calls over scene bytes, and the stations that the model's own edits are told by: four quarters, a tile of theirs, S from stations in metres, and S's lit map. `worked` has the others.
 use mathlib.Core.Path.{_≡_, refl}
 use mathlib.Core.Bool.{cond}
 use mathlib.Core.List.{List, [], _∷_, map, sum}
@@ -18,7 +18,7 @@ use Rattle.model.specs.Call.{Call}
 use Rattle.model.specs.Questions.{surveyAnswer}
 use Rattle.model.specs.Survey.{callPatches, callPicture, callCounts, callPatchCells, callUnlit, callLit}
 use Rattle.model.proofs.Computing.{everything}
-use Rattle.model.proofs.Scenes.{sceneS, sceneQuarters, sOfHalfWidth, stationCall, fittingCall, usual}
+use Rattle.model.proofs.Scenes.{sceneS, sceneQuarters, sOfHalfWidth, stationCall, fittingCall, usual, tileCall}
 
 -- what is seen of a call: its answer (0 is "done"), its picture, the used pairs of some rows, and the counts of some panels (of "nothing" at 0)
 pub record Outcome : Type 0 where
@@ -65,6 +65,12 @@ quarters =
     shows (fittingCall sceneQuarters origin 4 2 4) (1 ∷ 1 ∷ 2 ∷ 2 ∷ 3 ∷ 3 ∷ 4 ∷ 4 ∷ []) (0 ∷ []) ([] ∷ []) (1 ∷ 0 ∷ [])
     (2 ∷ 0 ∷ [])
 
+-- The four quarters again, 5 by 3: of that window the tile from column 3 and row 1 on, 2 by 2. It tells a tile's columns from its rows, and its own cells from a window's of its size (document 02, F-9).
+abbrev pub tileOfQuarters : Tried
+tileOfQuarters =
+    shows (tileCall sceneQuarters (record { width = 5; height = 3; lens = 4 }) (record { left = 3; top = 1; width = 2; height = 2 }))
+    (4 ∷ 0 ∷ 4 ∷ 0 ∷ []) (0 ∷ []) ((1 ∷ 1 ∷ []) ∷ []) (4 ∷ 0 ∷ []) (2 ∷ 2 ∷ [])
+
 -- ---- stations in metres (document 02, F-7)
 
 -- S with a half-width, 4 by 4, lens 4, from a station in metres
@@ -100,7 +106,7 @@ mapOf c js =
       result = surveyAnswer c;
       words = map (wordsOf (callLit c)) js;
       counted = map (litCells (callLit c)) js;
-      firsts = map (firstUnlit (callLit c) (c .camera .window .width)) js;
+      firsts = map (firstUnlit (callLit c) (c .camera .tile .width)) js;
     }
 
 -- ---- cells booked patch by patch
@@ -136,6 +142,10 @@ map-of-S = refl
 pub rows-from-the-top : seen quarters ≡ quarters .said
 unfolding everything seen
 rows-from-the-top = refl
+
+pub tile-of-quarters : seen tileOfQuarters ≡ tileOfQuarters .said
+unfolding everything seen
+tile-of-quarters = refl
 
 pub metre-stations : map seen inMetres ≡ map (λ (s : Tried). s .said) inMetres
 unfolding everything seen ofBits

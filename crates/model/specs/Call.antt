@@ -4,7 +4,7 @@ use Prim.Native.Nat.{ℕ}
 use Rattle.model.specs.Vector.{Vec}
 use Rattle.model.specs.View.{Camera, View}
 use Rattle.model.specs.Station.{Station, viewAt}
-use Rattle.model.specs.Beside.{cellLine}
+use Rattle.model.specs.Beside.{tileLine}
 use Rattle.model.specs.Lent.{Lengths}
 
 -- the whole input of the survey call: the scene's bytes, the station, the camera, the lent buffers' lengths and the station counter
@@ -21,4 +21,4 @@ callView c = viewAt (c .station) (c .camera)
 
 -- the line by which each cell of a call is read
 abbrev pub callLine : Call → ℕ → ℕ → Vec
-callLine c i j = cellLine (c .camera) i j
+callLine c i j = tileLine (c .camera) i j

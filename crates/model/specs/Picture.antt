@@ -1,4 +1,5 @@
 -- The picture, the counts, the unlit lists, the lit map and the counter that an accepted call leaves, from the closest panels alone: for a width, a height and any direction of each cell.
+use mathlib.Core.Bool.{cond}
 use mathlib.Core.List.{List, map, flatten}
 use Prim.Native.Nat.{ℕ, _+_}
 use lib.Dec.{eqb}
@@ -7,6 +8,7 @@ use Rattle.model.specs.Vector.{Vec}
 use Rattle.model.specs.Patch.{Patch}
 use Rattle.model.specs.Ray.{closest}
 use Rattle.model.specs.Format.{highestPanel}
+use Rattle.model.specs.View.{Camera, holdsLast}
 use Rattle.model.specs.Row.{rowOf}
 use Rattle.model.specs.Map.{mapRow}
 
@@ -40,6 +42,7 @@ unfoldable pub litMap : ℕ → ℕ → (ℕ → ℕ → ℕ) → List ℕ
 litMap width height value =
     flatten (map (λ (j : ℕ). mapRow width (λ (i : ℕ). eqb (value i j) 0)) (range 0 height))
 
--- "It rises by one with each accepted picture."
-abbrev pub nextCounter : ℕ → ℕ
-nextCounter counter = counter + 1
+-- The station counter after an accepted call. Document 02, F-9: it "rises with the tile that holds the window's last cell, and with no other", which takes the place of document 01's "It rises by one with each accepted
+-- picture."
+abbrev pub nextCounter : Camera → ℕ → ℕ
+nextCounter camera counter = cond (holdsLast camera) (counter + 1) counter

@@ -12,7 +12,7 @@ use Rattle.model.specs.Vector.{Vec, Plane, dot, cross, planeNormal, isZe
 use Rattle.model.specs.Patch.{Patch, cornersCounted, flat, strictlyConvex}
 use Rattle.model.specs.Tree.{divides}
 use Rattle.model.specs.Format.{Header, Section, Run, NodeRecord, PatchRecord, Scene, headerOf, decode, sceneVersion, headerSize, nodeSize, patchSize, cornerSize, mostNodes, mostPatches, mostCorners, highestPanel, noChild, inRun, patchTable, patchTree}
-use Rattle.model.specs.View.{Axes, Camera, View}
+use Rattle.model.specs.View.{Window, Axes, Tile, Camera, View}
 use Rattle.model.specs.Station.{Station, units, metres, wholeUnits}
 use Rattle.model.specs.Lent.{Lengths}
 use Rattle.model.specs.Call.{Call, callView}
@@ -196,13 +196,23 @@ stationInRange (units eye) = true
 stationInRange (metres x y z) =
     wholeInRange (wholeUnits x) && wholeInRange (wholeUnits y) && wholeInRange (wholeUnits z)
 
--- 10. "Is the eye within ±10,000, width 1 to 256, height 1 to 128, lens 1 to 4,096?"
+-- "up to 1,024 by 512 cells" (document 02, F-9); "lens 1 to 4,096"
+abbrev pub windowInRange : Window → Bool
+windowInRange w = within 1 1024 (w .width) && within 1 512 (w .height) && within 1 4096 (w .lens)
+
+-- Document 02, F-9, question 10 "refuses a tile that is empty, above 256 by 128 or not wholly inside" the window. The sums are of whole numbers and do not wrap.
+abbrev pub tileInWindow : Window → Tile → Bool
+tileInWindow w t =
+    within 1 256 (t .width)
+    && within 1 128 (t .height)
+    && leb (t .left + t .width) (w .width)
+    && leb (t .top + t .height) (w .height)
+
+-- 10. Document 01: "Is the eye within ±10,000, width 1 to 256, height 1 to 128, lens 1 to 4,096?" Since F-9 the window has the wider limits above, and 256 by 128 are the tile's: "Question 10 allows the larger window and
+-- refuses a tile that is empty, above 256 by 128 or not wholly inside it". Of a window that is drawn as one tile it asks what document 01 asks (`one-tile` in proofs/Views).
 unfoldable pub viewInRange : View → Bool
 viewInRange v =
-    pointInRange (v .eye)
-    && within 1 256 (v .camera .window .width)
-    && within 1 128 (v .camera .window .height)
-    && within 1 4096 (v .camera .window .lens)
+    pointInRange (v .eye) && windowInRange (v .camera .window) && tileInWindow (v .camera .window) (v .camera .tile)
 
 -- 14. Is each part from −100 to 100, and right · (forward × up) above 0? Document 02, F-1: "each part from −100 to 100"; "14 when a part is out of range or
 -- right · (forward × up) is not above 0".
@@ -214,16 +224,16 @@ axesProper a =
     && ltZ (pos 0) (dot (a .right) (cross (a .forward) (a .up)))
 
 -- 11. "Has the picture (u16) width × height cells, the counts (u32) 1,025, the unlit lists (u16) height × 256?" Document 02, F-2: "A further lent table (u32, one
--- entry a patch)"; "Question 11 covers the new table's length." F-8: "four u64 words a row"; "Question 11 covers the map's length." `patches` is the scene's patch count; the scene has passed 1 to 9 by then.
+-- entry a patch)"; "Question 11 covers the new table's length." F-8: "four u64 words a row"; "Question 11 covers the map's length." F-9: "buffer lengths follow the tile." `patches` is the scene's patch count; the scene has passed 1 to 9 by then.
 unfoldable pub lengthsFit : Camera → ℕ → Lengths → Bool
 lengthsFit c patches l =
-    eqb (l .picture) (c .window .width * c .window .height)
+    eqb (l .picture) (c .tile .width * c .tile .height)
     && eqb (l .counts) countEntries
     && eqb (l .patchCounts) patches
-    && eqb (l .unlit) (c .window .height * rowLength)
-    && eqb (l .lit) (c .window .height * rowWords)
+    && eqb (l .unlit) (c .tile .height * rowLength)
+    && eqb (l .lit) (c .tile .height * rowWords)
 
--- 12. "Is the station counter below 4,294,967,295?"
+-- 12. "Is the station counter below 4,294,967,295?" It is asked of every tile, whether or not the counter would rise with it.
 unfoldable pub counterBelowEnd : ℕ → Bool
 counterBelowEnd n = ltb n 4294967295
 

@@ -13,22 +13,23 @@ abbrev pub callPatches : Call → List Patch
 callPatches c = patchesIn (c .scene)
 
 unfoldable pub callPicture : Call → List ℕ
-callPicture c = picture (eyeOf (c .station)) (c .camera .window .width) (c .camera .window .height) (callLine c) (callPatches c)
+callPicture c = picture (eyeOf (c .station)) (c .camera .tile .width) (c .camera .tile .height) (callLine c) (callPatches c)
 
 unfoldable pub callCounts : Call → List ℕ
 callCounts c = counts (callPicture c)
 
 unfoldable pub callPatchCells : Call → List ℕ
 callPatchCells c =
-    patchCells (eyeOf (c .station)) (c .camera .window .width) (c .camera .window .height) (callLine c) (callPatches c)
+    patchCells (eyeOf (c .station)) (c .camera .tile .width) (c .camera .tile .height) (callLine c) (callPatches c)
 
+-- Document 02, F-9: "Rows, offsets and map bits count from the tile's top left cell.": row j of the lists and of the map is the tile's row j, column i its column i.
 unfoldable pub callUnlit : Call → List ℕ
 callUnlit c =
-    unlitLists (c .camera .window .width) (c .camera .window .height) (cellPanel (eyeOf (c .station)) (callLine c) (callPatches c))
+    unlitLists (c .camera .tile .width) (c .camera .tile .height) (cellPanel (eyeOf (c .station)) (callLine c) (callPatches c))
 
 unfoldable pub callLit : Call → List ℕ
 callLit c =
-    litMap (c .camera .window .width) (c .camera .window .height) (cellPanel (eyeOf (c .station)) (callLine c) (callPatches c))
+    litMap (c .camera .tile .width) (c .camera .tile .height) (cellPanel (eyeOf (c .station)) (callLine c) (callPatches c))
 
 unfoldable pub callCounter : Call → ℕ
-callCounter c = nextCounter (c .counter)
+callCounter c = nextCounter (c .camera) (c .counter)

@@ -1,5 +1,7 @@
--- Which way one looks, and from where: a camera, a camera at an eye, and the directions of a picture's cells.
-use Prim.Native.Nat.{ℕ, _+_, _*_}
+-- Which way one looks, and from where: a camera with the tile of its window that is drawn, a camera at an eye, and the directions of a picture's cells.
+use mathlib.Core.Bool.{Bool, _&&_}
+use Prim.Native.Nat.{ℕ, _+_, _*_, _-_}
+use lib.Dec.{leb, ltb}
 use lib.IntN.{pos, _-ℤ_}
 use Rattle.model.specs.Vector.{Vec, vec, plus, times}
 
@@ -24,12 +26,28 @@ levelAxes =
       up = vec (pos 0) (pos 0) (pos 1);
     }
 
--- all that decides a cell's direction
+-- Document 02, F-9: "The picture is made in tiles": a part of a window, by the place of its top left cell in the window and by its size.
+pub record Tile : Type 0 where
+  pub left : ℕ
+  pub top : ℕ
+  pub width : ℕ
+  pub height : ℕ
+
+-- Cell (x, y) of the window lies in the tile.
+abbrev pub holds : Tile → ℕ → ℕ → Bool
+holds t x y = (leb (t .left) x && ltb x (t .left + t .width)) && (leb (t .top) y && ltb y (t .top + t .height))
+
+-- the whole window as one tile
+abbrev pub wholeTile : Window → Tile
+wholeTile w = record { left = 0; top = 0; width = w .width; height = w .height }
+
+-- how the camera is turned, its window, and the tile of the window that is drawn
 pub record Camera : Type 0 where
   pub axes : Axes
   pub window : Window
+  pub tile : Tile
 
--- "Column i runs from 0 at the left, row j from 0 at the top."
+-- Cell (i, j) of the whole window: "Column i runs from 0 at the left, row j from 0 at the top." The tile has no part in it.
 -- Document 02, F-1: "A cell's direction is (2i + 1 − width) times right plus lens times forward plus (height − 1 − 2j) times up."
 abbrev pub direction : Camera → ℕ → ℕ → Vec
 direction c i j =
@@ -37,6 +55,18 @@ direction c i j =
     (plus (times (pos (2 * i + 1) -ℤ pos (c .window .width)) (c .axes .right))
     (times (pos (c .window .lens)) (c .axes .forward)))
     (times (pos (c .window .height) -ℤ pos (1 + 2 * j)) (c .axes .up))
+
+-- The cell of the whole window that the tile has as its cell (i, j). Document 02, F-9: "A tile's cells are those of the whole window's sight lines at that place. Rows, offsets and map bits count from the tile's top
+-- left cell."
+abbrev pub windowColumn : Camera → ℕ → ℕ
+windowColumn c i = c .tile .left + i
+
+abbrev pub windowRow : Camera → ℕ → ℕ
+windowRow c j = c .tile .top + j
+
+-- the tile holds "the window's last cell": that of its last column in its last row
+abbrev pub holdsLast : Camera → Bool
+holdsLast c = holds (c .tile) (c .window .width - 1) (c .window .height - 1)
 
 -- "The cell's direction is (2i + 1 − width, lens, height − 1 − 2j), from the eye onward.": what `direction` comes to in the old view (`level-direction` in proofs/Views).
 abbrev pub levelDirection : Window → ℕ → ℕ → Vec
@@ -47,9 +77,15 @@ pub record View : Type 0 where
   pub eye : Vec
   pub camera : Camera
 
--- the columns and the rows of a view's picture
-abbrev pub viewWidth : View → ℕ
-viewWidth v = v .camera .window .width
+-- the columns and the rows of a view's window, and those of its picture, which is the tile's
+abbrev pub windowWidth : View → ℕ
+windowWidth v = v .camera .window .width
 
-abbrev pub viewHeight : View → ℕ
-viewHeight v = v .camera .window .height
+abbrev pub windowHeight : View → ℕ
+windowHeight v = v .camera .window .height
+
+abbrev pub pictureWidth : View → ℕ
+pictureWidth v = v .camera .tile .width
+
+abbrev pub pictureHeight : View → ℕ
+pictureHeight v = v .camera .tile .height

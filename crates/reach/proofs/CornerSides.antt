@@ -23,7 +23,8 @@ use Rattle.spans.proofs.Rows.{shaped-all}
 use Rattle.model.proofs.Ranges.{range-append}
 use Rattle.reach.specs.declared.Planes.{Planes}
 use Rattle.reach.specs.declared.Sides.{Sides}
-use Rattle.reach.specs.Reach.{rowNormal, OnOneSide, SidesBeside, SidesShaped, SidesClipped}
+use Rattle.reach.specs.Planes.{normalAt}
+use Rattle.reach.specs.Reach.{OnOneSide, SidesBeside, SidesShaped, SidesClipped}
 
 pub bounded-more : {n m : ℕ} {v : Vector} → n ≤ m → Bounded n v → Bounded m v
 bounded-more h b =
@@ -54,15 +55,15 @@ module _ {eye : Vec} {n : Planes} {height : ℕ} where
   -- one corner more: in the rows left its number, slope · j + start, is above 0
   beside-corner :
       {sign : ℤ} {corners : List Vec} {s r : Span} {A B : ℤ} (c : Vec) →
-      ((j : ℕ) → numberAt A B j ≡ dot (minus c eye) (rowNormal n sign j)) →
+      ((j : ℕ) → numberAt A B j ≡ dot (minus c eye) (normalAt n sign j)) →
       OnOneSide eye n sign corners height s → Clipped A B s r →
       OnOneSide eye n sign (corners ++ c ∷ []) height r
   beside-corner {sign} {corners} {s} {r} {A} {B} c is b clipped =
       record {
         all = λ j t.
             let p = both (covers s j) (ltZ (pos 0) (numberAt A B j)) .0 (subst T (clipped .exact j) t) in
-            of-append (λ (c : Vec). pos 0 <ℤ dot (minus c eye) (rowNormal n sign j)) corners (b .all j (p .0))
-            (of-one (λ (c : Vec). pos 0 <ℤ dot (minus c eye) (rowNormal n sign j)) (subst (pos 0 <ℤ_) (is j) (ltZ-yes (p .1))));
+            of-append (λ (c : Vec). pos 0 <ℤ dot (minus c eye) (normalAt n sign j)) corners (b .all j (p .0))
+            (of-one (λ (c : Vec). pos 0 <ℤ dot (minus c eye) (normalAt n sign j)) (subst (pos 0 <ℤ_) (is j) (ltZ-yes (p .1))));
         shaped = record { written = clipped .shaped .written; limited = omega (arith, clipped .shaped .limited, b .shaped .limited) };
       }
 

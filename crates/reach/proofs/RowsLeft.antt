@@ -15,14 +15,16 @@ use Rattle.model.specs.Ray.{met}
 use Rattle.model.proofs.Tests.{lt-or-ge}
 use Rattle.model.proofs.Alike.{Ranged}
 use Rattle.geometry.specs.declared.Raster.{Raster}
+use Rattle.geometry.specs.Machine.{vecOf}
 use Rattle.geometry.specs.Raster.{lineAt}
 use Rattle.spans.specs.declared.Span.{Span}
 use Rattle.spans.specs.Span.{covers, Limited}
 use Rattle.spans.proofs.Clipping.{covers-says}
-use Rattle.reach.specs.declared.Planes.{Planes}
 use Rattle.reach.specs.declared.Sides.{Sides}
-use Rattle.reach.specs.Reach.{PlanesOf, SidesBeside, Without, Reach}
-use Rattle.reach.proofs.RowPlanes.{row-missed}
+use Rattle.reach.specs.declared.Planes.{Planes}
+use Rattle.reach.specs.Planes.{PlanesOf}
+use Rattle.reach.specs.Reach.{SidesBeside, Without, Reach}
+use Rattle.reach.proofs.BesidePlanes.{row-missed}
 
 module _ (rows s : Span) where
   pub without-first : s .first ≤ rows .first → rows .first < s .end → Without rows s (record { first = s .end; end = rows .end })
@@ -48,19 +50,21 @@ module _
     (u : Without (record { first = 0; end = raster .height }) (sides .ahead) rest)
     (v : Without rest (sides .behind) r)
   where
-    pub reach-left : {p : Patch} → PlanesOf raster n → VecWithin 10000 eye → Proper p → Ranged p → p .corners ≡ corners → Reach eye raster p r
+    pub reach-left :
+        {p : Patch} → PlanesOf (vecOf (raster .origin)) (vecOf (raster .across)) (vecOf (raster .down)) n → VecWithin 10000 eye → Proper p → Ranged p →
+        p .corners ≡ corners → Reach eye raster p r
     reach-left {p} planes near proper ranged e = record { missed = go }
       where
         go : (j : ℕ) → j < raster .height → (r .first ≤ j → j < r .end → ⊥) → (i : ℕ) → met eye (lineAt raster i j) p ≡ false
         go j h g i = first (covers (sides .ahead) j) refl
           where
             second : (rest .first ≤ j) × (j < rest .end) → (c : Bool) → covers (sides .behind) j ≡ c → met eye (lineAt raster i j) p ≡ false
-            second m true t = row-missed planes eye (negsuc 0) j (within-literal tt) near proper ranged (rw e (b .behind-beside .all j (subst T (sym t) tt))) i
+            second m true t = row-missed raster eye (negsuc 0) (within-literal tt) near proper ranged planes j (rw e (b .behind-beside .all j (subst T (sym t) tt))) i
             second m false t =
                 let l = v .left j (m .0) (m .1) (λ x y. subst T t (covers-says (sides .behind) j .1 (x, y))) in absurd (g (l .0) (l .1))
 
             first : (c : Bool) → covers (sides .ahead) j ≡ c → met eye (lineAt raster i j) p ≡ false
-            first true t = row-missed planes eye (pos 1) j (within-literal tt) near proper ranged (rw e (b .ahead-beside .all j (subst T (sym t) tt))) i
+            first true t = row-missed raster eye (pos 1) (within-literal tt) near proper ranged planes j (rw e (b .ahead-beside .all j (subst T (sym t) tt))) i
             first false t =
                 second (u .left j (omega arith) h (λ x y. subst T t (covers-says (sides .ahead) j .1 (x, y)))) (covers (sides .behind) j) refl
 

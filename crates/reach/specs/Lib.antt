@@ -1,2 +1,4 @@
 -- What the crate's contracts cite.
+pub mod Planes
 pub mod Reach
+pub mod Columns

@@ -6,36 +6,22 @@ use Prim.Native.Nat.{ℕ, _≤_, _<_}
 use lib.Dec.{T}
 use lib.IntN.{ℤ, pos, negsuc, negℤ}
 use lib.Signed.{_<ℤ_}
-use Rattle.model.specs.Vector.{Vec, minus, plus, times, dot, cross}
-use Rattle.model.specs.Patch.{Patch, Proper}
+use Rattle.model.specs.Vector.{Vec, minus, dot}
+use Rattle.model.specs.Patch.{Patch}
 use Rattle.model.specs.Ray.{met}
-use Rattle.model.specs.Format.{decode, patchNumbered}
-use Rattle.geometry.specs.declared.Vector.{Vector}
 use Rattle.geometry.specs.declared.Raster.{Raster}
-use Rattle.geometry.specs.Machine.{vecOf, Bounded, VectorIs}
 use Rattle.geometry.specs.Raster.{lineAt}
-use Rattle.format.specs.declared.layout.Layout.{Layout}
 use Rattle.spans.specs.declared.Span.{Span}
 use Rattle.spans.specs.Span.{covers, Shaped, Clipped}
-use Rattle.checked.specs.Checked.{Checked}
 use Rattle.reach.specs.declared.Planes.{Planes}
 use Rattle.reach.specs.declared.Sides.{Sides}
-
--- ---- the rows' planes
--- the normals are square to the rays: across × origin in row 0, and across × down more from row to row
-pub record PlanesOf (r : Raster) (n : Planes) : Type 0 where
-  pub first-is : VectorIs 225200000 (cross (vecOf (r .across)) (vecOf (r .origin))) (n .first)
-  pub next-is : VectorIs 225200000 (cross (vecOf (r .across)) (vecOf (r .down))) (n .next)
-
--- the normal of row j, times a sign
-abbrev pub rowNormal : Planes → ℤ → ℕ → Vec
-rowNormal n sign j = times sign (plus (vecOf (n .first)) (times (pos j) (vecOf (n .next))))
+use Rattle.reach.specs.Planes.{normalAt}
 
 -- ---- the rows beside a patch
 -- in each row of the span every corner, seen from the eye, lies on the side of the row's plane that the normal, times the sign, points to
 pub record OnOneSide (eye : Vec) (n : Planes) (sign : ℤ) (corners : List Vec) (height : ℕ) (r : Span) : Type 0 where
   pub all :
-      (j : ℕ) → T (covers r j) → (c : Vec) → List·Memᴰ c corners → pos 0 <ℤ dot (minus c eye) (rowNormal n sign j)
+      (j : ℕ) → T (covers r j) → (c : Vec) → List·Memᴰ c corners → pos 0 <ℤ dot (minus c eye) (normalAt n sign j)
   pub shaped : Shaped height r
 
 pub record SidesBeside (eye : Vec) (n : Planes) (corners : List Vec) (height : ℕ) (r : Sides) : Type 0 where
@@ -59,15 +45,6 @@ pub record Without (rows s r : Span) : Type 0 where
   pub end-limit : (n : ℕ) → rows .end ≤ n → s .first ≤ n → r .end ≤ n
 
 -- ---- the reach of a patch
--- What a patch is sighted with: a scene that can be read, the number of a patch of it that is proper, an eye in range, and a raster with its rows' planes.
-pub record Sighting (bytes : List ℕ) (l : Layout) (k : ℕ) (eye : Vector) (r : Raster) (n : Planes) : Type 0 where
-  pub scene : Checked bytes l
-  pub number : k < l .patches
-  pub proper : Proper (patchNumbered (decode bytes) k)
-  pub eye-bounded : Bounded 10000 eye
-  pub planes-of : PlanesOf r n
-  pub height-limit : r .height ≤ 1024
-
 -- Outside these rows no line that a cell is read along meets the patch. It need not be met in all of them: too wide a reach costs time alone.
 pub record Reach (eye : Vec) (r : Raster) (p : Patch) (rows : Span) : Type 0 where
   pub missed :

@@ -8,13 +8,13 @@ use lib.IntN.{ℤ, pos, negsuc, negℤ}
 use lib.ListN.{getD, take, replicate}
 use lib.Ieee.{Float, nan, inf, binary64, ofBits}
 use Rattle.model.specs.Vector.{Vec, Plane, vec, origin}
-use Rattle.model.specs.View.{Axes, levelAxes}
+use Rattle.model.specs.View.{Window, Axes, Tile, levelAxes, wholeTile}
 use Rattle.model.specs.Station.{units, metres}
 use Rattle.model.specs.Call.{Call}
 use Rattle.model.specs.Questions.{Question, answer, questions}
 use Rattle.model.proofs.Encode.{u16, u32, headerBytes, bodyBytes, sceneBytes}
 use Rattle.model.proofs.Computing.{everything}
-use Rattle.model.proofs.Scenes.{square, upright, none, nodeLine, patchLine, sceneS, sOfHalfWidth, turnedCall, fittingCall, usual}
+use Rattle.model.proofs.Scenes.{square, upright, none, nodeLine, patchLine, sceneS, sOfHalfWidth, turnedCall, fittingCall, usual, tileCall}
 
 -- the numbers of all questions that say no
 unfoldable pub noes : {A : Type 0} → List (Question A) → A → List ℕ
@@ -141,16 +141,34 @@ thirdLevel left right =
 -- S seen by a camera with these axes, with buffers of the given lengths and the given counter
 abbrev lentTurned : Axes → ℕ → ℕ → ℕ → ℕ → ℕ → ℕ → ℕ → Call
 lentTurned a w p n b u m k =
+    let window : Window = record { width = w; height = 4; lens = 4 } in
     record {
       scene = sceneS;
       station = units origin;
-      camera = record { axes = a; window = record { width = w; height = 4; lens = 4 } };
+      camera = record { axes = a; window = window; tile = wholeTile window };
       lengths = record { picture = p; counts = n; patchCounts = b; unlit = u; lit = m };
       counter = k;
     }
 
 abbrev lent : ℕ → ℕ → ℕ → ℕ → ℕ → ℕ → ℕ → Call
 lent = lentTurned levelAxes
+
+-- a tile, by its four numbers, of a window of these columns and rows
+abbrev tiled : ℕ → ℕ → ℕ → ℕ → ℕ → ℕ → Call
+tiled w h x y tw th =
+    tileCall sceneS (record { width = w; height = h; lens = 4 }) (record { left = x; top = y; width = tw; height = th })
+
+-- the tile of 2 by 3 cells in the middle of a window of 6 by 7, with a picture, lists and a map of these lengths and this counter
+abbrev tileLent : ℕ → ℕ → ℕ → ℕ → Call
+tileLent p u m k =
+    let c : Call = tiled 6 7 2 2 2 3 in
+    record {
+      scene = c .scene;
+      station = c .station;
+      camera = c .camera;
+      lengths = record { picture = p; counts = 1025; patchCounts = 1; unlit = u; lit = m };
+      counter = k;
+    }
 
 -- a level camera's axes with another right, and with another up
 abbrev withRight : Vec → Axes
@@ -313,6 +331,24 @@ cases =
     ∷ onCall (fittingCall sceneS (at (negℤ (pos 10000))) 4 4 4) []
     ∷ onCall (fittingCall sceneS (at (negℤ (pos 10001))) 4 4 4) (10 ∷ [])
     ∷ onCall (lent 0 1 1025 1 1024 16 0) (10 ∷ 11 ∷ [])
+    -- tiles of a wide window: the last one, one column and one row past it, an empty one, one too wide and one too high for a tile; a sum that 16 bits would cut to 0; the window itself at its limits and beyond
+    ∷ onCall (tiled 1024 512 768 384 256 128) []
+    ∷ onCall (tiled 1024 512 769 384 256 128) (10 ∷ [])
+    ∷ onCall (tiled 1024 512 768 385 256 128) (10 ∷ [])
+    ∷ onCall (tiled 1024 512 0 0 0 1) (10 ∷ [])
+    ∷ onCall (tiled 1024 512 0 0 1 0) (10 ∷ [])
+    ∷ onCall (tiled 1024 512 0 0 257 1) (10 ∷ [])
+    ∷ onCall (tiled 1024 512 0 0 1 129) (10 ∷ [])
+    ∷ onCall (tiled 1024 512 65535 0 1 1) (10 ∷ [])
+    ∷ onCall (tiled 1024 512 0 65535 1 1) (10 ∷ [])
+    ∷ onCall (tiled 1025 512 0 0 1 1) (10 ∷ [])
+    ∷ onCall (tiled 1024 513 0 0 1 1) (10 ∷ [])
+    -- the lengths of a tile of 2 by 3 cells, its window's lengths, and 12 though the counter would not rise
+    ∷ onCall (tileLent 6 768 12 0) []
+    ∷ onCall (tileLent 42 768 12 0) (11 ∷ [])
+    ∷ onCall (tileLent 6 1792 12 0) (11 ∷ [])
+    ∷ onCall (tileLent 6 768 28 0) (11 ∷ [])
+    ∷ onCall (tileLent 6 768 12 4294967295) (12 ∷ [])
     -- the axes: a part at the limit and beyond, right turned round, up along forward, all of it zero; 9 and 10 before 14, 14 before 11 and 12
     ∷ onCall (turnedCall (withRight (at (pos 100))) sceneS origin 4 4 4) []
     ∷ onCall (turnedCall (withRight (at (pos 101))) sceneS origin 4 4 4) (14 ∷ [])

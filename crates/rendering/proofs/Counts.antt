@@ -5,8 +5,8 @@ use Prim.Native.Nat.{ℕ, _*_, _≤_, _<_}
 use native.Mathlib.Nat.{mul-le-mul}
 use native.Mathlib.Omega.{arith}
 use lib.ListN.{length, length-map}
-use Rattle.model.specs.View.{View, viewWidth, viewHeight}
-use Rattle.model.specs.Beside.{cellLine}
+use Rattle.model.specs.View.{View, pictureWidth, pictureHeight}
+use Rattle.model.specs.Beside.{tileLine}
 use Rattle.model.specs.Patch.{Patch, numbered}
 use Rattle.model.specs.Format.{decode, patchTable, patchOf, patchNumbered}
 use Rattle.model.specs.Picture.{countEntries}
@@ -37,8 +37,8 @@ module _
 
     -- what counting asks
     pub countable :
-        {n : ℕ} {totals : List ℕ} → length booked ≡ length (decode bytes .patches) → n ≡ viewWidth v * viewHeight v →
-        viewWidth v ≤ 256 → viewHeight v ≤ 128 → length totals ≡ countEntries → Countable bytes l booked n totals
+        {n : ℕ} {totals : List ℕ} → length booked ≡ length (decode bytes .patches) → n ≡ pictureWidth v * pictureHeight v →
+        pictureWidth v ≤ 256 → pictureHeight v ≤ 128 → length totals ≡ countEntries → Countable bytes l booked n totals
     unfolding patchNumbered
     countable {n} e size narrow low entries =
         record {
@@ -48,19 +48,19 @@ module _
               let c : k < length ps = omega (arith, many, patch-count laid) in
               omega (arith, panel-bounded (decode bytes) (h .panels) (numbered ps k) (getD-member ps k _ c));
           few = omega (arith, mul-le-mul narrow low);
-          within = omega (arith, table-within (v .eye) (viewWidth v) (viewHeight v) (cellLine (v .camera)) ps (p .booked-are) positive);
+          within = omega (arith, table-within (v .eye) (pictureWidth v) (pictureHeight v) (tileLine (v .camera)) ps (p .booked-are) positive);
           entries = entries;
         }
 
     -- what it leaves are the counts of the picture
     pub rendered :
-        {n : ℕ} {totals : List ℕ} → n ≡ viewWidth v * viewHeight v → Counted (λ (k : ℕ). patchNumbered (decode bytes) k .panel) booked n totals →
+        {n : ℕ} {totals : List ℕ} → n ≡ pictureWidth v * pictureHeight v → Counted (λ (k : ℕ). patchNumbered (decode bytes) k .panel) booked n totals →
         Rendered bytes v cells unlit lit booked totals
     unfolding patchNumbered
     rendered {n} {totals} size c =
         record {
           painted = p;
           counts-are =
-              table-counts (v .eye) (viewWidth v) (viewHeight v) (cellLine (v .camera)) ps (p .booked-are) positive
+              table-counts (v .eye) (pictureWidth v) (pictureHeight v) (tileLine (v .camera)) ps (p .booked-are) positive
               (subst (λ (m : ℕ). Counted (λ (k : ℕ). numbered ps k .panel) booked m totals) size c);
         }

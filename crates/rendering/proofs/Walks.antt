@@ -10,7 +10,7 @@ use Rattle.model.specs.Vector.{Vec}
 use Rattle.model.specs.Patch.{Patch}
 use Rattle.model.specs.Tree.{order}
 use Rattle.model.specs.View.{Camera}
-use Rattle.model.specs.Beside.{cellLine}
+use Rattle.model.specs.Beside.{tileLine}
 use Rattle.model.specs.Format.{decode, patchNumbered, numberTree}
 use Rattle.model.specs.Questions.{patchRunsFollow, cornerRunsFollow, runsProper}
 use Rattle.model.proofs.Tests.{both, true-of}
@@ -44,21 +44,21 @@ walkable h laid = checked laid (true-of (h .coordinates)) (true-of (h .children)
 as-seen :
     {eye : Vec} {walk : List Patch} {a : Camera} {r : Raster} {cells unlit lit : List ℕ} → RaysOf a r →
     RowsPainted eye (lineAt r) walk (r .width) (r .height) cells unlit lit →
-    RowsPainted eye (cellLine a) walk (a .window .width) (a .window .height) cells unlit lit
+    RowsPainted eye (tileLine a) walk (a .tile .width) (a .tile .height) cells unlit lit
 as-seen {eye} {walk} {a} {r} {cells} {unlit} {lit} rays seen =
-    subst (λ (d : ℕ → ℕ → Vec). RowsPainted eye d walk (a .window .width) (a .window .height) cells unlit lit) (λ t i j. line-is a rays i j t)
+    subst (λ (d : ℕ → ℕ → Vec). RowsPainted eye d walk (a .tile .width) (a .tile .height) cells unlit lit) (λ t i j. line-is a rays i j t)
     (subst₂ (λ (w h : ℕ). RowsPainted eye (lineAt r) walk w h cells unlit lit) (rays .columns) (rays .rows) seen)
 
 as-booked :
     {eye : Vec} {patch : ℕ → Patch} {order : List ℕ} {a : Camera} {r : Raster} {booked : List ℕ} → RaysOf a r →
     Booked eye (lineAt r) patch order (r .width) booked (r .height) →
-    Booked eye (cellLine a) patch order (a .window .width) booked (a .window .height)
+    Booked eye (tileLine a) patch order (a .tile .width) booked (a .tile .height)
 as-booked {eye} {patch} {order} {a} {r} {booked} rays counted =
-    subst (λ (d : ℕ → ℕ → Vec). Booked eye d patch order (a .window .width) booked (a .window .height)) (λ t i j. line-is a rays i j t)
+    subst (λ (d : ℕ → ℕ → Vec). Booked eye d patch order (a .tile .width) booked (a .tile .height)) (λ t i j. line-is a rays i j t)
     (subst₂ (λ (w h : ℕ). Booked eye (lineAt r) patch order w booked h) (rays .columns) (rays .rows) counted)
 
 pub raster-framed :
-    {a : Camera} {r : Raster} {picture unlit lit : List ℕ} → RaysOf a r → Framed (a .window .width) (a .window .height) picture unlit lit →
+    {a : Camera} {r : Raster} {picture unlit lit : List ℕ} → RaysOf a r → Framed (a .tile .width) (a .tile .height) picture unlit lit →
     Framed (r .width) (r .height) picture unlit lit
 raster-framed {picture = picture} {unlit} {lit} rays framed =
     subst₂ (λ (w h : ℕ). Framed w h picture unlit lit) (sym (rays .columns)) (sym (rays .rows)) framed
@@ -111,15 +111,15 @@ module _ {bytes : List ℕ} {l : Layout} {eye : Vec} {before after : List ℕ} {
         Booked eye (lineAt r) (patchNumbered (decode bytes)) (take n after) (r .width) booked (r .height) →
         Painted bytes (record { eye = eye; camera = a }) cells unlit lit booked
     painted-all {a} {r} {cells} {unlit} {lit} {booked} rays e seen counted =
-        let p : RowsPainted eye (cellLine a) (walked bytes eye) (a .window .width) (a .window .height) cells unlit lit =
-        subst (λ (o : List ℕ). RowsPainted eye (cellLine a) (walkOf bytes o) (a .window .width) (a .window .height) cells unlit lit)
+        let p : RowsPainted eye (tileLine a) (walked bytes eye) (a .tile .width) (a .tile .height) cells unlit lit =
+        subst (λ (o : List ℕ). RowsPainted eye (tileLine a) (walkOf bytes o) (a .tile .width) (a .tile .height) cells unlit lit)
         walk-front (as-seen rays seen) in
-        let b : Booked eye (cellLine a) (patchNumbered (decode bytes)) (order eye (numberTree (decode bytes))) (a .window .width) booked (a .window .height) =
-        subst (λ (o : List ℕ). Booked eye (cellLine a) (patchNumbered (decode bytes)) o (a .window .width) booked (a .window .height))
+        let b : Booked eye (tileLine a) (patchNumbered (decode bytes)) (order eye (numberTree (decode bytes))) (a .tile .width) booked (a .tile .height) =
+        subst (λ (o : List ℕ). Booked eye (tileLine a) (patchNumbered (decode bytes)) o (a .tile .width) booked (a .tile .height))
         walk-front (as-booked rays counted) in
         record {
-          cells-are = painted-picture h eye (cellLine a) p;
-          unlit-are = painted-unlit h eye (cellLine a) p;
-          lit-are = painted-lit h eye (cellLine a) p;
-          booked-are = painted-booked h eye (cellLine a) e b;
+          cells-are = painted-picture h eye (tileLine a) p;
+          unlit-are = painted-unlit h eye (tileLine a) p;
+          lit-are = painted-lit h eye (tileLine a) p;
+          booked-are = painted-booked h eye (tileLine a) e b;
         }

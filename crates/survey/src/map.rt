@@ -12,7 +12,7 @@ pub extern "C" fn ring_row_lit(lit: &[u64], row: usize) -> u32
     row_lit(lit, row)
 }
 
-// The first column of a row that is not lit, the width where all below it are; at most 256. 0 where the row is not wholly inside the map.
+// The first column of a row that is not lit, the width, which is the tile's, where all below it are; at most 256. 0 where the row is not wholly inside the map.
 #[no_mangle]
 pub extern "C" fn ring_row_first_unlit(lit: &[u64], width: u16, row: usize) -> u32
     ensures { λ r. ⌜ r ≡ firstUnlit (now (lit .entry)) width row ⌝ }

@@ -1,14 +1,14 @@
 // The survey call and its gate from a station in metres.
 use answering::survey_answer;
-use camera::Camera;
 use handed::axes_by;
+use handed::camera_by;
 use handed::in_metres;
 use surveying::survey_from;
 ghost use mathlib.Core.Path.{_≡_};
 ghost use Rattle.model.specs.Vector.{vec};
 ghost use Rattle.model.specs.Station.{metres};
 ghost use Rattle.model.specs.Questions.{surveyAnswer};
-ghost use Rattle.contract.specs.Contract.{axesBy, cameraBy, lentOf, lengthsBy, gateCall};
+ghost use Rattle.contract.specs.Contract.{axesBy, tileBy, cameraBy, lentOf, lengthsBy, gateCall};
 ghost use Rattle.demands.specs.Demands.{ClosestSurveyed};
 
 // `ring_gate` from a station in metres.
@@ -30,6 +30,10 @@ pub extern "C" fn ring_gate_metres(
     width: u16,
     height: u16,
     lens: u16,
+    left: u16,
+    top: u16,
+    tile_width: u16,
+    tile_height: u16,
     picture_len: usize,
     counts_len: usize,
     patch_counts_len: usize,
@@ -38,7 +42,7 @@ pub extern "C" fn ring_gate_metres(
     counter: u32,
 ) -> u32
     ensures { λ r. ⌜ r ≡ surveyAnswer (gateCall (now (scene .entry)) (metres «eye_x» «eye_y» «eye_z»)
-        (cameraBy (axesBy (vec «right_x» «right_y» «right_z») (vec «forward_x» «forward_y» «forward_z») (vec «up_x» «up_y» «up_z»)) width height lens)
+        (cameraBy (axesBy (vec «right_x» «right_y» «right_z») (vec «forward_x» «forward_y» «forward_z») (vec «up_x» «up_y» «up_z»)) width height lens (tileBy left top «tile_width» «tile_height»))
         (lengthsBy «picture_len» «counts_len» «patch_counts_len» «unlit_len» «lit_len») counter) ⌝ }
 {
     let station = in_metres(eye_x, eye_y, eye_z);
@@ -53,12 +57,16 @@ pub extern "C" fn ring_gate_metres(
         up_y,
         up_z,
     );
-    let camera = Camera {
+    let camera = camera_by(
         axes,
         width,
         height,
         lens,
-    };
+        left,
+        top,
+        tile_width,
+        tile_height,
+    );
     survey_answer(
         scene,
         station,
@@ -91,6 +99,10 @@ pub extern "C" fn ring_survey_metres(
     width: u16,
     height: u16,
     lens: u16,
+    left: u16,
+    top: u16,
+    tile_width: u16,
+    tile_height: u16,
     picture: &mut [u16],
     counts: &mut [u32],
     patch_counts: &mut [u32],
@@ -99,7 +111,7 @@ pub extern "C" fn ring_survey_metres(
     counter: &mut u32,
 ) -> u32
     ensures { λ r. ⌜ ClosestSurveyed (now (scene .entry)) (metres «eye_x» «eye_y» «eye_z»)
-        (cameraBy (axesBy (vec «right_x» «right_y» «right_z») (vec «forward_x» «forward_y» «forward_z») (vec «up_x» «up_y» «up_z»)) width height lens)
+        (cameraBy (axesBy (vec «right_x» «right_y» «right_z») (vec «forward_x» «forward_y» «forward_z») (vec «up_x» «up_y» «up_z»)) width height lens (tileBy left top «tile_width» «tile_height»))
         (lentOf (now (picture .entry)) (now (counts .entry)) (now («patch_counts» .entry)) (now (unlit .entry)) (now (lit .entry)) (now (counter .entry)))
         (lentOf (now (picture .exit)) (now (counts .exit)) (now («patch_counts» .exit)) (now (unlit .exit)) (now (lit .exit)) (now (counter .exit))) r ⌝ }
 {
@@ -115,12 +127,16 @@ pub extern "C" fn ring_survey_metres(
         up_y,
         up_z,
     );
-    let camera = Camera {
+    let camera = camera_by(
         axes,
         width,
         height,
         lens,
-    };
+        left,
+        top,
+        tile_width,
+        tile_height,
+    );
     survey_from(
         scene,
         station,

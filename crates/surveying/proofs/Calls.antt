@@ -1,7 +1,7 @@
 -- The survey's contract: refused, or accepted and painted.
 use mathlib.Core.Path.{_≡_, sym, _∙_, ap, subst}
 use mathlib.Core.List.{List}
-use Prim.Native.Nat.{ℕ, _+_, _<_}
+use Prim.Native.Nat.{ℕ, _<_}
 use native.Mathlib.Omega.{arith}
 use lib.Dec.{T, ltb→lt}
 use lib.ListN.{length}
@@ -11,8 +11,8 @@ use Rattle.model.specs.Station.{Station, eyeOf, viewAt}
 use Rattle.model.specs.Lent.{Lent, lengthsOf}
 use Rattle.model.specs.Call.{Call}
 use Rattle.model.specs.Format.{decode}
-use Rattle.model.specs.Picture.{counts}
-use Rattle.model.specs.Questions.{pointInRange, counterBelowEnd, surveyAnswer}
+use Rattle.model.specs.Picture.{counts, nextCounter}
+use Rattle.model.specs.Questions.{pointInRange, tileInWindow, counterBelowEnd, surveyAnswer}
 use Rattle.model.specs.Survey.{callPicture, callCounts, callPatchCells, callUnlit, callLit, callCounter}
 use Rattle.model.proofs.Answers.{AcceptedCall, accepted-call}
 use Rattle.model.proofs.CallLimits.{ViewBounded, view-bounded, AxesBounded, axes-bounded, LengthsRight, lengths-right}
@@ -74,8 +74,10 @@ module _
                     right-bounded = parts-bounded 100 (camera .axes .right) (omega arith) (axes .right-short);
                     forward-bounded = parts-bounded 100 (camera .axes .forward) (omega arith) (axes .forward-short);
                     up-bounded = parts-bounded 100 (camera .axes .up) (omega arith) (axes .up-short);
-                    width-within = record { within = view .narrow };
-                    height-within = record { within = view .low };
+                    wide = view .wide;
+                    high = view .high;
+                    first-column = omega (arith, view .inside .columns, view .inside .some-columns);
+                    first-row = omega (arith, view .inside .rows, view .inside .some-rows);
                     lens-within = record { within = view .lens-most };
                   };
               framed =
@@ -95,13 +97,14 @@ module _
         rendered-from {cells} {unlit} {lit} {booked} {totals} h =
             subst (λ (e : Vec). Rendered bytes (record { eye = e; camera = cameraOf camera }) cells unlit lit booked totals) same-eye h
 
-      pub counter-rises : before .counter + 1 < 4294967296
+      -- what the counter's next value asks
+      pub counter-asked : T (tileInWindow (v .camera .window) (v .camera .tile)) × (before .counter < 4294967295)
       unfolding counterBelowEnd
-      counter-rises = let h : before .counter < 4294967295 = ltb→lt (before .counter) 4294967295 (yes .counter) in omega arith
+      counter-asked = (view .tile-said, ltb→lt (before .counter) 4294967295 (yes .counter))
 
       -- an accepted call leaves its results
       pub accepted :
-          {cells unlit lit booked totals : List ℕ} {k : ℕ} → Rendered bytes v cells unlit lit booked totals → k ≡ before .counter + 1 →
+          {cells unlit lit booked totals : List ℕ} {k : ℕ} → Rendered bytes v cells unlit lit booked totals → k ≡ nextCounter (cameraOf camera) (before .counter) →
           Surveyed bytes s (cameraOf camera) before (lentOf cells totals booked unlit lit k) 0
       unfolding callPicture callCounts callPatchCells callUnlit callLit callCounter
       accepted r e =

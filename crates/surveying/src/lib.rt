@@ -1,5 +1,6 @@
 // The survey from a station, which the calls for a console share.
 use answering::survey_answer;
+use call::next_counter;
 use camera::Camera;
 use rendering::paint;
 use station::Station;
@@ -50,6 +51,6 @@ pub fn survey_from(
         patch_counts,
         counts,
     );
-    *counter = before + 1;
+    *counter = next_counter(camera, before);
     0
 }

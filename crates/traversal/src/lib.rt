@@ -2,7 +2,7 @@
 use conversion::paint_patch;
 use edges::Sight;
 use format::layout::Layout;
-use reach::row_planes;
+use reach::planes_of;
 ghost use Prim.Native.Nat.{_≤_};
 ghost use Rattle.traversal.specs.Walk.{FirstOpen, WalkAsked, WholePainted};
 
@@ -35,7 +35,7 @@ pub fn paint_walk(
     requires { ⌜ WalkAsked (now bytes) l (now order) sight (now rows) (now words) (now picture) (now booked) ⌝ }
     ensures { λ r. ⌜ WholePainted (now (bytes .entry)) sight (now (order .entry)) (now (rows .exit)) (now (words .exit)) (now (picture .exit)) (now (booked .exit)) ⌝ }
 {
-    let planes = row_planes(sight.raster);
+    let planes = planes_of(sight.raster);
     let height = sight.raster.height;
     let mut top = 0;
     let mut k = 0;

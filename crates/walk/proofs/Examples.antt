@@ -8,7 +8,7 @@ use Rattle.model.specs.Lists.{every, range}
 use Rattle.model.specs.Vector.{origin, isZero}
 use Rattle.model.specs.Patch.{Patch, Edge, edges}
 use Rattle.model.specs.Ray.{edgeVector, edgeNumber, closest}
-use Rattle.model.specs.View.{View, levelAxes, direction}
+use Rattle.model.specs.View.{Window, View, levelAxes, wholeTile, direction}
 use Rattle.model.specs.Beside.{cellLine}
 use Rattle.model.specs.Format.{decode, patchTable}
 use Rattle.model.specs.Accepted.{AcceptedScene}
@@ -21,7 +21,9 @@ use Rattle.walk.proofs.OffEdges.{RunsOffEdges, off-the-edges}
 
 -- a level camera at the origin with lens 4, as many cells wide as high
 abbrev level : ℕ → View
-level n = record { eye = origin; camera = record { axes = levelAxes; window = record { width = n; height = n; lens = 4 } } }
+level n =
+    let w : Window = record { width = n; height = n; lens = 4 } in
+    record { eye = origin; camera = record { axes = levelAxes; window = w; tile = wholeTile w } }
 
 -- the tests of all edges
 abbrev offEdges : List ℕ → View → ℕ → ℕ → Bool

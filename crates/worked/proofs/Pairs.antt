@@ -21,7 +21,7 @@ use Rattle.model.proofs.Encode.{sceneBytes}
 use Rattle.model.proofs.Scenes.{square, upright, none, nodeLine, patchLine, sceneS, sceneT, sceneTless5, sceneTless7, sceneTwice, noNodes, usual}
 use Rattle.coverage.specs.Coverage.{SameCover}
 use Rattle.worked.proofs.Examples.{halves, halves-cover}
-use Rattle.contract.specs.Contract.{cameraBy, lentOf, callOn, results, leftBy, Surveyed}
+use Rattle.contract.specs.Contract.{tileBy, cameraBy, lentOf, callOn, results, leftBy, Surveyed}
 use Rattle.model.specs.Format.{patchesIn}
 use Rattle.demands.specs.Demands.{ChosenTakenAway, SameSurvey}
 use Rattle.demands.proofs.Demands.{chosen-panels-taken-away, cuttings-surveyed}
@@ -29,7 +29,7 @@ use Rattle.demands.proofs.Demands.{chosen-panels-taken-away, cuttings-surveyed}
 -- ---- chosen panels taken away
 
 -- the panels chosen, as a list
-abbrev among : List ℕ → ℕ → Bool
+abbrev pub among : List ℕ → ℕ → Bool
 among ns n = any (eqb n) ns
 
 -- T with S's square twice
@@ -106,9 +106,9 @@ pub one-eye : (eyeOf halfwayTo12 ≡ eyeOf right12) × (eyeOf nearTo12 ≡ eyeOf
 unfolding everything ofBits
 one-eye = (refl, refl)
 
--- a level camera, 4 by 4, lens 4
-abbrev byFour : Camera
-byFour = cameraBy levelAxes 4 4 4
+-- a level camera, 4 by 4, lens 4, the window drawn as one tile
+abbrev pub byFour : Camera
+byFour = cameraBy levelAxes 4 4 4 (tileBy 0 0 4 4)
 
 -- buffers for it and a scene of this many patches, the counter too, all holding one number
 abbrev holding : ℕ → ℕ → Lent
@@ -119,9 +119,12 @@ abbrev left : List ℕ → Station → Lent → Lent
 left bytes s before = results (callOn bytes s byFour before)
 
 -- a call that is answered by 0 keeps the contract with what it leaves
-surveyed : (bytes : List ℕ) (s : Station) (before : Lent) → surveyAnswer (callOn bytes s byFour before) ≡ 0 → Surveyed bytes s byFour before (left bytes s before) 0
-surveyed bytes s before e =
-    record { answered = sym e; left = sym (ap (λ (n : ℕ). leftBy n (left bytes s before) before) e) }
+pub surveyed :
+    (bytes : List ℕ) (s : Station) (c : Camera) (before : Lent) →
+    surveyAnswer (callOn bytes s c before) ≡ 0 →
+    Surveyed bytes s c before (results (callOn bytes s c before)) 0
+surveyed bytes s c before e =
+    record { answered = sym e; left = sym (ap (λ (n : ℕ). leftBy n (results (callOn bytes s c before)) before) e) }
 
 -- two calls that keep the contract, answer 0, have one eye and show these pictures
 pub record TwoCalls
@@ -170,8 +173,8 @@ two-calls :
     TwoCalls firstBytes secondBytes s₁ s₂ before₁ before₂ firstShows secondShows
 two-calls a b e p q =
     record {
-      first-call = surveyed _ _ _ a;
-      second-call = surveyed _ _ _ b;
+      first-call = surveyed _ _ _ _ a;
+      second-call = surveyed _ _ _ _ b;
       eye = e;
       first-shows = p;
       second-shows = q;

@@ -1,4 +1,4 @@
--- Document 01's starred stations, over scene bytes: one list under one statement; stations of turned cameras and of joints under two more; two of the lit map, and three of booked cells.
+-- Document 01's starred stations, over scene bytes: one list under one statement; stations of turned cameras and of joints under two more; two of the lit map, and three of booked cells; and tiles of windows.
 use mathlib.Core.Path.{_≡_, refl}
 use mathlib.Core.List.{List, [], _∷_, map}
 use Prim.Native.Nat.{ℕ}
@@ -6,8 +6,10 @@ use lib.IntN.{pos, negsuc}
 use lib.ListN.{replicate}
 use Rattle.model.specs.Vector.{vec, origin}
 use Rattle.model.specs.View.{Axes, levelAxes}
+use Rattle.model.specs.Call.{Call}
+use Rattle.model.specs.Survey.{callCounter}
 use Rattle.model.proofs.Computing.{everything}
-use Rattle.model.proofs.Scenes.{sceneS, sceneT, sceneTless5, sceneTless7, scene3and5, sceneQuarters, sceneWall, sceneTwice, scenePieces, sceneNear, sceneWedge, sceneStrip, sceneWalls, noNodes, sOfHalfWidth, turnedCall, fittingCall, usual}
+use Rattle.model.proofs.Scenes.{sceneS, sceneT, sceneTless5, sceneTless7, scene3and5, sceneQuarters, sceneWall, sceneTwice, scenePieces, sceneNear, sceneWedge, sceneStrip, sceneWalls, noNodes, sOfHalfWidth, turnedCall, fittingCall, usual, tileCall}
 use Rattle.model.proofs.Stations.{Tried, seen, shows, middle, blank, mapOf, booked}
 
 abbrev pub stations : List Tried
@@ -95,6 +97,57 @@ jointed =
     ∷ middleLines levelAxes sceneWedge (replicate 9 0)
     ∷ middleLines levelAxes sceneStrip (0 ∷ 0 ∷ 0 ∷ 0 ∷ 6 ∷ 0 ∷ 0 ∷ 0 ∷ 0 ∷ [])
     ∷ []
+
+-- ---- tiles of a window (document 02, F-9)
+
+-- a tile, by its four numbers, of a window of these columns, rows and lens
+abbrev part : List ℕ → ℕ → ℕ → ℕ → ℕ → ℕ → ℕ → ℕ → Call
+part bytes w h l x y tw th =
+    tileCall bytes (record { width = w; height = h; lens = l }) (record { left = x; top = y; width = tw; height = th })
+
+-- a tile of S in 4 by 4 cells, lens 4
+abbrev ofS : ℕ → ℕ → ℕ → ℕ → Call
+ofS = part sceneS 4 4 4
+
+-- a tile of the four quarters in 5 by 3 cells, lens 4, whose middle column and row run along the joints
+abbrev ofQuarters : ℕ → ℕ → ℕ → ℕ → Call
+ofQuarters = part sceneQuarters 5 3 4
+
+-- S's four quarters of cells, its middle, and all of it; four tiles that cover 5 by 3 cells once; and of 1,024 by 512 cells eight beside the patch's left edge, with its lens and with twice that. Rows and offsets count from the
+-- tile's top left cell.
+abbrev tiles : List Tried
+tiles =
+    shows (ofS 0 0 2 2) (0 ∷ 0 ∷ 0 ∷ 5 ∷ []) (0 ∷ 1 ∷ []) ((0 ∷ 2 ∷ []) ∷ (0 ∷ 1 ∷ []) ∷ []) (5 ∷ 0 ∷ []) (1 ∷ 3 ∷ [])
+    ∷ shows (ofS 2 0 2 2) (0 ∷ 0 ∷ 5 ∷ 0 ∷ []) (0 ∷ 1 ∷ []) ((0 ∷ 2 ∷ []) ∷ (1 ∷ 1 ∷ []) ∷ []) (5 ∷ 0 ∷ []) (1 ∷ 3 ∷ [])
+    ∷ shows (ofS 0 2 2 2) (0 ∷ 5 ∷ 0 ∷ 0 ∷ []) (0 ∷ 1 ∷ []) ((0 ∷ 1 ∷ []) ∷ (0 ∷ 2 ∷ []) ∷ []) (5 ∷ 0 ∷ []) (1 ∷ 3 ∷ [])
+    ∷ shows (ofS 2 2 2 2) (5 ∷ 0 ∷ 0 ∷ 0 ∷ []) (0 ∷ 1 ∷ []) ((1 ∷ 1 ∷ []) ∷ (0 ∷ 2 ∷ []) ∷ []) (5 ∷ 0 ∷ []) (1 ∷ 3 ∷ [])
+    ∷ shows (ofS 1 1 2 2) (5 ∷ 5 ∷ 5 ∷ 5 ∷ []) (0 ∷ 1 ∷ []) ([] ∷ [] ∷ []) (5 ∷ 0 ∷ []) (4 ∷ 0 ∷ [])
+    ∷ shows (ofS 0 0 4 4) (middle 5) (1 ∷ []) ((0 ∷ 1 ∷ 3 ∷ 1 ∷ []) ∷ []) (5 ∷ 0 ∷ []) (4 ∷ 12 ∷ [])
+    ∷ shows (ofQuarters 0 0 5 3) (1 ∷ 1 ∷ 2 ∷ 2 ∷ 0 ∷ 3 ∷ 3 ∷ 4 ∷ 4 ∷ 0 ∷ 3 ∷ 3 ∷ 4 ∷ 4 ∷ 0 ∷ []) [] [] (0 ∷ 1 ∷ 2 ∷ 3 ∷ 4 ∷ [])
+    (3 ∷ 2 ∷ 2 ∷ 4 ∷ 4 ∷ [])
+    ∷ shows (ofQuarters 0 0 2 3) (1 ∷ 1 ∷ 3 ∷ 3 ∷ 3 ∷ 3 ∷ []) [] [] (0 ∷ 1 ∷ 2 ∷ 3 ∷ 4 ∷ []) (0 ∷ 2 ∷ 0 ∷ 4 ∷ 0 ∷ [])
+    ∷ shows (ofQuarters 2 0 3 1) (2 ∷ 2 ∷ 0 ∷ []) [] [] (0 ∷ 1 ∷ 2 ∷ 3 ∷ 4 ∷ []) (1 ∷ 0 ∷ 2 ∷ 0 ∷ 0 ∷ [])
+    ∷ shows (ofQuarters 2 1 1 2) (4 ∷ 4 ∷ []) [] [] (0 ∷ 1 ∷ 2 ∷ 3 ∷ 4 ∷ []) (0 ∷ 0 ∷ 0 ∷ 0 ∷ 2 ∷ [])
+    ∷ shows (ofQuarters 3 1 2 2) (4 ∷ 0 ∷ 4 ∷ 0 ∷ []) (0 ∷ []) ((1 ∷ 1 ∷ []) ∷ []) (0 ∷ 1 ∷ 2 ∷ 3 ∷ 4 ∷ []) (2 ∷ 0 ∷ 0 ∷ 0 ∷ 2 ∷ [])
+    ∷ shows (part sceneS 1024 512 512 380 255 8 1) (0 ∷ 0 ∷ 0 ∷ 0 ∷ 5 ∷ 5 ∷ 5 ∷ 5 ∷ []) (0 ∷ []) ((0 ∷ 4 ∷ []) ∷ []) [] []
+    ∷ shows (part sceneS 1024 512 1024 252 0 8 1) (0 ∷ 0 ∷ 0 ∷ 0 ∷ 5 ∷ 5 ∷ 5 ∷ 5 ∷ []) (0 ∷ []) ((0 ∷ 4 ∷ []) ∷ []) [] []
+    ∷ []
+
+pub tile-stations : map seen tiles ≡ map (λ (s : Tried). s .said) tiles
+unfolding everything seen
+tile-stations = refl
+
+-- "The station counter rises with the tile that holds the window's last cell, and with no other."
+pub tile-counters :
+    map callCounter (ofS 0 0 2 2 ∷ ofS 2 0 2 2 ∷ ofS 0 2 2 2 ∷ ofS 2 2 2 2 ∷ ofS 1 1 2 2 ∷ ofS 0 0 4 4 ∷ part sceneS 1024 512 4 768 384 256 128 ∷ [])
+    ≡ 0 ∷ 0 ∷ 0 ∷ 1 ∷ 0 ∷ 1 ∷ 1 ∷ []
+unfolding callCounter
+tile-counters = refl
+
+-- the map of a tile: bits count from the tile's first column, and those beyond its width stay clear
+pub map-of-a-tile : mapOf (ofS 1 1 3 2) (0 ∷ 1 ∷ []) ≡ record { result = 0; words = (3 ∷ 0 ∷ 0 ∷ 0 ∷ []) ∷ (3 ∷ 0 ∷ 0 ∷ 0 ∷ []) ∷ []; counted = 2 ∷ 2 ∷ []; firsts = 2 ∷ 2 ∷ [] }
+unfolding everything mapOf
+map-of-a-tile = refl
 
 -- What the definitions say of each starred station is what document 01 says of it; of half-width 25 what document 02's F-3 makes of it.
 pub starred-stations : map seen stations ≡ map (λ (s : Tried). s .said) stations

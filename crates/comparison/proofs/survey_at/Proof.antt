@@ -3,7 +3,7 @@ use mathlib.Core.Path.{_≡_, refl, sym, _∙_, ap}
 use borrow.Author.Needs.{needs}
 use Rattle.station.specs.Machine.{stationOf}
 use Rattle.format.proofs.Words.{words}
-use Rattle.contract.specs.Contract.{axesBy, cameraBy}
+use Rattle.contract.specs.Contract.{axesBy, tileBy, cameraBy}
 use Rattle.contract.proofs.SameStation.{surveyed-from}
 use Rattle.demands.proofs.Demands.{closest-surveyed}
 use Rattle.handed.proofs.Handed.{same-units, same-camera}
@@ -16,7 +16,7 @@ handed :
     (c : tie.Start) → let n = c .args .camera in
     cameraBy
     (axesBy (words (n .«right_x») (n .«right_y») (n .«right_z»)) (words (n .«forward_x») (n .«forward_y») (n .«forward_z»)) (words (n .«up_x») (n .«up_y») (n .«up_z»)))
-    (n .width) (n .height) (n .lens)
+    (n .width) (n .height) (n .lens) (tileBy (n .left) (n .top) (n .«tile_width») (n .«tile_height»))
     ≡ cameraOf n
 handed c =
     let g = c .good .1 .1 .0 in
@@ -56,15 +56,15 @@ survey-at-spec =
     (λ c κs. tt)
     (λ c. search needs)
     (λ c κs. tt)
-    (λ c. inUnits c .ring-survey .kept .1 .1 .1 .1 .1 .1 .1 .1 .1 .1 .1 .1 .1 .1 .1 .1 .0)
-    (λ c. inUnits c .ring-survey .kept .1 .1 .1 .1 .1 .1 .1 .1 .1 .1 .1 .1 .1 .1 .1 .1 .1 .0)
-    (λ c. inUnits c .ring-survey .kept .1 .1 .1 .1 .1 .1 .1 .1 .1 .1 .1 .1 .1 .1 .1 .1 .1 .1 .0)
-    (λ c. inUnits c .ring-survey .kept .1 .1 .1 .1 .1 .1 .1 .1 .1 .1 .1 .1 .1 .1 .1 .1 .1 .1 .1 .0)
     (λ c. inUnits c .ring-survey .kept .1 .1 .1 .1 .1 .1 .1 .1 .1 .1 .1 .1 .1 .1 .1 .1 .1 .1 .1 .1 .0)
+    (λ c. inUnits c .ring-survey .kept .1 .1 .1 .1 .1 .1 .1 .1 .1 .1 .1 .1 .1 .1 .1 .1 .1 .1 .1 .1 .1 .0)
+    (λ c. inUnits c .ring-survey .kept .1 .1 .1 .1 .1 .1 .1 .1 .1 .1 .1 .1 .1 .1 .1 .1 .1 .1 .1 .1 .1 .1 .0)
+    (λ c. inUnits c .ring-survey .kept .1 .1 .1 .1 .1 .1 .1 .1 .1 .1 .1 .1 .1 .1 .1 .1 .1 .1 .1 .1 .1 .1 .1 .0)
+    (λ c. inUnits c .ring-survey .kept .1 .1 .1 .1 .1 .1 .1 .1 .1 .1 .1 .1 .1 .1 .1 .1 .1 .1 .1 .1 .1 .1 .1 .1 .0)
     returns
-    (λ c. inMetres c .ring-survey-metres .kept .1 .1 .1 .1 .1 .1 .1 .1 .1 .1 .1 .1 .1 .1 .1 .1 .0)
-    (λ c. inMetres c .ring-survey-metres .kept .1 .1 .1 .1 .1 .1 .1 .1 .1 .1 .1 .1 .1 .1 .1 .1 .1 .0)
-    (λ c. inMetres c .ring-survey-metres .kept .1 .1 .1 .1 .1 .1 .1 .1 .1 .1 .1 .1 .1 .1 .1 .1 .1 .1 .0)
-    (λ c. inMetres c .ring-survey-metres .kept .1 .1 .1 .1 .1 .1 .1 .1 .1 .1 .1 .1 .1 .1 .1 .1 .1 .1 .1 .0)
     (λ c. inMetres c .ring-survey-metres .kept .1 .1 .1 .1 .1 .1 .1 .1 .1 .1 .1 .1 .1 .1 .1 .1 .1 .1 .1 .1 .0)
+    (λ c. inMetres c .ring-survey-metres .kept .1 .1 .1 .1 .1 .1 .1 .1 .1 .1 .1 .1 .1 .1 .1 .1 .1 .1 .1 .1 .1 .0)
+    (λ c. inMetres c .ring-survey-metres .kept .1 .1 .1 .1 .1 .1 .1 .1 .1 .1 .1 .1 .1 .1 .1 .1 .1 .1 .1 .1 .1 .1 .0)
+    (λ c. inMetres c .ring-survey-metres .kept .1 .1 .1 .1 .1 .1 .1 .1 .1 .1 .1 .1 .1 .1 .1 .1 .1 .1 .1 .1 .1 .1 .1 .0)
+    (λ c. inMetres c .ring-survey-metres .kept .1 .1 .1 .1 .1 .1 .1 .1 .1 .1 .1 .1 .1 .1 .1 .1 .1 .1 .1 .1 .1 .1 .1 .1 .0)
     returns-2)

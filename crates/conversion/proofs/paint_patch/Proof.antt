@@ -1,8 +1,10 @@
 -- `paint_patch` meets its contract.
+use mathlib.Core.Path.{sym, subst}
 use Prim.Native.Nat.{_<_}
 use native.Mathlib.Omega.{arith}
 use borrow.Author.Needs.{needs}
 use denote.Ref.{now}
+use lib.Dec.{T}
 use lib.ListN.{getD}
 use Rattle.conversion.proofs.Steps.{number, entry, sighting, patch-missed, edges-asked, rows-asked, patch-done, entry-fits}
 use Rattle.conversion.proofs.paint_patch.Statement.{statement}
@@ -12,9 +14,13 @@ use Rattle.conversion.proofs.paint_patch.Tie as tie
 abbrev began : tie.After-patch-rows → tie.Start
 began r = r .before .before .before .before .before .before
 
+-- from after the columns are asked back to after the reach is known
+abbrev rowed : tie.After-beside-columns → tie.After-patch-rows
+rowed b = b .before .before .before
+
 -- from after the edge functions are known back to after the reach is
 abbrev reached : tie.After-patch-edges → tie.After-patch-rows
-reached e = e .before .before .before .before .before
+reached e = rowed (e .before .before .before .before)
 
 -- from after the rows are painted back to after the edge functions are known
 abbrev edged : tie.After-convert-rows → tie.After-patch-edges
@@ -29,15 +35,25 @@ patch-rows-requires c κs = sighting (c .before .before .before .before .before 
 returns : tie.Need-returns
 returns c =
     let r = c .before .before in
-    patch-missed (began r .pre) (r .patch-rows .ensures .0) (c .if1 .taken)
+    patch-missed (began r .pre) (λ j b i l. r .patch-rows .ensures .0 .missed j b (λ x y. absurd (omega (arith, c .if1 .taken))) i)
+
+-- It stands before what asking the columns needs, so that an edit of what is asked is refused for what is left.
+returns-2 : tie.Need-returns-2
+returns-2 c =
+    let a = c .before in
+    patch-missed (began (rowed a) .pre) (λ j b i l. a .beside-columns .ensures .1 (subst T (sym (c .if2 .taken)) tt) .missed i l j)
+
+beside-columns-requires : tie.Need-beside-columns-requires
+beside-columns-requires c κs = sighting (began (c .before .before) .pre)
 
 patch-record-requires : tie.Need-patch-record-requires
-patch-record-requires c κs = let b = began (c .before .before) .pre in (b .paintable .checked, number b)
+patch-record-requires c κs = let b = began (rowed (c .before)) .pre in (b .paintable .checked, number b)
 
 patch-edges-requires : tie.Need-patch-edges-requires
 patch-edges-requires c κs =
-    let r = c .before .before .before .before in
-    edges-asked (began r .pre) (r .patch-rows .ensures .1) (c .before .before .if1 .left) (omega arith)
+    let a = c .before .before .before in
+    let r = rowed a in
+    edges-asked (began r .pre) (r .patch-rows .ensures .1) (a .before .if1 .left) (omega arith)
 
 convert-rows-requires : tie.Need-convert-rows-requires
 convert-rows-requires c κs =
@@ -74,8 +90,8 @@ mul-booked-2 c = omega (arith, few (c .before .before .before))
 slice-write-booked : tie.Need-slice-write-booked
 slice-write-booked c = entry (began (reached (edged (c .before .before .before))) .pre)
 
-returns-2 : tie.Need-returns-2
-returns-2 c =
+returns-3 : tie.Need-returns-3
+returns-3 c =
     let v = c .before .before .before in
     let e = edged v in
     let r = reached e in
@@ -91,6 +107,8 @@ paint-patch-spec =
     cast-n
     patch-rows-requires
     returns
+    beside-columns-requires
+    returns-2
     patch-record-requires
     (λ c. search needs)
     patch-edges-requires
@@ -103,4 +121,4 @@ paint-patch-spec =
     slice-write-booked
     (λ c. search needs)
     (λ c. search needs)
-    returns-2)
+    returns-3)

@@ -11,7 +11,7 @@ returns : tie.Need-returns
 returns c =
     let b = c .before .before in
     let s = b .before .before in (
-      reach-left (s .args .raster) (b .rows-beside .ensures) (c .before .without .ensures) (c .without2 .ensures) (s .pre .planes-of)
+      reach-left (s .args .raster) (b .rows-beside .ensures) (c .before .without .ensures) (c .without2 .ensures) (s .pre .planes-of .rows-of)
           (vec-within (s .pre .eye-bounded)) (s .pre .proper) (numbered-ranged (s .pre .scene) (s .args .k) (s .pre .number)) refl,
       reach-limited (s .args .raster) (b .rows-beside .ensures) (c .before .without .ensures) (c .without2 .ensures),
     )

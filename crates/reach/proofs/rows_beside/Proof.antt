@@ -12,7 +12,7 @@ use Rattle.reach.proofs.rows_beside.Tie as tie
 -- the height is where the spans end at first
 abbrev Inv-loop : tie.InvT-loop
 Inv-loop bytes l k eye planes first count sides₀ i₀ sides i =
-    BesideFirst (vecOf eye) planes (cornerNumber bytes l) first count (sides₀ .ahead .end) i sides
+    BesideFirst (vecOf eye) (planes .rows) (cornerNumber bytes l) first count (sides₀ .ahead .end) i sides
 
 abbrev μ-loop : tie.MeasureT-loop
 μ-loop bytes l k eye planes first count sides₀ i₀ sides i = count - i
@@ -39,12 +39,12 @@ corner-requires c κs = (c .before .before .before .before .pre .scene, inside c
 eye-product-requires : tie.Need-eye-product-requires Inv-loop μ-loop
 eye-product-requires c κs =
     let h = c .before .before .before .before .before .pre in
-    (h .eye-bounded, c .corner .ensures .bounded, bounded-more (lit≤ tt) (h .planes-of .first-is .bounded))
+    (h .eye-bounded, c .corner .ensures .bounded, bounded-more (lit≤ tt) (h .planes-of .rows-of .first-is .bounded))
 
 eye-product-requires-2 : tie.Need-eye-product-requires-2 Inv-loop μ-loop
 eye-product-requires-2 c κs =
     let h = c .before .before .before .before .before .before .pre in
-    (h .eye-bounded, c .before .corner .ensures .bounded, bounded-more (lit≤ tt) (h .planes-of .next-is .bounded))
+    (h .eye-bounded, c .before .corner .ensures .bounded, bounded-more (lit≤ tt) (h .planes-of .rows-of .next-is .bounded))
 
 clip-sides-requires : tie.Need-clip-sides-requires Inv-loop μ-loop
 clip-sides-requires c κs =

@@ -76,7 +76,7 @@ count-panels-requires c κs =
     let l = laid (walked (rastered p)) in
     let b = began l .pre in
     countable (b .accepted) (l .read-layout .ensures) (all-painted p) (p .paint-rows .kept .1 .1 .1 .1 .1 .1 .1 .0 ∙ b .entries)
-    (b .framed .cells) (b .framed .narrow) (b .aimed .height-within .within) (b .counted)
+    (b .framed .cells) (b .framed .narrow) (b .framed .low) (b .counted)
 
 returns : tie.Need-returns
 returns c =

@@ -1,9 +1,8 @@
 -- `surveying::survey_from` meets its contract: it refuses before it writes, or paints, counts and raises the counter.
-use mathlib.Core.Path.{refl}
 use denote.Ref.{now}
 use Rattle.model.specs.Lent.{Lent}
 use Rattle.contract.specs.Contract.{lentOf}
-use Rattle.surveying.proofs.Calls.{refused, paintable, rendered-from, counter-rises, accepted}
+use Rattle.surveying.proofs.Calls.{refused, paintable, rendered-from, counter-asked, accepted}
 use Rattle.surveying.proofs.survey_from.Statement.{statement}
 use Rattle.surveying.proofs.survey_from.Tie as tie
 
@@ -29,11 +28,11 @@ returns c = refused _ _ _ _ (c .before .survey-answer .ensures) (c .if1 .taken)
 -- It stands before the needs on the way, so that an edit of what the call leaves is refused for what it leaves.
 returns-2 : tie.Need-returns-2
 returns-2 c =
-    let p = painted (c .before .before) in
+    let p = painted (c .before .before .before) in
     let l = located p in
     let g = answered l in
     accepted _ _ _ (lent g) (g .before .survey-answer .ensures) (g .if1 .left)
-    (rendered-from _ _ _ (lent g) (g .before .survey-answer .ensures) (g .if1 .left) (l .locate .ensures) (p .paint .ensures)) refl
+    (rendered-from _ _ _ (lent g) (g .before .survey-answer .ensures) (g .if1 .left) (l .locate .ensures) (p .paint .ensures)) (c .next-counter .ensures)
 
 paint-requires : tie.Need-paint-requires
 paint-requires c κs =
@@ -41,10 +40,10 @@ paint-requires c κs =
     let g = answered l in
     paintable _ _ _ (lent g) (g .before .survey-answer .ensures) (g .if1 .left) (l .locate .ensures)
 
-add-counter : tie.Need-add-counter
-add-counter c =
+next-counter-requires : tie.Need-next-counter-requires
+next-counter-requires c κs =
     let g = answered (located (painted (c .before .before))) in
-    record { fits = counter-rises _ _ _ (lent g) (g .before .survey-answer .ensures) (g .if1 .left) }
+    counter-asked _ _ _ (lent g) (g .before .survey-answer .ensures) (g .if1 .left)
 
 pub survey-from-spec : {M : Type 1} → statement M
 survey-from-spec =
@@ -54,10 +53,10 @@ survey-from-spec =
     returns
     (λ c κs. tt)
     paint-requires
-    add-counter
-    (λ c. painted (c .before .before) .paint .kept .1 .1 .1 .0)
-    (λ c. painted (c .before .before) .paint .kept .1 .1 .1 .1 .1 .1 .1 .0)
-    (λ c. painted (c .before .before) .paint .kept .1 .1 .1 .1 .1 .1 .0)
-    (λ c. painted (c .before .before) .paint .kept .1 .1 .1 .1 .0)
-    (λ c. painted (c .before .before) .paint .kept .1 .1 .1 .1 .1 .0)
+    next-counter-requires
+    (λ c. painted (c .before .before .before) .paint .kept .1 .1 .1 .0)
+    (λ c. painted (c .before .before .before) .paint .kept .1 .1 .1 .1 .1 .1 .1 .0)
+    (λ c. painted (c .before .before .before) .paint .kept .1 .1 .1 .1 .1 .1 .0)
+    (λ c. painted (c .before .before .before) .paint .kept .1 .1 .1 .1 .0)
+    (λ c. painted (c .before .before .before) .paint .kept .1 .1 .1 .1 .1 .0)
     returns-2)

@@ -15,19 +15,19 @@ Inv-loop bytes l order sight rows₀ words₀ picture₀ booked₀ planes height
 abbrev μ-loop : tie.MeasureT-loop
 μ-loop bytes l order sight rows₀ words₀ picture₀ booked₀ planes height top₀ k₀ rows words picture booked top k = length order - k
 
--- from where a round begins back to where the rows' planes are known, and to where the function began
-abbrev planed : tie.In-loop Inv-loop μ-loop → tie.After-row-planes Inv-loop μ-loop
+-- from where a round begins back to where the planes are known, and to where the function began
+abbrev planed : tie.In-loop Inv-loop μ-loop → tie.After-planes-of Inv-loop μ-loop
 planed r = r .before .before
 
-abbrev began : tie.After-row-planes Inv-loop μ-loop → tie.Start Inv-loop μ-loop
+abbrev began : tie.After-planes-of Inv-loop μ-loop → tie.Start Inv-loop μ-loop
 began p = p .before .before .before .before .before
 
 -- from after the first row that is not full is known back to where the round began
 abbrev round : tie.After-first-open Inv-loop μ-loop → tie.In-loop Inv-loop μ-loop
 round f = f .before .before
 
-row-planes-requires : tie.Need-row-planes-requires Inv-loop μ-loop
-row-planes-requires c κs = c .before .before .before .before .pre .paintable .sight .raster-bounded
+planes-of-requires : tie.Need-planes-of-requires Inv-loop μ-loop
+planes-of-requires c κs = c .before .before .before .before .pre .paintable .sight .raster-bounded
 
 loop-holds : tie.Need-loop-holds Inv-loop μ-loop
 loop-holds c = walk-starts (began c .pre .fresh)
@@ -57,7 +57,7 @@ paint-patch-requires c κs =
     let b = began (planed r) .pre in
     record {
       paintable = b .paintable;
-      planes-of = planed r .row-planes .ensures;
+      planes-of = planed r .planes-of .ensures;
       next = r .loop-test .taken;
       cells = l .inv .same-cells ∙ b .cells;
       entries = l .inv .same-entries ∙ b .entries;
@@ -94,7 +94,7 @@ paint-walk-spec =
     (tie.spec
     Inv-loop
     μ-loop
-    row-planes-requires
+    planes-of-requires
     loop-holds
     first-open-requires
     same-length

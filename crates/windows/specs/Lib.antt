@@ -1,0 +1,3 @@
+-- The statements about whole windows.
+pub mod Windows
+pub mod Covering
