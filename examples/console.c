@@ -5,7 +5,9 @@
  *           SCENE WIDTH HEIGHT LENS X Y Z [X Y Z ...]
  *
  * A bill is the view line, each panel that shows with its number of cells, the cells that show
- * none, and all cells; a refusal is one line, `refused N`. Bills follow in the stations' order.
+ * none, and all cells; a refusal is one line, `refused N`. Bills follow in the stations' order. A
+ * window of more than 256 by 128 cells, up to 1,024 by 512, is surveyed in tiles, and its bill has
+ * their added counts.
  *   -m          the stations are in metres: fractions as C writes them, inf and nan among them,
  *               which the library refuses with 15; without it they are whole units of 5 mm
  *   -p          after each bill, a line for each patch of the scene: the patch's number, then its
@@ -17,6 +19,8 @@
  *   -o PICTURE  write the last picture as raw little-endian u16, for tools/draw.py --raw
  *   -a RX .. UZ the camera's axes at all stations: its vectors right, forward and up, three parts
  *               each; the level view, 1 0 0 0 1 0 0 0 1, where they are not given
+ * Of a window in several tiles -u and -r tell the rows of each, after a line that tells which tile
+ * it is, `tile LEFT TOP WIDTH HEIGHT`; rows and columns count from its top left cell.
  *
  * Build:  cc -std=c11 -Wall -Wextra -Iinclude examples/console.c -L LIBDIR -lsurvey -o console
  */
@@ -34,12 +38,25 @@ static size_t scene_len;
 /* Where a scene's header holds the patch section's offset and length. */
 enum { PATCHES_AT = 16, PATCHES_LENGTH = 20 };
 
-/* Room for the largest window and for the most patches. */
-static uint16_t picture[RING_WIDTH_MAX * RING_HEIGHT_MAX];
-static uint32_t counts[RING_PANEL_MAX + 1];
-static uint32_t patch_counts[RING_PATCH_MAX];
-static uint16_t unlit[RING_HEIGHT_MAX * RING_UNLIT_ROW];
-static uint64_t lit[RING_HEIGHT_MAX * RING_LIT_ROW];
+/* A tile: its place in the window and its size, and buffers of its own, with room for the largest
+ * tile and for the most patches. */
+struct tile {
+    uint16_t left, top, width, height;
+    uint16_t picture[RING_TILE_WIDTH_MAX * RING_TILE_HEIGHT_MAX];
+    uint32_t counts[RING_PANEL_MAX + 1];
+    uint32_t patch_counts[RING_PATCH_MAX];
+    uint16_t unlit[RING_TILE_HEIGHT_MAX * RING_UNLIT_ROW];
+    uint64_t lit[RING_TILE_HEIGHT_MAX * RING_LIT_ROW];
+};
+
+/* How many tiles stand side by side in the widest window, and above each other in the highest. */
+enum {
+    MOST_ACROSS = RING_WIDTH_MAX / RING_TILE_WIDTH_MAX,
+    MOST_DOWN = RING_HEIGHT_MAX / RING_TILE_HEIGHT_MAX
+};
+
+/* The tiles of the window, row after row from the top. */
+static struct tile tiles[MOST_ACROSS * MOST_DOWN];
 static uint32_t counter;
 
 /* A station: three whole numbers of units, or three doubles in metres. */
@@ -165,14 +182,13 @@ static uint32_t scene_u32(size_t at)
     return scene_u16(at) | scene_u16(at + 2) << 16;
 }
 
-/* The part of a buffer to lend. A window or a scene that is too large for it is refused before its
- * length is looked at, so then the whole buffer will do. */
 static size_t at_most(size_t wanted, size_t room)
 {
     return wanted < room ? wanted : room;
 }
 
-/* How many patches the scene has, if it is one that can be accepted. */
+/* How many patches the scene has, if it is one that can be accepted: one with more is refused
+ * before the length of their table is looked at, so then the whole table will do. */
 static size_t patch_count(void)
 {
     return at_most(scene_u32(PATCHES_LENGTH) / RING_PATCH_BYTES, RING_PATCH_MAX);
@@ -184,46 +200,65 @@ static uint32_t patch_panel(size_t patch)
     return scene_u16(scene_u32(PATCHES_AT) + RING_PATCH_BYTES * patch);
 }
 
-/* How much of each buffer is lent; the counts are lent whole. */
-struct lengths {
-    size_t cells, patches, pairs, words;
-};
-
-static struct lengths lengths_for(const struct camera *c)
+/* How many tiles of this size stand side by side. A window without cells has one, which is as empty
+ * as it is. */
+static size_t tiles_along(size_t window, size_t tile)
 {
-    struct lengths n = {
-        at_most(RING_PICTURE_LEN(c->width, c->height), sizeof picture / sizeof *picture),
-        patch_count(),
-        at_most(RING_UNLIT_LEN(c->height), sizeof unlit / sizeof *unlit),
-        at_most(RING_LIT_LEN(c->height), sizeof lit / sizeof *lit)};
-    return n;
+    return window ? (window + tile - 1) / tile : 1;
+}
+
+static size_t tiles_across(const struct camera *c)
+{
+    return tiles_along(c->width, RING_TILE_WIDTH_MAX);
+}
+
+static size_t tile_count(const struct camera *c)
+{
+    return tiles_across(c) * tiles_along(c->height, RING_TILE_HEIGHT_MAX);
+}
+
+/* Puts a tile in its place: they are of the largest size but at the window's right and lower
+ * edge. */
+static void place_tile(const struct camera *c, size_t number)
+{
+    struct tile *t = &tiles[number];
+    size_t left = number % tiles_across(c) * RING_TILE_WIDTH_MAX;
+    size_t top = number / tiles_across(c) * RING_TILE_HEIGHT_MAX;
+    t->left = (uint16_t)left;
+    t->top = (uint16_t)top;
+    t->width = (uint16_t)at_most(c->width - left, RING_TILE_WIDTH_MAX);
+    t->height = (uint16_t)at_most(c->height - top, RING_TILE_HEIGHT_MAX);
 }
 
 /* The rest of a call, behind the scene and the station. */
 #define CAMERA(c) NINE((c)->axes), (c)->width, (c)->height, (c)->lens
-#define LENGTHS(n) (n).cells, RING_COUNTS_LEN, (n).patches, (n).pairs, (n).words, counter
-#define LENT(n) picture, (n).cells, counts, RING_COUNTS_LEN, patch_counts, (n).patches, \
-                unlit, (n).pairs, lit, (n).words, &counter
+#define TILE(t) (t)->left, (t)->top, (t)->width, (t)->height
+#define CELLS(t) RING_PICTURE_LEN((t)->width, (t)->height)
+#define LENGTHS(t) CELLS(t), RING_COUNTS_LEN, patch_count(), RING_UNLIT_LEN((t)->height), \
+                   RING_LIT_LEN((t)->height), counter
+#define LENT(t) (t)->picture, CELLS(t), (t)->counts, RING_COUNTS_LEN, (t)->patch_counts, \
+                patch_count(), (t)->unlit, RING_UNLIT_LEN((t)->height), (t)->lit, \
+                RING_LIT_LEN((t)->height), &counter
 
-static uint32_t ask_gate(const struct camera *c, const struct station *s, struct lengths n)
+static uint32_t ask_gate(const struct camera *c, const struct station *s, const struct tile *t)
 {
     if (s->in_metres)
-        return ring_gate_metres(scene, scene_len, THREE(s->metres), CAMERA(c), LENGTHS(n));
-    return ring_gate(scene, scene_len, THREE(s->units), CAMERA(c), LENGTHS(n));
+        return ring_gate_metres(scene, scene_len, THREE(s->metres), CAMERA(c), TILE(t),
+                                LENGTHS(t));
+    return ring_gate(scene, scene_len, THREE(s->units), CAMERA(c), TILE(t), LENGTHS(t));
 }
 
-static uint32_t ask_survey(const struct camera *c, const struct station *s, struct lengths n)
+static uint32_t ask_survey(const struct camera *c, const struct station *s, struct tile *t)
 {
     if (s->in_metres)
-        return ring_survey_metres(scene, scene_len, THREE(s->metres), CAMERA(c), LENT(n));
-    return ring_survey(scene, scene_len, THREE(s->units), CAMERA(c), LENT(n));
+        return ring_survey_metres(scene, scene_len, THREE(s->metres), CAMERA(c), TILE(t), LENT(t));
+    return ring_survey(scene, scene_len, THREE(s->units), CAMERA(c), TILE(t), LENT(t));
 }
 
 /* Asks the gate first, which needs no buffer; then surveys. */
-static uint32_t survey(const struct camera *c, const struct station *s)
+static uint32_t survey_tile(const struct camera *c, const struct station *s, struct tile *t)
 {
-    struct lengths n = lengths_for(c);
-    uint32_t gate = ask_gate(c, s, n), result = ask_survey(c, s, n);
+    uint32_t gate = ask_gate(c, s, t), result = ask_survey(c, s, t);
     if (gate != result) {
         fprintf(stderr, "console: the gate said %u, the survey %u\n",
                 (unsigned)gate, (unsigned)result);
@@ -232,21 +267,52 @@ static uint32_t survey(const struct camera *c, const struct station *s)
     return result;
 }
 
+/* Surveys the window tile after tile; the first refusal ends it. A window that is too large, with
+ * more tiles than there is room for, is refused with its first tile. The counter goes from call to
+ * call and rises with the last tile. */
+static uint32_t survey(const struct camera *c, const struct station *s)
+{
+    for (size_t k = 0; k < tile_count(c); k++) {
+        place_tile(c, k);
+        uint32_t result = survey_tile(c, s, &tiles[k]);
+        if (result != RING_DONE)
+            return result;
+    }
+    return RING_DONE;
+}
+
+/* The whole window's counts, of a panel and of a patch: those of its tiles, added up. */
+static unsigned long panel_cells(const struct camera *c, size_t panel)
+{
+    unsigned long cells = 0;
+    for (size_t k = 0; k < tile_count(c); k++)
+        cells += tiles[k].counts[panel];
+    return cells;
+}
+
+static unsigned long patch_cells(const struct camera *c, size_t patch)
+{
+    unsigned long cells = 0;
+    for (size_t k = 0; k < tile_count(c); k++)
+        cells += tiles[k].patch_counts[patch];
+    return cells;
+}
+
 static void print_bill(const struct camera *c)
 {
     printf("view %u %u %u\n", (unsigned)c->width, (unsigned)c->height, (unsigned)c->lens);
     for (unsigned panel = 1; panel <= RING_PANEL_MAX; panel++)
-        if (counts[panel])
-            printf("%u %lu\n", panel, (unsigned long)counts[panel]);
-    printf("nothing %lu\n", (unsigned long)counts[0]);
+        if (panel_cells(c, panel))
+            printf("%u %lu\n", panel, panel_cells(c, panel));
+    printf("nothing %lu\n", panel_cells(c, 0));
     printf("total %lu\n", (unsigned long)c->width * c->height);
 }
 
-static void print_patches(void)
+static void print_patches(const struct camera *c)
 {
     for (size_t patch = 0; patch < patch_count(); patch++)
         printf("patch %lu: %lu %lu\n", (unsigned long)patch, (unsigned long)patch_panel(patch),
-               (unsigned long)patch_counts[patch]);
+               patch_cells(c, patch));
 }
 
 /* The used pairs of a row end before the first pair of length 0, or with the row. */
@@ -258,10 +324,10 @@ static size_t used_pairs(const uint16_t *row)
     return used;
 }
 
-static void print_unlit(const struct camera *c)
+static void print_unlit(const struct tile *t)
 {
-    for (unsigned j = 0; j < c->height; j++) {
-        const uint16_t *row = unlit + RING_UNLIT_ROW * j;
+    for (unsigned j = 0; j < t->height; j++) {
+        const uint16_t *row = t->unlit + RING_UNLIT_ROW * j;
         size_t used = used_pairs(row);
         if (!used)
             continue;
@@ -274,17 +340,38 @@ static void print_unlit(const struct camera *c)
 
 /* Quick answers, for which no list is walked: the map has them row by row. Each of these rows is in
  * it, so that a first unlit column of 0 is one, and of the width is none. */
-static void print_rows(const struct camera *c)
+static void print_rows(const struct tile *t)
 {
-    size_t words = RING_LIT_LEN(c->height);
-    for (unsigned j = 0; j < c->height; j++) {
-        unsigned first = (unsigned)ring_row_first_unlit(lit, words, c->width, j);
-        printf("row %u: %u lit, ", j, (unsigned)ring_row_lit(lit, words, j));
-        if (first < c->width)
+    size_t words = RING_LIT_LEN(t->height);
+    for (unsigned j = 0; j < t->height; j++) {
+        unsigned first = (unsigned)ring_row_first_unlit(t->lit, words, t->width, j);
+        printf("row %u: %u lit, ", j, (unsigned)ring_row_lit(t->lit, words, j));
+        if (first < t->width)
             printf("first unlit %u\n", first);
         else
             printf("none unlit\n");
     }
+}
+
+/* What is told of each tile by itself, with a line on which tile it is where there are several. */
+static void print_tiles(const struct camera *c, void (*print)(const struct tile *))
+{
+    for (size_t k = 0; k < tile_count(c); k++) {
+        const struct tile *t = &tiles[k];
+        if (tile_count(c) > 1)
+            printf("tile %u %u %u %u\n", (unsigned)t->left, (unsigned)t->top, (unsigned)t->width,
+                   (unsigned)t->height);
+        print(t);
+    }
+}
+
+/* A cell of the whole picture: that of the tile that holds it, counted from the tile's top left
+ * cell. */
+static uint16_t cell_at(const struct camera *c, size_t column, size_t row)
+{
+    size_t across = column / RING_TILE_WIDTH_MAX, down = row / RING_TILE_HEIGHT_MAX;
+    const struct tile *t = &tiles[down * tiles_across(c) + across];
+    return t->picture[(row - t->top) * t->width + (column - t->left)];
 }
 
 static int write_picture(const char *name, const struct camera *c)
@@ -294,9 +381,10 @@ static int write_picture(const char *name, const struct camera *c)
     FILE *file = fopen(name, "wb");
     if (!file)
         return fail("cannot open", name);
-    for (size_t cell = 0; cell < RING_PICTURE_LEN(c->width, c->height); cell++) {
-        putc(picture[cell] & 255, file);
-        putc(picture[cell] >> 8, file);
+    for (size_t cell = 0; cell < (size_t)c->width * c->height; cell++) {
+        uint16_t panel = cell_at(c, cell % c->width, cell / c->width);
+        putc(panel & 255, file);
+        putc(panel >> 8, file);
     }
     int bad = ferror(file);
     bad |= fclose(file);
@@ -346,11 +434,11 @@ static void print_survey(const struct camera *c, const struct station *s,
     }
     print_bill(c);
     if (options->with_patches)
-        print_patches();
+        print_patches(c);
     if (options->with_unlit)
-        print_unlit(c);
+        print_tiles(c, print_unlit);
     if (options->with_rows)
-        print_rows(c);
+        print_tiles(c, print_rows);
 }
 
 int main(int argc, char **argv)

@@ -9,6 +9,23 @@
  * unit is 5 mm; x is to the right, y forward along the bore, z up. The camera may look any way:
  * three vectors say how it is turned.
  *
+ * Tiles. A window may have up to RING_WIDTH_MAX by RING_HEIGHT_MAX cells. A call surveys a part of
+ * it, a tile of at most RING_TILE_WIDTH_MAX by RING_TILE_HEIGHT_MAX cells, into buffers of the
+ * tile's own size. The tile's cells are those of the whole window at its place: cell (i, j) of the
+ * tile is read along the sight line of cell (left + i, top + j) of the window. All that is left in
+ * the buffers counts from the tile's top left cell.
+ *     A window that is no larger than a tile is surveyed by one call, with RING_WHOLE_TILE. A
+ * larger one is put together from calls with the same scene, station, camera and window, on tiles
+ * of which each cell of the window lies in exactly one; in which order they are surveyed, and how
+ * large they are, is free. Where each of these calls returns RING_DONE, their pictures put in their
+ * places are the picture of the whole window, and their counts, entry by entry, add up to its
+ * counts, as their patch_counts do to its patch_counts. Nothing is to be added from a call that was
+ * refused. The station counter, passed from call to call, rises by one in all: it does with the
+ * tile that holds the window's last cell.
+ *     Two surveys that are held against each other, of a scene with and without some panels or of
+ * two cuttings of one ring, are to be of the same tile of the same window; or of whole windows,
+ * which may be put together from other tiles each.
+ *
  * Stations. A station is the eye. It is told in units, as three whole numbers, or in metres, as
  * three doubles, each way by calls of its own. What is told in metres is turned into whole units,
  * each double into the nearest, and where these are in range it is from there on the station in
@@ -42,10 +59,12 @@
 extern "C" {
 #endif
 
-/* Limits of a window. */
-#define RING_WIDTH_MAX   256
-#define RING_HEIGHT_MAX  128
-#define RING_LENS_MAX    4096
+/* Limits of a window, and of a tile of it. */
+#define RING_WIDTH_MAX        1024
+#define RING_HEIGHT_MAX       512
+#define RING_LENS_MAX         4096
+#define RING_TILE_WIDTH_MAX   256
+#define RING_TILE_HEIGHT_MAX  128
 
 /* How many length units a metre has. */
 #define RING_UNITS_PER_METRE 200
@@ -60,6 +79,14 @@ extern "C" {
  */
 #define RING_LEVEL_VIEW  1, 0, 0, 0, 1, 0, 0, 0, 1
 
+/*
+ * The tile that is all of a window: left, top, tile_width and tile_height, for a window that is no
+ * larger than a tile. One word for these four numbers of a call:
+ *     ring_gate(scene, scene_len, 0, 20, 0, RING_LEVEL_VIEW, 256, 128, 160,
+ *               RING_WHOLE_TILE(256, 128), ...)
+ */
+#define RING_WHOLE_TILE(width, height)  0, 0, (width), (height)
+
 /* The longest scene in bytes, the highest panel number, and the most patches. */
 #define RING_SCENE_MAX   57376
 #define RING_PANEL_MAX   1024
@@ -69,19 +96,20 @@ extern "C" {
 #define RING_PATCH_BYTES 6
 
 /*
- * Lengths of the lent buffers, in elements. They must be exactly these. That of patch_counts is the
- * number of the scene's patches: the length of its patch section, which is the u32 at byte 20 of
- * the scene (least significant byte first), divided by RING_PATCH_BYTES. This is right for every
- * scene that questions 1 to 9 let pass; any other, also one too short for these bytes, is refused
- * before the lengths are looked at. So a table of RING_PATCH_MAX entries has room for every scene,
- * and as many of them are lent as the scene has patches.
+ * Lengths of the lent buffers, in elements. They must be exactly these. Those of picture, unlit and
+ * lit follow the tile and not the window. That of patch_counts is the number of the scene's
+ * patches: the length of its patch section, which is the u32 at byte 20 of the scene (least
+ * significant byte first), divided by RING_PATCH_BYTES. This is right for every scene that
+ * questions 1 to 9 let pass; any other, also one too short for these bytes, is refused before the
+ * lengths are looked at. So a table of RING_PATCH_MAX entries has room for every scene, and as many
+ * of them are lent as the scene has patches.
  */
-#define RING_PICTURE_LEN(width, height)  ((size_t)(width) * (size_t)(height))
-#define RING_COUNTS_LEN                  ((size_t)1025)
-#define RING_UNLIT_ROW                   ((size_t)256)
-#define RING_UNLIT_LEN(height)           ((size_t)(height) * RING_UNLIT_ROW)
-#define RING_LIT_ROW                     ((size_t)4)
-#define RING_LIT_LEN(height)             ((size_t)(height) * RING_LIT_ROW)
+#define RING_PICTURE_LEN(tile_width, tile_height)  ((size_t)(tile_width) * (size_t)(tile_height))
+#define RING_COUNTS_LEN                            ((size_t)1025)
+#define RING_UNLIT_ROW                             ((size_t)256)
+#define RING_UNLIT_LEN(tile_height)                ((size_t)(tile_height) * RING_UNLIT_ROW)
+#define RING_LIT_ROW                               ((size_t)4)
+#define RING_LIT_LEN(tile_height)                  ((size_t)(tile_height) * RING_LIT_ROW)
 
 /*
  * What the calls return: 0, or the number of the first question answered with no. The questions
@@ -116,19 +144,24 @@ enum ring_result {
     RING_BAD_METRES = 15,  /* of a station in metres, a double is not finite, or its whole number
                               of units is outside -10,000 to 10,000; no station in units is
                               refused so, for a far one is left to the next question */
-    RING_BAD_VIEW = 10,    /* the eye is outside -10,000 to 10,000, or width, height or lens is
-                              not 1 to 256, 1 to 128, 1 to 4,096 */
+    RING_BAD_VIEW = 10,    /* the eye is outside -10,000 to 10,000; width, height or lens is not
+                              1 to 1,024, 1 to 512, 1 to 4,096; tile_width or tile_height is not
+                              1 to 256, 1 to 128; or the tile is not wholly inside the window:
+                              left + tile_width is above width, or top + tile_height above
+                              height, added as whole numbers */
     RING_BAD_AXES = 14,    /* a part of right, forward or up is outside -100 to 100, or
                               right . (forward x up) is not above 0: it is 0 where the three lie
                               in one plane, and below 0 where the picture would be mirrored */
-    RING_BAD_BUFFERS = 11, /* picture_len is not width x height, counts_len is not 1,025,
-                              patch_counts_len is not the number of the scene's patches,
-                              unlit_len is not height x 256, or lit_len is not height x 4 */
-    RING_BAD_COUNTER = 12  /* the station counter stands at 4,294,967,295 and cannot rise */
+    RING_BAD_BUFFERS = 11, /* picture_len is not tile_width x tile_height, counts_len is not
+                              1,025, patch_counts_len is not the number of the scene's patches,
+                              unlit_len is not tile_height x 256, or lit_len is not
+                              tile_height x 4 */
+    RING_BAD_COUNTER = 12  /* the station counter stands at 4,294,967,295 and cannot rise; this is
+                              asked of every tile, also of one with which it would not rise */
 };
 
 /*
- * Surveys a scene from one station.
+ * Surveys a scene from one station: one tile of a window.
  *
  *   scene, scene_len          the scene's bytes; they are only read
  *   eye_x, eye_y, eye_z       the station, in units; ring_survey_metres takes it in metres
@@ -139,37 +172,49 @@ enum ring_result {
  *                             (0 at the top) has the direction
  *                             (2i + 1 - width) right + lens forward + (height - 1 - 2j) up,
  *                             which is (2i + 1 - width, lens, height - 1 - 2j) in the level view
- *   picture, picture_len      width x height cells. Row after row from the top: cell (i, j) is
- *                             picture[j * width + i]; a panel number, or 0 where none is met
- *   counts, counts_len        1,025 numbers. counts[p] is the number of cells that show panel p,
- *                             counts[0] of those that show none; together width x height
+ *   left, top,                the tile: the column and the row of its top left cell in the window,
+ *   tile_width, tile_height   and its size; RING_WHOLE_TILE where it is all of the window. It must
+ *                             have a cell and be wholly inside the window. From here on cell (i, j)
+ *                             is the tile's, i and j counted from its top left cell: it is cell
+ *                             (left + i, top + j) of the window and read along that one's sight
+ *                             line. Columns and rows are the tile's
+ *   picture, picture_len      tile_width x tile_height cells. Row after row from the top: cell
+ *                             (i, j) is picture[j * tile_width + i]; a panel number, or 0 where
+ *                             none is met
+ *   counts, counts_len        1,025 numbers. counts[p] is the number of the tile's cells that show
+ *                             panel p, counts[0] of those that show none; together
+ *                             tile_width x tile_height
  *   patch_counts,             one entry a patch; a scene without patches wants a length of 0 and
- *   patch_counts_len          any pointer that is not null. patch_counts[k] is the number of cells
- *                             whose closest patch is number k, counted from 0 as the patches stand
- *                             in the scene's list. The closest is the one met at the least
- *                             distance; of several there, the one of the lowest panel; of one
+ *   patch_counts_len          any pointer that is not null. patch_counts[k] is the number of the
+ *                             tile's cells whose closest patch is number k, counted from 0 as the
+ *                             patches stand in the scene's list. The closest is the one met at the
+ *                             least distance; of several there, the one of the lowest panel; of one
  *                             panel, the earlier in the list. A patch that stands twice is two
  *                             patches. A panel's count is the sum over its patches. Two scenes may
  *                             cut a panel into other patches: where each panel covers the same
  *                             points, edges and corners counted in, and both calls return
- *                             RING_DONE for one station, camera and window, picture, counts,
+ *                             RING_DONE for one station, camera, window and tile, picture, counts,
  *                             unlit and lit are the same; this table may differ
- *   unlit, unlit_len          height x 256 numbers. Row j has the 256 from unlit + 256 * j: 128
- *                             pairs of offset and length, one for each stretch of cells that
- *                             show no panel, from left to right, with a lit cell between any
- *                             two. The pairs not used are 0 and 0, so the used ones end before
- *                             the first pair of length 0, or with the row when all 128 are used
- *   lit, lit_len              height x 4 words: the map of the lit cells. Row j has the four from
- *                             lit + 4 * j. Bit i mod 64 of the row's word i / 64, bit 0 being the
- *                             least significant, is set where cell (i, j) shows a panel; it is
- *                             clear where the cell shows none, and for every i from the width on.
+ *   unlit, unlit_len          tile_height x 256 numbers. Row j has the 256 from unlit + 256 * j:
+ *                             128 pairs of offset and length, one for each stretch of the tile's
+ *                             cells in this row that show no panel, from left to right, with a lit
+ *                             cell between any two. An offset counts from the tile's first column.
+ *                             The pairs not used are 0 and 0, so the used ones end before the
+ *                             first pair of length 0, or with the row when all 128 are used
+ *   lit, lit_len              tile_height x 4 words: the map of the lit cells. Row j has the four
+ *                             from lit + 4 * j. Bit i mod 64 of the row's word i / 64, bit 0 being
+ *                             the least significant, is set where cell (i, j) shows a panel; it is
+ *                             clear where the cell shows none, and for every i from tile_width on.
  *                             So it tells the same cells as unlit does. ring_row_lit and
  *                             ring_row_first_unlit read it
- *   counter                   the station counter: raised by one when the result is RING_DONE
+ *   counter                   the station counter: raised by one when the result is RING_DONE and
+ *                             the tile holds the window's last cell, the one at its bottom right,
+ *                             which is where left + tile_width is width and top + tile_height is
+ *                             height. With any other tile it stays
  *
  * Returns RING_DONE: picture, counts, patch_counts, unlit and lit are written in full, whatever
- * they held before, and the counter is raised. Any other result is a refusal: picture, counts,
- * patch_counts, unlit, lit and counter are just as they were.
+ * they held before, and the counter is raised if the tile is the one that raises it. Any other
+ * result is a refusal: picture, counts, patch_counts, unlit, lit and counter are just as they were.
  */
 uint32_t ring_survey(const uint8_t *scene, size_t scene_len,
                      int16_t eye_x, int16_t eye_y, int16_t eye_z,
@@ -177,6 +222,7 @@ uint32_t ring_survey(const uint8_t *scene, size_t scene_len,
                      int16_t forward_x, int16_t forward_y, int16_t forward_z,
                      int16_t up_x, int16_t up_y, int16_t up_z,
                      uint16_t width, uint16_t height, uint16_t lens,
+                     uint16_t left, uint16_t top, uint16_t tile_width, uint16_t tile_height,
                      uint16_t *picture, size_t picture_len,
                      uint32_t *counts, size_t counts_len,
                      uint32_t *patch_counts, size_t patch_counts_len,
@@ -194,6 +240,7 @@ uint32_t ring_gate(const uint8_t *scene, size_t scene_len,
                    int16_t forward_x, int16_t forward_y, int16_t forward_z,
                    int16_t up_x, int16_t up_y, int16_t up_z,
                    uint16_t width, uint16_t height, uint16_t lens,
+                   uint16_t left, uint16_t top, uint16_t tile_width, uint16_t tile_height,
                    size_t picture_len, size_t counts_len, size_t patch_counts_len,
                    size_t unlit_len, size_t lit_len,
                    uint32_t counter);
@@ -226,6 +273,7 @@ uint32_t ring_survey_metres(const uint8_t *scene, size_t scene_len,
                             int16_t forward_x, int16_t forward_y, int16_t forward_z,
                             int16_t up_x, int16_t up_y, int16_t up_z,
                             uint16_t width, uint16_t height, uint16_t lens,
+                            uint16_t left, uint16_t top, uint16_t tile_width, uint16_t tile_height,
                             uint16_t *picture, size_t picture_len,
                             uint32_t *counts, size_t counts_len,
                             uint32_t *patch_counts, size_t patch_counts_len,
@@ -240,6 +288,7 @@ uint32_t ring_gate_metres(const uint8_t *scene, size_t scene_len,
                           int16_t forward_x, int16_t forward_y, int16_t forward_z,
                           int16_t up_x, int16_t up_y, int16_t up_z,
                           uint16_t width, uint16_t height, uint16_t lens,
+                          uint16_t left, uint16_t top, uint16_t tile_width, uint16_t tile_height,
                           size_t picture_len, size_t counts_len, size_t patch_counts_len,
                           size_t unlit_len, size_t lit_len,
                           uint32_t counter);
@@ -254,7 +303,7 @@ uint32_t ring_gate_metres(const uint8_t *scene, size_t scene_len,
  *
  * A row that is not wholly inside the map, which is where row is not below lit_len / RING_LIT_ROW,
  * answers 0, as a row does that has no lit cell. So where a row may not be there, ask for that
- * first; every row of the window is in the map that a survey left.
+ * first; every row of the tile is in the map that a survey left.
  */
 uint32_t ring_row_lit(const uint64_t *lit, size_t lit_len, size_t row);
 
@@ -263,7 +312,7 @@ uint32_t ring_row_lit(const uint64_t *lit, size_t lit_len, size_t row);
  * the width where there is none.
  *
  *   lit, lit_len, row         as in ring_row_lit
- *   width                     the width of the window that was surveyed. The map does not hold it:
+ *   width                     the width of the tile that was surveyed. The map does not hold it:
  *                             past it the bits are clear, so with a larger one a row that is all
  *                             lit answers the column after its last, which is not a cell. With a
  *                             smaller one only the columns below it are looked at. A column past

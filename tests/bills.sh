@@ -1,5 +1,5 @@
 #!/bin/sh
-# The stored bills: samples/bills/*.view, each built from the text beside it, and the bill that `ringbill` must print for it. Then the longest input, and one byte more, and a ring in three cuttings.
+# The stored bills: samples/bills/*.view, each built from the text beside it, and the bill that `ringbill` must print for it. Then the longest input, and one byte more, windows wider and higher than a tile, and a ring in three cuttings.
 #   SURVEY_LIB_DIR=... tests/bills.sh RINGBILL
 # The bills were not made by the program: tools/rays.py worked them out, and the ray-by-ray program in Rust says the same. Both are asked again in each run.
 # Ends with 1 if anything differs.
@@ -50,6 +50,14 @@ echo "refused 2" >"$work/longest.bill"
 echo "refused 1" >"$work/too_long.bill"
 for input in longest too_long; do
     billed "$work/$input" "$work/$input.bill"
+done
+
+# `ringbill` draws its window as one tile: what is wider or higher than a tile is refused, though a window may be.
+python3 "$root/tools/scene.py" build "$root/samples/s.txt" - | tail -c +13 >"$work/s.scene"
+echo "refused 10" >"$work/wide.bill"
+for window in '257 128 4' '256 129 4' '1024 512 4'; do
+    python3 "$root/tools/scene.py" view "$work/s.scene" "$work/wide.view" 0 0 0 $window
+    billed "$work/wide.view" "$work/wide.bill"
 done
 
 # One ring in three cuttings, under two trees: one bill, worked out from the first.

@@ -1,6 +1,6 @@
 #!/bin/sh
 # Builds examples/console.c with the library and holds its bills, the cells of each patch and the answers on each row against
-# those of tools/rays.py.
+# those of tools/rays.py, also of wide windows, which both survey in tiles.
 #   console.sh LIBDIR      the folder that holds libsurvey.a
 # Ends with 1 if anything differs.
 [ $# -eq 1 ] || { echo "usage: console.sh LIBDIR" >&2; exit 2; }
@@ -36,7 +36,7 @@ told() {
 }
 
 # turned AXES SCENE WINDOW STATION...: the bills of all stations in one run, and the last picture.
-metres=
+metres= tiles=
 turned() {
     axes=$1 scene=$work/$2.scene window=$3
     shift 3
@@ -45,12 +45,12 @@ turned() {
     words=
     for station in "$@"; do
         told "$station"
-        tool rays.py --patches --rows $beside ${axes:+--axes $axes} "$work/in.view" "$work/wanted.u16" >>"$work/all"
+        tool rays.py --patches --rows $tiles $beside ${axes:+--axes $axes} "$work/in.view" "$work/wanted.u16" >>"$work/all"
         words="$words $station"
     done
-    grep -v '^row ' "$work/all" >"$work/wanted-p"
+    grep -v '^row \|^tile ' "$work/all" >"$work/wanted-p"
     grep -v '^patch ' "$work/all" >"$work/wanted-r"
-    grep -v '^row ' "$work/wanted-r" >"$work/wanted"
+    grep -v '^patch ' "$work/wanted-p" >"$work/wanted"
     gives $metres ${axes:+-a $axes}
 }
 
@@ -59,6 +59,13 @@ in_metres() {
     metres=-m
     turned "$@"
     metres=
+}
+
+# wide KIND...: turned, in_metres or level, of a window in tiles.
+wide() {
+    tiles=--tiles
+    "$@"
+    tiles=
 }
 
 # level SCENE WINDOW STATION...: without axes; and with those of the level view no other bills.
@@ -217,9 +224,31 @@ prints 'refused 2' -p "$work/crowd.scene" 4 4 4 0 0 0
 made endless 'patches-at 58 4294967295' "$node" "$square"
 prints 'refused 2' -p "$work/endless.scene" 4 4 4 0 0 0
 
-prints 'refused 10' "$work/s.scene" 257 4 4 0 0 0
-prints 'refused 10' "$work/s.scene" 65535 65535 4 0 0 0
 prints 'refused 10' "$work/s.scene" 4 4 4 0 0 10001
+for window in '1025 4' '4 513' '65535 65535' '0 4' '4 0' '0 0' '1280 128' '65280 128' '256 65408'; do
+    prints 'refused 10' "$work/s.scene" $window 4 0 0 0
+done
+
+# Wide windows: the most of one tile, a column or a row more, both, and the widest; from several stations, one of which is
+# refused before any tile; turned; in metres.
+wide level s "256 128 100" "60 0 30"
+wide level s "257 128 100" "60 0 30" "-60 0 20"
+wide level s "256 129 100" "60 0 30" "-60 0 20"
+wide level t "300 260 257" "-60 0 20" "0 0 10001" "3 -20 5" "0 200 0"
+wide level s "1024 1 512" "0 0 0" "50 0 0"
+wide level s "1 512 256" "0 0 0"
+wide level ring "260 130 160" "0 20 0" "300 1000 -200"
+wide turned "-97 31 -12 25 100 -8 -9 14 -100" ring "270 129 160" "0 20 0"
+wide turned "1 0 -1 0 2 0 1 0 1" bars "513 7 300" "0 0 0"
+wide in_metres "" ring "258 130 160" "1.5 5 -1" "0 nan 0" "0 0.1 0"
+wide turned "" s "1024 512 512" "0 0 0"
+prints "$(printf '%s\n' 'view 512 2 256' '5 256' 'nothing 768' 'total 1024' 'patch 0: 5 256' 'tile 0 0 256 2' \
+    'unlit 0: (0,192)' 'unlit 1: (0,192)' 'tile 256 0 256 2' 'unlit 0: (64,192)' 'unlit 1: (64,192)' 'tile 0 0 256 2' \
+    'row 0: 64 lit, first unlit 0' 'row 1: 64 lit, first unlit 0' 'tile 256 0 256 2' 'row 0: 64 lit, first unlit 64' \
+    'row 1: 64 lit, first unlit 64')" -u -r -p "$work/s.scene" 512 2 256 0 0 0
+prints "$(printf '%s\n' 'view 1024 1 1024' '5 512' 'nothing 512' 'total 1024' 'tile 0 0 256 1' 'row 0: 0 lit, first unlit 0' \
+    'tile 256 0 256 1' 'row 0: 256 lit, none unlit' 'tile 512 0 256 1' 'row 0: 256 lit, none unlit' 'tile 768 0 256 1' \
+    'row 0: 0 lit, first unlit 0')" -r "$work/s.scene" 1024 1 1024 0 0 0
 
 # Question 14: the range of each part, where right . (forward x up) is above 0 whatever that part is; this number 0 and below
 # 0; and the question's place after 10 and after those on scenes.

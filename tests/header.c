@@ -11,11 +11,14 @@
 #define IS(what, number) _Static_assert((what) == (number), #what " is " #number)
 #define IS_SIZE(what) _Static_assert(_Generic((what), size_t: 1, default: 0), #what " is a size_t")
 
-/* A word that stands for nine numbers is put out as these before they are compared. */
-#define IS_NINE(...) EACH_IS(__VA_ARGS__)
-#define EACH_IS(a, b, c, d, e, f, g, h, i, a_, b_, c_, d_, e_, f_, g_, h_, i_) \
+/* A word that stands for nine or four numbers is put out as these before they are compared. */
+#define IS_NINE(...) EACH_OF_NINE(__VA_ARGS__)
+#define EACH_OF_NINE(a, b, c, d, e, f, g, h, i, a_, b_, c_, d_, e_, f_, g_, h_, i_) \
     _Static_assert((a) == (a_) && (b) == (b_) && (c) == (c_) && (d) == (d_) && (e) == (e_) && \
                    (f) == (f_) && (g) == (g_) && (h) == (h_) && (i) == (i_), "nine numbers")
+#define IS_FOUR(...) EACH_OF_FOUR(__VA_ARGS__)
+#define EACH_OF_FOUR(a, b, c, d, a_, b_, c_, d_) \
+    _Static_assert((a) == (a_) && (b) == (b_) && (c) == (c_) && (d) == (d_), "four numbers")
 
 /* "The result is "done" or this number": the number of the first question answered no, in the
  * order of asking, where 15 is "put just before question 10" and 14 "put right after question 10";
@@ -31,15 +34,20 @@ IS(RING_BAD_PANEL, 7);      /* 7: panels */
 IS(RING_BAD_PATCH, 8);      /* 8: flat and strictly convex */
 IS(RING_BAD_SIDE, 9);       /* 9: each patch on its side */
 IS(RING_BAD_METRES, 15);    /* 15: doubles that become no whole number in range */
-IS(RING_BAD_VIEW, 10);      /* 10: eye and window */
+IS(RING_BAD_VIEW, 10);      /* 10: eye, window and tile */
 IS(RING_BAD_AXES, 14);      /* 14: right, forward and up */
 IS(RING_BAD_BUFFERS, 11);   /* 11: the lengths of what is lent */
 IS(RING_BAD_COUNTER, 12);   /* 12: the station counter */
 
-/* Question 10: "width 1 to 256, height 1 to 128, lens 1 to 4,096". */
-IS(RING_WIDTH_MAX, 256);
-IS(RING_HEIGHT_MAX, 128);
+/* Question 10: "up to 1,024 by 512 cells", "lens 1 to 4,096"; "tiles of at most 256 by 128". A
+ * window drawn "as one tile" has its place at the window's first cell, and the window's size. */
+IS(RING_WIDTH_MAX, 1024);
+IS(RING_HEIGHT_MAX, 512);
 IS(RING_LENS_MAX, 4096);
+IS(RING_TILE_WIDTH_MAX, 256);
+IS(RING_TILE_HEIGHT_MAX, 128);
+IS_FOUR(RING_WHOLE_TILE(256, 128), 0, 0, 256, 128);
+IS_FOUR(2 * RING_WHOLE_TILE(3 + 4, 1 + 2) * 2, 0, 0, 7, 6);
 
 /* "One length unit is 5 mm": a double's "exact value times 200". */
 IS(RING_UNITS_PER_METRE, 200);
@@ -57,8 +65,9 @@ IS(RING_PATCH_MAX, 1024);
 IS(RING_PATCH_BYTES, 6);
 
 /* Question 11: "the picture (u16) width × height cells, the counts (u32) 1,025, the unlit lists
- * (u16) height × 256"; "row j has the 256 numbers from 256 × j"; of the map "four u64 words a row".
- * The table of "one entry a patch" has as many as the scene, which no number here can say. */
+ * (u16) height × 256"; "row j has the 256 numbers from 256 × j"; of the map "four u64 words a row";
+ * and "buffer lengths follow the tile". The table of "one entry a patch" has as many as the scene,
+ * which no number here can say. */
 IS(RING_PICTURE_LEN(256, 128), 32768);
 IS(RING_PICTURE_LEN(128, 256), 32768);
 IS(RING_PICTURE_LEN(2 + 3, 3 + 4), 35);
@@ -81,16 +90,17 @@ IS_SIZE(RING_LIT_ROW);
 IS_SIZE(RING_LIT_LEN(1));
 
 /* The calls: the scene's bytes; the eye, three i16; "three vectors, right, forward and up", three
- * i16 each, so that -101 and 101 can arrive and be refused; width, height and lens, u16 each; what
- * is lent, each with its length, after the counts the "further lent table (u32, one entry a
- * patch)", and "Beside the unlit lists" the map, in "u64 words"; the station counter, up to
- * 4,294,967,295. */
+ * i16 each, so that -101 and 101 can arrive and be refused; width, height and lens, u16 each; the
+ * tile's place and size, u16 each as the window's are; what is lent, each with its length, after
+ * the counts the "further lent table (u32, one entry a patch)", and "Beside the unlit lists" the
+ * map, in "u64 words"; the station counter, up to 4,294,967,295. */
 uint32_t ring_survey(const uint8_t *scene, size_t scene_len,
                      int16_t eye_x, int16_t eye_y, int16_t eye_z,
                      int16_t right_x, int16_t right_y, int16_t right_z,
                      int16_t forward_x, int16_t forward_y, int16_t forward_z,
                      int16_t up_x, int16_t up_y, int16_t up_z,
                      uint16_t width, uint16_t height, uint16_t lens,
+                     uint16_t left, uint16_t top, uint16_t tile_width, uint16_t tile_height,
                      uint16_t *picture, size_t picture_len,
                      uint32_t *counts, size_t counts_len,
                      uint32_t *patch_counts, size_t patch_counts_len,
@@ -103,6 +113,7 @@ uint32_t ring_gate(const uint8_t *scene, size_t scene_len,
                    int16_t forward_x, int16_t forward_y, int16_t forward_z,
                    int16_t up_x, int16_t up_y, int16_t up_z,
                    uint16_t width, uint16_t height, uint16_t lens,
+                   uint16_t left, uint16_t top, uint16_t tile_width, uint16_t tile_height,
                    size_t picture_len, size_t counts_len, size_t patch_counts_len,
                    size_t unlit_len, size_t lit_len,
                    uint32_t counter);
@@ -115,6 +126,7 @@ uint32_t ring_survey_metres(const uint8_t *scene, size_t scene_len,
                             int16_t forward_x, int16_t forward_y, int16_t forward_z,
                             int16_t up_x, int16_t up_y, int16_t up_z,
                             uint16_t width, uint16_t height, uint16_t lens,
+                            uint16_t left, uint16_t top, uint16_t tile_width, uint16_t tile_height,
                             uint16_t *picture, size_t picture_len,
                             uint32_t *counts, size_t counts_len,
                             uint32_t *patch_counts, size_t patch_counts_len,
@@ -127,6 +139,7 @@ uint32_t ring_gate_metres(const uint8_t *scene, size_t scene_len,
                           int16_t forward_x, int16_t forward_y, int16_t forward_z,
                           int16_t up_x, int16_t up_y, int16_t up_z,
                           uint16_t width, uint16_t height, uint16_t lens,
+                          uint16_t left, uint16_t top, uint16_t tile_width, uint16_t tile_height,
                           size_t picture_len, size_t counts_len, size_t patch_counts_len,
                           size_t unlit_len, size_t lit_len,
                           uint32_t counter);
@@ -153,45 +166,61 @@ static const uint8_t quarters[] = {
     SQUARE(-100, 0), SQUARE(0, 0), SQUARE(-100, -100), SQUARE(0, -100),
 };
 
-/* The numbers of a call in its order, eye, right, forward, up, width, height and lens, and what
- * they show of the quarters. */
+/* Where the numbers of a call's view end: after eye, right, forward and up come those of the window
+ * and of the tile. Behind them stand the lengths, of which the third and the last are those of the
+ * patch table and of the map. */
+enum {
+    WIDTH = 12, HEIGHT, LENS, LEFT, TOP, TILE_WIDTH, TILE_HEIGHT, LENGTHS,
+    TABLE = LENGTHS + 2, MAP = LENGTHS + 4, NUMBERS
+};
+
+/* The numbers of a call in its order, up to the tile's, and what they show of the quarters. */
 struct view {
-    int number[15];
+    int number[LENGTHS];
     uint16_t picture[24];
 };
 
 /* Level; rolled by a quarter turn; upside down; from aside, where no two of the four panels have as
- * many cells, so that their counts cannot change places; and a view whose numbers all differ, so
- * that no two of them can change places without another picture or a refusal. */
+ * many cells, so that their counts cannot change places; and a tile of a view whose numbers all
+ * differ, so that no two of them can change places without another picture or a refusal. */
 static const struct view level = {
-    {0, 0, 0, RING_LEVEL_VIEW, 4, 2, 4}, {1, 1, 2, 2, 3, 3, 4, 4}};
+    {0, 0, 0, RING_LEVEL_VIEW, 4, 2, 4, RING_WHOLE_TILE(4, 2)}, {1, 1, 2, 2, 3, 3, 4, 4}};
 static const struct view rolled = {
-    {0, 0, 0, 0, 0, -1, 0, 1, 0, 1, 0, 0, 4, 2, 4}, {2, 2, 4, 4, 1, 1, 3, 3}};
+    {0, 0, 0, 0, 0, -1, 0, 1, 0, 1, 0, 0, 4, 2, 4, RING_WHOLE_TILE(4, 2)},
+    {2, 2, 4, 4, 1, 1, 3, 3}};
 static const struct view upside_down = {
-    {0, 0, 0, -1, 0, 0, 0, 1, 0, 0, 0, -1, 4, 2, 4}, {4, 4, 3, 3, 2, 2, 1, 1}};
+    {0, 0, 0, -1, 0, 0, 0, 1, 0, 0, 0, -1, 4, 2, 4, RING_WHOLE_TILE(4, 2)},
+    {4, 4, 3, 3, 2, 2, 1, 1}};
 static const struct view aside = {
-    {-81, 0, -30, RING_LEVEL_VIEW, 6, 4, 5},
+    {-81, 0, -30, RING_LEVEL_VIEW, 6, 4, 5, RING_WHOLE_TILE(6, 4)},
     {0, 0, 0, 1, 1, 2, 0, 0, 0, 3, 3, 4, 0, 0, 0, 3, 3, 4, 0, 0, 0, 3, 3, 4}};
 static const struct view oblique = {
-    {-19, -49, 26, 9, 2, -7, 3, 12, -4, 11, -1, 8, 6, 4, 5},
-    {0, 2, 2, 0, 0, 0, 1, 1, 2, 4, 0, 0, 0, 1, 3, 4, 4, 0, 0, 0, 3, 3, 0, 0}};
+    {-19, -49, 26, 9, 2, -7, 3, 12, -4, 11, -1, 8, 10, 5, 7, 1, 0, 6, 4},
+    {0, 0, 2, 2, 0, 0, 0, 1, 2, 2, 4, 4, 0, 1, 1, 4, 4, 4, 0, 0, 3, 3, 3, 4}};
 
 /* The middle lines run along the joints, and one of them through the corner where all four panels
  * meet: "A cell holds the panel met first [...] by the line from the eye whose direction has right
  * times any small enough step above 0 added, and up times any step above 0 small enough beside that
  * taken away." Level, and rolled by a quarter turn. */
 static const struct view joints = {
-    {0, 0, 0, RING_LEVEL_VIEW, 3, 3, 4}, {1, 2, 2, 3, 4, 4, 3, 4, 4}};
+    {0, 0, 0, RING_LEVEL_VIEW, 3, 3, 4, RING_WHOLE_TILE(3, 3)}, {1, 2, 2, 3, 4, 4, 3, 4, 4}};
 static const struct view joints_rolled = {
-    {0, 0, 0, 0, 0, -1, 0, 1, 0, 1, 0, 0, 3, 3, 4}, {2, 4, 4, 1, 3, 3, 1, 3, 3}};
+    {0, 0, 0, 0, 0, -1, 0, 1, 0, 1, 0, 0, 3, 3, 4, RING_WHOLE_TILE(3, 3)},
+    {2, 4, 4, 1, 3, 3, 1, 3, 3}};
+
+/* The last tile of a window with such joints, whose last two rows read 3 3 4 4 0. */
+static const struct view last_tile = {
+    {0, 0, 0, RING_LEVEL_VIEW, 5, 3, 4, 3, 1, 2, 2}, {4, 0, 4, 0}};
 
 /* The gate paints nothing. But no two numbers can change places in all three of these, except those
- * of the eye, without a refusal: question 14 lets them just pass, and what passes as a part of the
- * eye does not pass as a part of a vector or of the window. */
-static const int narrow[3][15] = {
-    {-101, -102, -103, -1, 2, -1, 0, 1, 0, 1, -1, -1, 6, 4, 5},
-    {-101, -102, -103, 1, 0, 0, -1, -1, 1, 2, -1, -1, 6, 4, 5},
-    {-101, -102, -103, 1, 0, 2, 2, 1, 1, 1, 2, 0, 6, 4, 5}};
+ * of the eye, without a refusal: question 14 lets the vectors just pass; what passes as a part of
+ * the eye, of a vector or of window and tile does not pass as a part of another of them; and the
+ * tile is the window's last, of a size that its lengths tell. */
+#define NARROW 300, 206, 201, 190, 101, 110, 105
+static const int narrow[3][LENGTHS] = {
+    {-101, -102, -103, -1, 2, -1, 0, 1, 0, 1, -1, -1, NARROW},
+    {-101, -102, -103, 1, 0, 0, -1, -1, 1, 2, -1, -1, NARROW},
+    {-101, -102, -103, 1, 0, 2, 2, 1, 1, 1, 2, 0, NARROW}};
 
 /* What a call lends. Each has room for the longest, so that two lengths can change places too. The
  * map is lent from its second word on. */
@@ -211,21 +240,18 @@ static size_t patches_in(const uint8_t *scene)
  * places exchanged, as by a library that takes them in another order. The lengths are those of the
  * view as it was. */
 struct call {
-    int number[20];
+    int number[NUMBERS];
 };
-
-/* Where the lengths begin, and where those of the patch table and of the map stand among them. */
-enum { LENGTHS = 15, TABLE = 17, MAP = 19 };
 
 static struct call call_of(const int *view, int one, int other)
 {
     struct call c = {{0}};
     memcpy(c.number, view, LENGTHS * sizeof *view);
-    c.number[LENGTHS] = (int)RING_PICTURE_LEN(view[12], view[13]);
+    c.number[LENGTHS] = (int)RING_PICTURE_LEN(view[TILE_WIDTH], view[TILE_HEIGHT]);
     c.number[LENGTHS + 1] = (int)RING_COUNTS_LEN;
     c.number[TABLE] = (int)patches_in(quarters);
-    c.number[TABLE + 1] = (int)RING_UNLIT_LEN(view[13]);
-    c.number[MAP] = (int)RING_LIT_LEN(view[13]);
+    c.number[TABLE + 1] = (int)RING_UNLIT_LEN(view[TILE_HEIGHT]);
+    c.number[MAP] = (int)RING_LIT_LEN(view[TILE_HEIGHT]);
     int kept = c.number[one];
     c.number[one] = c.number[other];
     c.number[other] = kept;
@@ -234,7 +260,9 @@ static struct call call_of(const int *view, int one, int other)
 
 #define THREE(n) (int16_t)(n)[0], (int16_t)(n)[1], (int16_t)(n)[2]
 #define CAMERA(n) THREE((n) + 3), THREE((n) + 6), THREE((n) + 9), \
-                  (uint16_t)(n)[12], (uint16_t)(n)[13], (uint16_t)(n)[14]
+                  (uint16_t)(n)[WIDTH], (uint16_t)(n)[HEIGHT], (uint16_t)(n)[LENS], \
+                  (uint16_t)(n)[LEFT], (uint16_t)(n)[TOP], \
+                  (uint16_t)(n)[TILE_WIDTH], (uint16_t)(n)[TILE_HEIGHT]
 #define LENGTHS_OF(n) (size_t)(n)[LENGTHS], (size_t)(n)[LENGTHS + 1], (size_t)(n)[TABLE], \
                       (size_t)(n)[TABLE + 1], (size_t)(n)[MAP]
 #define LENT(n) picture, (size_t)(n)[LENGTHS], counts, (size_t)(n)[LENGTHS + 1], patch_counts, \
@@ -313,10 +341,11 @@ static int counts_cells(const uint16_t *shown)
 }
 
 /* "four u64 words a row, bit i mod 64 of word i / 64 set when column i is lit. Columns beyond the
- * width stay clear." What the map held before is gone, and beside its words nothing is written. */
+ * width stay clear", all counted from the tile's first cell. What the map held before is gone, and
+ * beside its words nothing is written. */
 static int maps_cells(const struct view *v)
 {
-    size_t width = (size_t)v->number[12], height = (size_t)v->number[13];
+    size_t width = (size_t)v->number[TILE_WIDTH], height = (size_t)v->number[TILE_HEIGHT];
     uint64_t due[1026];
     for (size_t k = 0; k < 1026; k++)
         due[k] = 0 < k && k <= 4 * height ? 0 : noise;
@@ -328,12 +357,21 @@ static int maps_cells(const struct view *v)
     return !memcmp(lit, due, sizeof due);
 }
 
+/* "The station counter rises with the tile that holds the window's last cell, and with no
+ * other." */
+static uint32_t rise(const int *view)
+{
+    return view[LEFT] + view[TILE_WIDTH] == view[WIDTH] &&
+           view[TOP] + view[TILE_HEIGHT] == view[HEIGHT];
+}
+
 static int shows(survey_call *call, struct view v, int one, int other)
 {
     struct call c = call_of(v.number, one, other);
     uint32_t counter = 6;
     spoil();
-    return call(c.number, &counter) == RING_DONE && counter == 7 && counts_cells(v.picture) &&
+    return call(c.number, &counter) == RING_DONE && counter == 6 + rise(v.number) &&
+           counts_cells(v.picture) &&
            !memcmp(picture, v.picture, (size_t)c.number[LENGTHS] * sizeof *picture) &&
            maps_cells(&v);
 }
@@ -368,8 +406,8 @@ static int asks_length(int place, int length, const int *others, int count)
 }
 
 /* "Question 11 covers the new table's length": one entry a patch, whatever the counts and the most
- * patches are. "Question 11 covers the map's length": that of the window's two rows, whatever those
- * of the lists and of the highest window are. */
+ * patches are. "Question 11 covers the map's length": that of the tile's two rows, whatever those
+ * of the lists and of the highest tile are. */
 static int asks_lengths(void)
 {
     static const int tables[] = {3, 5, 0, 1024, 1025}, maps[] = {7, 9, 0, 2, 4, 12, 16, 512};
@@ -380,8 +418,8 @@ static int asks_lengths(void)
 /* The answer on the scene of nothing where all is level and fits but what is named. */
 static uint32_t answer(int16_t up_y, int16_t up_z, uint16_t lens, size_t cells, uint32_t counter)
 {
-    return ring_gate(nothing, 32, 0, 0, 0, 1, 0, 0, 0, 1, 0, 0, up_y, up_z, 1, 1, lens, cells, 1025,
-                     0, 256, 4, counter);
+    return ring_gate(nothing, 32, 0, 0, 0, 1, 0, 0, 0, 1, 0, 0, up_y, up_z, 1, 1, lens,
+                     RING_WHOLE_TILE(1, 1), cells, 1025, 0, 256, 4, counter);
 }
 
 /* "14 when a part is out of range or right . (forward x up) is not above 0, put right after
@@ -403,11 +441,13 @@ static int shows_nothing(void)
     uint16_t cell[1] = {9}, row[256] = {9, 9, 9};
     uint32_t counted[1025] = {9, 9}, table[1] = {9}, counter = 6;
     uint64_t words[5] = {9, 9, 9, 9, 9};
-    uint32_t refused = ring_survey(nothing, 32, 0, 0, 0, RING_LEVEL_VIEW, 1, 1, 1, cell, 1,
-                                   counted, 1025, table, 1, row, 256, words, 4, &counter);
+    uint32_t refused = ring_survey(nothing, 32, 0, 0, 0, RING_LEVEL_VIEW, 1, 1, 1,
+                                   RING_WHOLE_TILE(1, 1), cell, 1, counted, 1025, table, 1,
+                                   row, 256, words, 4, &counter);
     int left = counter == 6 && cell[0] == 9 && counted[0] == 9 && row[0] == 9 && words[0] == 9;
-    uint32_t done = ring_survey(nothing, 32, 0, 0, 0, RING_LEVEL_VIEW, 1, 1, 1, cell, 1,
-                                counted, 1025, table, 0, row, 256, words, 4, &counter);
+    uint32_t done = ring_survey(nothing, 32, 0, 0, 0, RING_LEVEL_VIEW, 1, 1, 1,
+                                RING_WHOLE_TILE(1, 1), cell, 1, counted, 1025, table, 0,
+                                row, 256, words, 4, &counter);
     return patches_in(nothing) == 0 && refused == RING_BAD_BUFFERS && left &&
            answer(0, 1, 1, 1, 6) == RING_DONE && done == RING_DONE && counter == 7 &&
            cell[0] == 0 && counted[0] == 1 && counted[1] == 0 && table[0] == 9 && row[0] == 0 &&
@@ -474,5 +514,5 @@ int main(int argc, char **argv)
     return !(shows_nothing() && asks_axes() && asks_lengths() && all_pass(gate, 0, 0) &&
              all_pass(gate_metres, 0, 0) && holds(level) && holds(rolled) && holds(upside_down) &&
              holds(aside) && holds(oblique) && holds(joints) && holds(joints_rolled) &&
-             counts_row(0, 0) && finds_column(0, 0));
+             holds(last_tile) && counts_row(0, 0) && finds_column(0, 0));
 }

@@ -29,10 +29,10 @@ CHANGES = (("number", r"\b\d+\b", lambda found: str(int(found) + 1)),
            ("const", r"\bconst\b", lambda found: ""),
            ("pointer", r"\*(?=\w)", lambda found: ""))
 
-# Numbers of a call's view, eye, right, forward, up and window, and the lengths of what it lends, by their places in a call. The
-# first of them are the eye's, of which the gate asks the same. And those of the calls on rows: the map's length and the row, and
-# between them the width.
-NUMBERS, LENGTHS, EYE = range(15), range(15, 20), 3
+# Numbers of a call's view, eye, right, forward, up, window and tile, and the lengths of what it lends, by their places in a call.
+# The first of them are the eye's, of which the gate asks the same. And those of the calls on rows: the map's length and the row,
+# and between them the width.
+NUMBERS, LENGTHS, EYE = range(19), range(19, 24), 3
 ROW_NUMBERS = {"ring_row_lit": range(2), "ring_row_first_unlit": range(3)}
 
 # The numbers in the header's words, by the name that a comment is about: those of each question, and where something else is
@@ -40,6 +40,7 @@ ROW_NUMBERS = {"ring_row_lit": range(2), "ring_row_first_unlit": range(3)}
 SAID = {
     "RING_H": "5 0 1024",                           # "One length unit is 5 mm"; a length of 0; "at most 1,024 nodes"
     "RING_LEVEL_VIEW": "1 0 0 0 1 0 0 0 1 0 20 0 256 128 160",  # "(1,0,0), (0,1,0), (0,0,1)", and the numbers of a call
+    "RING_WHOLE_TILE": "0 20 0 256 128 160 256 128",  # the numbers of a call on a window that is one tile
     "RING_PICTURE_LEN": "20 1 9",                   # after 8 bytes three pairs of "u32 offset and length": the second's length
     "ring_result": "0 15 10 14 10 13",              # "just before question 10"; "right after question 10"; "question 13 is struck"
     "RING_BAD_HEADER": "32 57376 1 0",
@@ -49,7 +50,7 @@ SAID = {
     "RING_BAD_RUNS": "3 8",
     "RING_BAD_PANEL": "1 1024",
     "RING_BAD_METRES": "10000 10000",
-    "RING_BAD_VIEW": "10000 10000 1 256 1 128 1 4096",
+    "RING_BAD_VIEW": "10000 10000 1 1024 1 512 1 4096 1 256 1 128",  # the eye; the window; the tile
     "RING_BAD_AXES": "100 100 0 0 0",
     "RING_BAD_BUFFERS": "1025 256 4",
     "RING_BAD_COUNTER": "4294967295",
@@ -133,7 +134,7 @@ def agrees(library, folder, declared):
 
 
 def names(header, body, archive):
-    stated = re.findall(r"^IS(?:_NINE)?\((\w+)", body, flags=re.MULTILINE)
+    stated = re.findall(r"^IS(?:_NINE|_FOUR)?\((\w+)", body, flags=re.MULTILINE)
     for name in set(re.findall(r"\bRING_\w+", header)) - {"RING_H"}:
         check("header.c says what %s is" % name, name in stated)
     results = re.findall(r"\b(RING_\w+) = ", header)

@@ -1,4 +1,4 @@
-"""Holds the lit map and the calls on its rows to document 02, from C, by tests/map.c and tests/wrong_map.c: from_c.py says how.
+"""Holds the lit map, the calls on its rows and the tiles of a window to document 02, from C, by tests/map.c and tests/wrong_map.c: from_c.py says how.
 
     map.py LIBDIR      the folder that holds libsurvey.a
 """

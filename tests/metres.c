@@ -118,7 +118,7 @@ static void build_ruler(int axis, int units)
 /* What a call names but the scene and the station. */
 struct call {
     int16_t axes[9];
-    uint16_t width, height, lens;
+    uint16_t width, height, lens, tile[4];
     size_t picture_len, counts_len, table_len, unlit_len, lit_len;
     uint32_t counter;
 };
@@ -126,13 +126,14 @@ struct call {
 /* The camera that looks along the axis after this one, which is to its right. */
 static struct call ruler_call(int axis)
 {
-    struct call c = {{0}, 3, 1, 1, 3, 1025, 1, 256, 4, 6};
+    struct call c = {{0}, 3, 1, 1, {RING_WHOLE_TILE(3, 1)}, 3, 1025, 1, 256, 4, 6};
     for (int k = 0; k < 3; k++)
         c.axes[3 * k + (axis + k) % 3] = 1;
     return c;
 }
 
-static const struct call call_on_s = {{RING_LEVEL_VIEW}, 4, 4, 4, 16, 1025, 1, 1024, 16, 6};
+static const struct call call_on_s = {
+    {RING_LEVEL_VIEW}, 4, 4, 4, {RING_WHOLE_TILE(4, 4)}, 16, 1025, 1, 1024, 16, 6};
 
 /* What is lent, and more behind each. */
 static struct lent {
@@ -157,7 +158,7 @@ static uint32_t told(uint32_t answer, uint32_t gate)
 
 #define THREE(v) (v)[0], (v)[1], (v)[2]
 #define CAMERA(c) THREE((c)->axes), THREE((c)->axes + 3), THREE((c)->axes + 6), \
-                  (c)->width, (c)->height, (c)->lens
+                  (c)->width, (c)->height, (c)->lens, THREE((c)->tile), (c)->tile[3]
 #define LENT(c) lent.picture, (c)->picture_len, lent.counts, (c)->counts_len, lent.patch_counts, \
                 (c)->table_len, lent.unlit, (c)->unlit_len, lent.lit, (c)->lit_len, &lent.counter
 #define LENGTHS(c) (c)->picture_len, (c)->counts_len, (c)->table_len, (c)->unlit_len, \
@@ -236,6 +237,22 @@ static void check_s(void)
     check(is_as_in_units(c, mixed, 12, -38, 1), "S from (12,-38,1)");
 }
 
+/* A tile of S from the window's second column and row on: both its rows read 5 5 0, and the counter
+ * stays; from 12 units to the right it is as from there in units. */
+static void check_tile(void)
+{
+    static const uint16_t shown[6] = {5, 5, 0, 5, 5, 0};
+    struct call c = {{RING_LEVEL_VIEW}, 4, 4, 4, {1, 1, 3, 2}, 6, 1025, 1, 512, 8, 6};
+    build(0, -50, 50, 100, 50);
+    check(is_as_in_units(&c, along(0, 0), 0, 0, 0) && lent.counter == 6 &&
+          !memcmp(lent.picture, shown, sizeof shown), "a tile of S from 0, 0, 0 metres");
+    check(is_as_in_units(&c, along(0, 0.0625), 12, 0, 0) && lent.counter == 6,
+          "a tile of S from (12,0,0)");
+    c.tile[1] = 2;
+    check(is_as_in_units(&c, along(0, 0.0625), 12, 0, 0) && lent.counter == 7,
+          "the last tile of S from (12,0,0)");
+}
+
 /* What is asked before 15: the questions on scenes, here 1 and 9. A version that is 0; a node's
  * plane through other points than the patch's. */
 static void check_scene_first(void)
@@ -256,13 +273,16 @@ static void check_scene_first(void)
  * The call is made better from one line to the next. */
 static void check_call_after(void)
 {
-    struct call c = {{0}, 0, 4, 4, 15, 1025, 1, 1024, 15, UINT32_MAX};
+    struct call c = {{0}, 0, 4, 4, {1, 0, 4, 4}, 15, 1025, 1, 1024, 15, UINT32_MAX};
     struct metres nan = along(2, of_bits(a_nan)), here = along(0, 0);
     build(0, -50, 50, 100, 50);
     check(in_metres(&c, nan) == RING_BAD_METRES, "a NaN, and width 0, and all behind");
     check(in_metres(&c, along(0, 64)) == RING_BAD_METRES, "64 metres, and width 0");
     check(in_metres(&c, here) == RING_BAD_VIEW, "width 0, and axes");
     c.width = 4;
+    check(in_metres(&c, nan) == RING_BAD_METRES, "a NaN, and a tile outside, and all behind");
+    check(in_metres(&c, here) == RING_BAD_VIEW, "a tile outside, and axes");
+    c.tile[0] = 0;
     check(in_metres(&c, nan) == RING_BAD_METRES, "a NaN, and axes, and all behind");
     check(in_metres(&c, here) == RING_BAD_AXES, "axes, and two buffers");
     memcpy(c.axes, call_on_s.axes, sizeof c.axes);
@@ -292,6 +312,7 @@ int main(void)
 {
     check_lengths();
     check_s();
+    check_tile();
     check_scene_first();
     check_call_after();
     check_units();

@@ -1,6 +1,6 @@
 """Tests of tools/: worked scenes, turned cameras, joints, cells by patch, round trips, the gate,
-stations in metres, sample rings, two cuttings of one ring, spans laid on rows, the lit map,
-pictures, the commands.
+stations in metres, wide windows from tiles, sample rings, two cuttings of one ring, spans laid on
+rows, the lit map, pictures, the commands.
 
 Run by tools.sh. Each case is counted; a case that fails is named.
 """
@@ -30,6 +30,7 @@ import rays  # noqa: E402
 import ring  # noqa: E402
 import rows as laying  # noqa: E402
 import scene  # noqa: E402
+import tiles as tilings  # noqa: E402
 
 tally = collections.Counter()
 
@@ -150,10 +151,10 @@ OBLIQUE = (-19, -49, 26, *map(int, SKEWED.split()), 6, 4, 5)
 OBLIQUE_ROWS = "022000 112400 013440 003300"
 
 
-def seen_along(data, axes, station=None):
+def seen_along(data, axes, station=None, tiling=tilings.one_tile):
     """The picture of an input along these axes, or the number that it is refused with."""
     try:
-        return rays.survey_input(data, axes, station)[1]
+        return rays.survey_input(data, axes, station, tiling)[1]
     except gate.No as no:
         return no.question
 
@@ -796,6 +797,178 @@ def test_seen_in_metres():
     for one, other in itertools.combinations(range(3), 2):
         check("parts %d and %d of a station exchanged" % (one, other),
               seen_along(data, axes, exchanged(eye, one, other)) != rows_of(OBLIQUE_ROWS))
+
+
+# --- wide windows from tiles ---------------------------------------------------------------------
+
+# S in 4 by 4: tiles of it, and what they show. Read as a window of its own, each of 2 by 2 would
+# show 5 in every cell.
+TILED = (((0, 0, 2, 2), "00 05"), ((2, 0, 2, 2), "00 50"), ((0, 2, 2, 2), "05 00"),
+         ((2, 2, 2, 2), "50 00"), ((1, 1, 2, 2), "55 55"), ((0, 0, 4, 4), MIDDLE),
+         ((1, 0, 3, 2), "000 550"), ((0, 1, 4, 1), "0550"), ((1, 0, 1, 4), "0 5 5 0"),
+         ((3, 3, 1, 1), "0"))
+
+# The quarters in 5 by 3, with joints in the middle column and row: the whole, and tiles that hold
+# each cell once.
+FIVE_BY_THREE, WHOLE_QUARTERS = (0, 0, 0, 5, 3, 4), "11220 33440 33440"
+QUARTER_TILES = (((0, 0, 2, 3), "11 33 33"), ((2, 0, 3, 1), "220"), ((2, 1, 1, 2), "4 4"),
+                 ((3, 1, 2, 2), "40 40"))
+
+
+def only(*tile):
+    """The tiling of one tile, by the words of a command."""
+    return tilings.take_tiling(["--tile", *map(str, tile)])
+
+
+def test_tiles_of_a_window():
+    for tile, digits in TILED:
+        check("s, tile %s" % (tile,), seen_along(built("s"), scene.LEVEL, tiling=only(*tile)),
+              rows_of(digits))
+    quarters = built("quarters", FIVE_BY_THREE)
+    check("quarters in 5 by 3", seen_along(quarters, scene.LEVEL), rows_of(WHOLE_QUARTERS))
+    for tile, digits in QUARTER_TILES:
+        check("quarters, tile %s" % (tile,), seen_along(quarters, scene.LEVEL, tiling=only(*tile)),
+              rows_of(digits))
+    listed, shown = zip(*QUARTER_TILES)
+    pictures = [rows_of(digits) for digits in shown]
+    check("quarters, put together", tilings.put_together(listed, pictures), rows_of(WHOLE_QUARTERS))
+    check("quarters, the added counts", rays.bill(FIVE_BY_THREE, listed, pictures),
+          ["view 5 3 4", "1 2", "2 2", "3 4", "4 4", "nothing 3", "total 15"])
+
+
+def guillotine(draws, left, top, width, height):
+    """Random tiles that hold each cell of a part once: it is cut in two, and these parts again."""
+    cuts = [("across", at) for at in range(1, height)] + [("down", at) for at in range(1, width)]
+    if not cuts or draws.random() < 0.2:
+        return [(left, top, width, height)]
+    way, at = draws.choice(cuts)
+    if way == "across":
+        return (guillotine(draws, left, top, width, at)
+                + guillotine(draws, left, top + at, width, height - at))
+    return (guillotine(draws, left, top, at, height)
+            + guillotine(draws, left + at, top, width - at, height))
+
+
+def check_tiling(name, view, whole, axes, listed):
+    """Each tile is a part of the whole picture, and together they are all of it, with its counts
+    and each patch's cells.
+    """
+    numbers = rays.closest_patches(view, whole, axes)
+    rows = rays.panels_of(whole, numbers)
+    numbered = [rays.closest_patches(view, whole, axes, tile) for tile in listed]
+    pictures = [rays.panels_of(whole, some) for some in numbered]
+    check("parts: " + name, numbered, [[row[left:left + width] for row in numbers[top:top + height]]
+                                       for left, top, width, height in listed])
+    check("together: " + name, tilings.put_together(listed, pictures), rows)
+    check("added: " + name, rays.bill(view, listed, pictures),
+          rays.bill(view, tilings.one_tile(view), [rows]))
+    check("patches added: " + name, rays.patch_lines(whole, numbered),
+          rays.patch_lines(whole, [numbers]))
+
+
+def test_random_tiles():
+    draws, whole = random.Random(9), made("--facets 1")
+    for trial in range(12):
+        view = (0, 20, 0, draws.randint(1, 24), draws.randint(1, 12), draws.randint(4, 16))
+        axes = draws.choice((scene.LEVEL, random_axes(draws)))
+        listed = guillotine(draws, 0, 0, *view[3:5])
+        check_tiling("%d, %d tiles" % (trial, len(listed)), view, whole, axes,
+                     draws.sample(listed, len(listed)))
+
+
+def test_all_tiles():
+    """Each cell lies in one tile, and the tiles are no larger than they may be."""
+    for width, height in ((1, 1), (256, 128), (257, 128), (256, 129), (1024, 512), (1023, 511),
+                          (300, 260), (512, 1)):
+        listed = tilings.all_tiles((0, 0, 0, width, height, 1))
+        across, down = -(-width // 256), -(-height // 128)
+        check("%d by %d: how many tiles" % (width, height), len(listed), across * down)
+        check("%d by %d: no tile is refused" % (width, height),
+              [fits(tile, (width, height)) for tile in listed], [0] * len(listed))
+        numbered = [[[(x, y) for x in range(left, left + wide)] for y in range(top, top + high)]
+                    for left, top, wide, high in listed]
+        check("%d by %d: each cell once" % (width, height), tilings.put_together(listed, numbered),
+              [[(x, y) for x in range(width)] for y in range(height)])
+
+
+def together(*listed):
+    """Can these tiles, of one number each, be put together?"""
+    try:
+        return tilings.put_together(listed, [[[1] * wide] * high for _, _, wide, high in listed])
+    except ValueError:
+        return None
+
+
+def test_tiles_put_together():
+    check("together: one tile", together((3, 2, 2, 1)), [[1, 1]])
+    check("together: in any order", together((5, 2, 1, 1), (3, 2, 2, 1)), [[1, 1, 1]])
+    for name, listed in (("a gap", ((0, 0, 1, 1), (2, 0, 1, 1))),
+                         ("an overlap", ((0, 0, 2, 1), (1, 0, 2, 1))),
+                         ("twice", ((0, 0, 1, 1), (0, 0, 1, 1))),
+                         ("a row not begun", ((0, 0, 1, 2), (1, 0, 1, 1))),
+                         ("a row missing", ((0, 0, 1, 1), (0, 2, 1, 1))),
+                         ("a gap of the right area", ((0, 0, 2, 1), (0, 1, 1, 1), (2, 1, 1, 1)))):
+        check("not together: " + name, together(*listed), None)
+
+
+def fits(tile, window, lens=4, eye=(0, 0, 0), axes=LEVEL):
+    """The answer to S in a window and a tile of it. A tile is not surveyed here."""
+    try:
+        gate.check_input(built("s", eye + window + (lens,)), axes_of(axes), tiling=only(*tile))
+    except gate.No as no:
+        return no.question
+    return 0
+
+
+WIDEST, LAST = (1024, 512), (768, 384, 256, 128)
+
+
+def test_gate_tiles():
+    for tile, window, number in (
+            (LAST, WIDEST, 0), ((0, 0, 256, 128), WIDEST, 0), ((1023, 511, 1, 1), WIDEST, 0),
+            ((769, 384, 256, 128), WIDEST, 10), ((768, 385, 256, 128), WIDEST, 10),
+            (LAST, (1025, 512), 10), (LAST, (1024, 513), 10), (LAST, (1023, 512), 10),
+            (LAST, (1024, 511), 10), ((0, 0, 1, 1), (0, 4), 10), ((0, 0, 1, 1), (4, 0), 10),
+            ((0, 0, 0, 128), WIDEST, 10), ((0, 0, 257, 128), WIDEST, 10),
+            ((0, 0, 256, 0), WIDEST, 10), ((0, 0, 256, 129), WIDEST, 10),
+            ((1024, 0, 1, 1), WIDEST, 10), ((0, 512, 1, 1), WIDEST, 10),
+            ((65535, 0, 1, 1), WIDEST, 10), ((0, 65535, 1, 1), WIDEST, 10),
+            ((65535, 65535, 65535, 65535), WIDEST, 10), ((0, 0, 5, 4), (4, 4), 10),
+            ((0, 0, 4, 5), (4, 4), 10), ((0, 0, 4, 4), (4, 4), 0), ((0, 3, 4, 1), (5, 4), 0),
+            ((3, 0, 1, 4), (4, 5), 0), ((1, 0, 4, 1), (4, 9), 10), ((0, 1, 1, 4), (9, 4), 10)):
+        check("gate: tile %s of %s" % (tile, window), fits(tile, window), number)
+    check("gate: lens 4,097 of a wide window", fits(LAST, WIDEST, lens=4097), 10)
+    check("gate: an eye too far in a wide window", fits(LAST, WIDEST, eye=(0, 0, 10001)), 10)
+
+
+def test_gate_tiles_order():
+    """A tile is asked with 10: after 15 and the questions on scenes, before 14."""
+    none = "0 0 0 0 0 0 0 0 0"
+    check("gate: a tile outside and no axes", fits((1, 0, 4, 4), (4, 4), axes=none), 10)
+    check("gate: a tile inside and no axes", fits((0, 0, 4, 4), (4, 4), axes=none), 14)
+    outside = only(1, 0, 4, 4)
+    check("gate: a NaN and a tile outside",
+          seen_along(built("s"), scene.LEVEL, (math.nan, 0.0, 0.0), outside), 15)
+    check("gate: a short scene and a tile outside",
+          seen_along(built("s")[:-1], scene.LEVEL, tiling=outside), 1)
+
+
+def test_wide_windows():
+    """S in the widest window, by tiles of one row, and by one of the largest size."""
+    rows = []
+    for left in range(0, 1024, 256):
+        data = built("s", (0, 0, 0, 1024, 512, 512))
+        rows += seen_along(data, scene.LEVEL, tiling=only(left, 255, 256, 1))[0]
+    check("s, row 255 of 1,024 by 512", rows, [0] * 384 + [5] * 256 + [0] * 384)
+    nearer = built("s", (0, 0, 0, 1024, 512, 1024))
+    check("s, a tile that is full", seen_along(nearer, scene.LEVEL, tiling=only(256, 0, 256, 128)),
+          [[5] * 256] * 128)
+    check("s, wide as one tile", seen_along(nearer, scene.LEVEL), 10)
+    for window in ((0, 0, 0, 1025, 1, 4), (0, 0, 0, 1, 513, 4), (0, 0, 0, 0, 4, 4)):
+        check("s, no tiles of %s" % (window,),
+              seen_along(built("s", window), scene.LEVEL, tiling=tilings.all_tiles), 10)
+    view = (0, 20, 0, 260, 130, 160)
+    check_tiling("260 by 130", view, made(""), scene.LEVEL, tilings.all_tiles(view))
 
 
 # --- sample rings --------------------------------------------------------------------------------
@@ -1789,6 +1962,92 @@ def test_row_commands():
     for words in (["rays.py", "--rows"], ["rays.py", "--rows", "--rows", "-"],
                   ["gate.py", "--rows", "-"], ["draw.py", "--rows", "-", "-", "1"]):
         check("misused: " + " ".join(words), command(*words, data=data), (1, b""))
+
+
+def tile_bill(tile, five, nothing, view="view 4 4 4\n"):
+    """The bill of S in a tile."""
+    lines = ["tile " + tile] if tile else []
+    lines += ["5 %d" % five] if five else []
+    return (view + text_of(*lines, "nothing %d" % nothing, "total %d" % (five + nothing))).encode()
+
+
+def test_tile_commands():
+    data = built("s")
+    by_row = b"row 0: 2 lit, first unlit 2\nrow 1: 2 lit, first unlit 2\n"
+    for tile, five, nothing in (("1 1 3 2", 4, 2), ("0 0 2 2", 1, 3), ("3 0 1 4", 0, 4)):
+        words = ("--tile", *tile.split())
+        check("rays.py --tile " + tile, command("rays.py", *words, "-", data=data),
+              (0, tile_bill(tile, five, nothing)))
+        check("rays.py, tile last " + tile, command("rays.py", "-", *words, data=data),
+              (0, tile_bill(tile, five, nothing)))
+    check("rays.py, the whole as a tile", command("rays.py", "--tile", *"0044", "-", data=data),
+          (0, tile_bill("", 4, 12)))
+    check("rays.py --tile --rows --patches",
+          command("rays.py", "--rows", "--tile", *"1132", "--patches", "-", data=data),
+          (0, tile_bill("1 1 3 2", 4, 2) + b"patch 0: 5 4\n" + by_row))
+    check("rays.py, 10 by its tile", command("rays.py", "--tile", *"1044", "-", data=data),
+          (0, b"refused 10\n"))
+    for tile, said in (("1 0 4 4", "the tile ends at column 5 of 4"),
+                       ("0 1 4 4", "the tile ends at row 5 of 4"),
+                       ("0 0 0 4", "tile width 0, not 1 to 256"),
+                       ("0 0 4 129", "tile height 129, not 1 to 128"),
+                       ("65535 0 1 1", "the tile ends at column 65536 of 4")):
+        check("gate.py --tile " + tile, command("gate.py", "--tile", *tile.split(), "-", data=data),
+              (1, b"refused 10: %s\n" % said.encode()))
+    check("gate.py --tile", command("gate.py", "--tile", *"1132", "-", data=data),
+          (0, b"accepted\n"))
+    status, drawn = command("draw.py", "--tile", *"1032", "-", "-", "1", data=data)
+    check("draw.py --tile", (status, png_lines(drawn)), (0, wanted_lines(rows_of("000 550"), 1)))
+    for words in (["--tile", *"113"], ["--tile", *"1132", "--tiles"], ["--tiles", "--tiles"],
+                  ["--tile", *"1132", "--tile", *"1132"], ["--tile", "-1", *"132"],
+                  ["--tile", "65536", *"132"], ["--tile", "x", *"132"]):
+        for name, rest in (("rays.py", "-"), ("gate.py", "-"), ("draw.py", "- - 1")):
+            status, written, told = ended(name, *words, *rest.split(), data=data)
+            check("misused: %s %s" % (name, " ".join(words)),
+                  (status, written, b"Traceback" in told), (1, b"", False))
+    check("misused: a tile of a scene alone",
+          command("gate.py", "--scene", "-", "--tiles", data=data[12:]), (1, b""))
+    check("misused: tiles of a raw picture",
+          command("draw.py", "--raw", "4", "4", "-", "-", "--tiles", data=bytes(32)), (1, b""))
+
+
+def test_wide_commands():
+    """A window of four tiles, of which only the first is of the largest size."""
+    wide, view = built("s", (-60, 0, 20, 258, 129, 257)), "view 258 129 257\n"
+    shown = seen_along(wide, scene.LEVEL, tiling=tilings.all_tiles)
+    five = sum(row.count(5) for row in shown)
+    check("a wide picture to keep", [five, shown[-1][0], shown[-1][255:]],
+          [116 * 103, 0, [5] * 3])
+    bill = tile_bill("", five, 258 * 129 - five, view=view)
+    check("rays.py --tiles", command("rays.py", "--tiles", "-", data=wide), (0, bill))
+    check("rays.py --tiles --patches",
+          command("rays.py", "--tiles", "--patches", "-", data=wide),
+          (0, bill + b"patch 0: 5 %d\n" % five))
+    listed = ((0, 0, 256, 128), (256, 0, 2, 128), (0, 128, 256, 1), (256, 128, 2, 1))
+    lines = []
+    for left, top, width, height in listed:
+        lines += ["tile %d %d %d %d" % (left, top, width, height)]
+        lines += rays.row_lines([row[left:left + width] for row in shown[top:top + height]])
+    check("rays.py --tiles --rows", command("rays.py", "--rows", "--tiles", "-", data=wide),
+          (0, bill + text_of(*lines).encode()))
+    check("rays.py, wide as one tile", command("rays.py", "-", data=wide), (0, b"refused 10\n"))
+    check("gate.py, wide as one tile", command("gate.py", "-", data=wide),
+          (1, b"refused 10: tile width 258, not 1 to 256\n"))
+    check("gate.py --tiles", command("gate.py", "--tiles", "-", data=wide), (0, b"accepted\n"))
+    check("gate.py --tiles, too wide",
+          command("gate.py", "--tiles", "-", data=built("s", (0, 0, 0, 1025, 1, 1))),
+          (1, b"refused 10: width 1025, not 1 to 1024\n"))
+    status, drawn = command("draw.py", "--tiles", "-", "-", "1", data=wide)
+    check("draw.py --tiles", (status, png_lines(drawn)), (0, wanted_lines(shown, 1)))
+    check("draw.py, wide as one tile", command("draw.py", "-", "-", "1", data=wide), (1, b""))
+    with tempfile.TemporaryDirectory() as folder:
+        name = os.path.join(folder, "wide.u16")
+        check("rays.py --tiles, picture", command("rays.py", "--tiles", "-", name, data=wide)[0], 0)
+        check("the wide picture", stored(name) == rays.pack_picture(shown))
+        check("rays.py --tile, picture",
+              command("rays.py", "--tile", "250", "126", "8", "3", "-", name, data=wide)[0], 0)
+        check("the tile's picture", stored(name),
+              rays.pack_picture([row[250:258] for row in shown[126:129]]))
 
 
 def covers_said(one, other, *options):

@@ -1,6 +1,7 @@
-/* The calls of a survey made of the library's own, with another map, and the calls on rows written
- * anew: rightly, or with the one fault that FAULT names. tests/map.c must hold with the right ones
- * and must not with any other, which tests/map.py sees to. It is compiled to call these. */
+/* The calls of a survey made of the library's own, with another map and with tiles in other places,
+ * and the calls on rows written anew: rightly, or with the one fault that FAULT names. tests/map.c
+ * must hold with the right ones and must not with any other, which tests/map.py sees to. It is
+ * compiled to call these. */
 #include "ring.h"
 
 #include <string.h>
@@ -27,23 +28,127 @@ enum fault {
     ROW_AT_END, CELLS_AT_END, COLUMN_AT_END, LAST_ROW_OUT, PARTLY_INSIDE, ROW_OVERFLOWS,
     NEXT_OVERFLOWS, ROW_IN_16_BITS, ROW_IN_32_BITS, ROW_OF_ONE_WORD, NEXT_ROW, OUT_IS_WIDTH,
     OUT_IS_256, ROWS_WRITE,
+    /* Which cells of the window a tile has. */
+    OWN_WINDOW, LEFT_LOST, TOP_LOST, LEFT_AND_TOP_EXCHANGED, LEFT_FROM_RIGHT, TOP_FROM_BELOW,
+    WINDOW_FROM_TILE,
+    /* What counts from the tile's first cell. */
+    MAP_FROM_WINDOW, LISTS_FROM_WINDOW, COUNTS_OF_WINDOW, TABLE_KEPT_ADDING,
+    /* What question 10 lets pass, and when a tile is asked. */
+    WIDTH_256, HEIGHT_128, WIDTH_1025, HEIGHT_513, NO_COLUMN, NO_ROW, TILE_257, TILE_129,
+    LAST_COLUMN_OUT, LAST_ROW_OF_WINDOW_OUT, BEYOND_RIGHT, BEYOND_BELOW, LEFT_IN_16_BITS,
+    TOP_IN_16_BITS, TILE_AFTER_14, TILE_BEFORE_SCENE,
+    /* Lengths by the window. */
+    PICTURE_OF_WINDOW, LISTS_OF_WINDOW, MAP_OF_WINDOW,
+    /* The counter. */
+    RISES_ALWAYS, RISES_NEVER, RISES_WITH_FIRST, RISES_AT_RIGHT, RISES_BELOW, ASKED_IF_RISES,
     FAULTS
 };
 
 static const enum fault fault = FAULT;
 
 #define VIEW int16_t rx, int16_t ry, int16_t rz, int16_t fx, int16_t fy, int16_t fz, \
-             int16_t ux, int16_t uy, int16_t uz, uint16_t width, uint16_t height, uint16_t lens
-#define SAME_VIEW rx, ry, rz, fx, fy, fz, ux, uy, uz, width, height, lens
+             int16_t ux, int16_t uy, int16_t uz, uint16_t width, uint16_t height, uint16_t lens, \
+             uint16_t left, uint16_t top, uint16_t tile_width, uint16_t tile_height
+#define SAME_VIEW rx, ry, rz, fx, fy, fz, ux, uy, uz, p.width, p.height, lens, \
+                  p.left, p.top, p.tile_width, p.tile_height
 #define LENGTHS size_t cells, size_t counts_len, size_t patches, size_t unlit_len, size_t lit_len
 #define LENT uint16_t *picture, size_t cells, uint32_t *counts, size_t counts_len, \
              uint32_t *table, size_t patches, uint16_t *unlit, size_t unlit_len, \
              uint64_t *lit, size_t lit_len, uint32_t *counter
 
+/* A window and a tile of it, as a call names them. */
+struct place {
+    uint16_t width, height, left, top, tile_width, tile_height;
+};
+
+static int is_within(const struct place *p)
+{
+    return p->left + p->tile_width <= p->width && p->top + p->tile_height <= p->height;
+}
+
+/* Does the fault refuse this place, which may be right? */
+static int is_refused(const struct place *p)
+{
+    switch (fault) {
+    case WIDTH_256: return p->width > 256;
+    case HEIGHT_128: return p->height > 128;
+    case LAST_COLUMN_OUT: return p->left + p->tile_width == p->width;
+    case LAST_ROW_OF_WINDOW_OUT: return p->top + p->tile_height == p->height;
+    default: return 0;
+    }
+}
+
+/* A place that is refused, mended as far as the fault lets it pass. */
+static struct place let_pass(struct place p)
+{
+    int beyond = p.left + p.tile_width > p.width, below = p.top + p.tile_height > p.height;
+    int wraps_right = (uint16_t)(p.left + p.tile_width) <= p.width;
+    int wraps_below = (uint16_t)(p.top + p.tile_height) <= p.height;
+    switch (fault) {
+    case WIDTH_1025: p.width -= p.width == 1025; break;
+    case HEIGHT_513: p.height -= p.height == 513; break;
+    case NO_COLUMN: p.tile_width += p.tile_width == 0; break;
+    case NO_ROW: p.tile_height += p.tile_height == 0; break;
+    case TILE_257: p.tile_width -= p.tile_width == 257; break;
+    case TILE_129: p.tile_height -= p.tile_height == 129; break;
+    case BEYOND_RIGHT:
+    case TILE_AFTER_14: p.left = beyond ? 0 : p.left; break;
+    case BEYOND_BELOW: p.top = below ? 0 : p.top; break;
+    case LEFT_IN_16_BITS: p.left = beyond && wraps_right ? 0 : p.left; break;
+    case TOP_IN_16_BITS: p.top = below && wraps_below ? 0 : p.top; break;
+    default: break;
+    }
+    return p;
+}
+
+/* Another place that a tile is surveyed at, in another window perhaps. */
+static struct place moved(struct place p)
+{
+    struct place own = {p.tile_width, p.tile_height, 0, 0, p.tile_width, p.tile_height};
+    struct place turned = {p.width, p.height, p.top, p.left, p.tile_width, p.tile_height};
+    uint16_t from_left = (uint16_t)(p.width - p.left);
+    struct place cut = {from_left, p.height, 0, p.top, p.tile_width, p.tile_height};
+    switch (fault) {
+    case OWN_WINDOW: return own;
+    case LEFT_LOST: p.left = 0; break;
+    case TOP_LOST: p.top = 0; break;
+    case LEFT_AND_TOP_EXCHANGED: return is_within(&turned) ? turned : p;
+    case LEFT_FROM_RIGHT: p.left = (uint16_t)(p.width - p.left - p.tile_width); break;
+    case TOP_FROM_BELOW: p.top = (uint16_t)(p.height - p.top - p.tile_height); break;
+    case WINDOW_FROM_TILE: return cut;
+    default: break;
+    }
+    return p;
+}
+
+/* The place that the library is asked about. */
+static struct place asked_of(struct place p)
+{
+    if (is_refused(&p))
+        p.left = UINT16_MAX;
+    p = let_pass(p);
+    return is_within(&p) ? moved(p) : p;
+}
+
+/* Does the counter rise? */
+static uint32_t rise(const struct place *p)
+{
+    int at_right = p->left + p->tile_width == p->width;
+    int at_bottom = p->top + p->tile_height == p->height;
+    switch (fault) {
+    case RISES_ALWAYS: return 1;
+    case RISES_NEVER: return 0;
+    case RISES_WITH_FIRST: return p->left == 0 && p->top == 0;
+    case RISES_AT_RIGHT: return at_right;
+    case RISES_BELOW: return at_bottom;
+    default: return at_right && at_bottom;
+    }
+}
+
 /* The window and the picture that a map is drawn from, and what stood in its place. */
 struct drawing {
     const uint16_t *picture;
-    size_t width, height;
+    size_t width, height, left;
     uint64_t *lit;
     const uint64_t *held;
 };
@@ -88,6 +193,7 @@ static size_t place_of(const struct drawing *d, size_t column, size_t row)
     case ROWS_REVERSED: return 256 * (d->height - 1 - row) + column;
     case ROWS_JOINED: return d->width * row + column;
     case WORD_AFTER_WORD: return 64 * (d->height * word + row) + bit;
+    case MAP_FROM_WINDOW: return 256 * row + (d->left + column) % 256;
     default: return 256 * row + column;
     }
 }
@@ -143,10 +249,34 @@ static int is_lost(uint32_t answer)
     }
 }
 
-/* Does a call, in this form, take a map of this length? */
-static int fits(size_t lit_len, uint16_t height, int in_metres, int is_gate)
+/* What of the lists and the counts a fault leaves otherwise than the library did. */
+static void count_from_window(const struct place *p, uint16_t *unlit, uint32_t *counts,
+                              uint32_t *table)
 {
-    size_t due = RING_LIT_LEN(height);
+    for (size_t k = 0; fault == LISTS_FROM_WINDOW && k < RING_UNLIT_LEN(p->tile_height); k += 2)
+        if (unlit[k + 1])
+            unlit[k] = (uint16_t)(unlit[k] + p->left);
+    if (fault == COUNTS_OF_WINDOW)
+        counts[0] += (uint32_t)p->width * p->height - (uint32_t)p->tile_width * p->tile_height;
+    if (fault == TABLE_KEPT_ADDING)
+        table[0] += p->left || p->top;
+}
+
+/* The length that the library is asked about: by the window, where the fault has it so. */
+static size_t by_window(size_t length, size_t due, size_t windows, enum fault wanted)
+{
+    return fault != wanted ? length : length == windows ? due : due + 1;
+}
+
+#define PICTURE_LEN by_window(cells, RING_PICTURE_LEN(tile_width, tile_height), \
+                              RING_PICTURE_LEN(width, height), PICTURE_OF_WINDOW)
+#define LISTS_LEN by_window(unlit_len, RING_UNLIT_LEN(tile_height), RING_UNLIT_LEN(height), \
+                            LISTS_OF_WINDOW)
+
+/* Does a call, in this form, take a map of this length? */
+static int fits(size_t lit_len, const struct place *p, int in_metres, int is_gate)
+{
+    size_t due = RING_LIT_LEN(fault == MAP_OF_WINDOW ? p->height : p->tile_height);
     switch (fault) {
     case LENGTH_UNASKED: return 1;
     case LONGER_PASSES: return lit_len >= due;
@@ -170,40 +300,61 @@ static uint32_t answered(uint32_t otherwise, int fits)
     return is_after && !fits ? 11 : otherwise;
 }
 
+/* The answer where the fault asks for the tile, or for the counter, at another time. */
+static uint32_t in_turn(uint32_t otherwise, const struct place *p)
+{
+    int is_late = otherwise == 0 || otherwise == 11 || otherwise == 12;
+    if (fault == TILE_AFTER_14 && is_late && !is_within(p))
+        return 10;
+    if (fault == TILE_BEFORE_SCENE && !is_within(p))
+        return 10;
+    return fault == ASKED_IF_RISES && otherwise == 12 && !rise(p) ? 0 : otherwise;
+}
+
 /* The largest map, to survey into; and the map that was lent, as it was. */
 static uint64_t surveyed[512], held[512];
 
+/* The window and the tile of a call, and those that the library is asked about. */
+#define PLACES \
+    struct place asked = {width, height, left, top, tile_width, tile_height}, p = asked_of(asked)
+
 #define GATE(call) \
-    answered(call(scene, len, x, y, z, SAME_VIEW, cells, counts_len, patches, unlit_len, \
-                  RING_LIT_LEN(height), counter), fits(lit_len, height, in_metres, 1))
+    PLACES; \
+    uint32_t answer = call(scene, len, x, y, z, SAME_VIEW, PICTURE_LEN, counts_len, patches, \
+                           LISTS_LEN, RING_LIT_LEN(tile_height), counter); \
+    return answered(in_turn(answer, &asked), fits(lit_len, &asked, in_metres, 1))
 
 /* Surveys into another map where the one lent is taken, and draws it then. */
 #define SURVEY(gate, survey) \
-    uint32_t answer = \
-        answered(gate(scene, len, x, y, z, SAME_VIEW, cells, counts_len, patches, unlit_len, \
-                      RING_LIT_LEN(height), *counter), fits(lit_len, height, in_metres, 0)); \
+    PLACES; \
+    uint32_t before = *counter; \
+    uint32_t answer = gate(scene, len, x, y, z, SAME_VIEW, PICTURE_LEN, counts_len, patches, \
+                           LISTS_LEN, RING_LIT_LEN(tile_height), before); \
+    answer = answered(in_turn(answer, &asked), fits(lit_len, &asked, in_metres, 0)); \
     if (is_lost(answer) && lit_len) \
         lit[0] ^= 1; \
     if (answer) \
         return answer; \
     survey(scene, len, x, y, z, SAME_VIEW, picture, cells, counts, counts_len, table, patches, \
-           unlit, unlit_len, surveyed, RING_LIT_LEN(height), counter); \
-    memcpy(held, lit, 8 * RING_LIT_LEN(height)); \
-    draw(&(struct drawing){picture, width, height, lit, held}); \
+           unlit, unlit_len, surveyed, RING_LIT_LEN(tile_height), counter); \
+    *counter = before + rise(&asked); \
+    count_from_window(&asked, unlit, counts, table); \
+    memcpy(held, lit, 8 * RING_LIT_LEN(tile_height)); \
+    draw(&(struct drawing){picture, tile_width, tile_height, left, lit, held}); \
     return answer
 
 uint32_t tried_gate(const uint8_t *scene, size_t len, int16_t x, int16_t y, int16_t z, VIEW,
                     LENGTHS, uint32_t counter)
 {
     int in_metres = 0;
-    return GATE(ring_gate);
+    GATE(ring_gate);
 }
 
 uint32_t tried_gate_metres(const uint8_t *scene, size_t len, double x, double y, double z, VIEW,
                            LENGTHS, uint32_t counter)
 {
     int in_metres = 1;
-    return GATE(ring_gate_metres);
+    GATE(ring_gate_metres);
 }
 
 uint32_t tried_survey(const uint8_t *scene, size_t len, int16_t x, int16_t y, int16_t z, VIEW, LENT)

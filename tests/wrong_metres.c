@@ -29,6 +29,8 @@ enum fault {
     PICTURE_LOST, COUNTS_LOST, TABLE_LOST, UNLIT_LOST, LIT_LOST, COUNTER_RAISED,
     /* What a survey leaves. */
     NO_MAP,
+    /* The tile. */
+    TILE_LOST, TOP_FROM_BELOW, ALWAYS_RISES, TILE_UNASKED,
     FAULTS
 };
 
@@ -144,8 +146,10 @@ static uint32_t refused(uint32_t otherwise)
 }
 
 #define VIEW int16_t rx, int16_t ry, int16_t rz, int16_t fx, int16_t fy, int16_t fz, \
-             int16_t ux, int16_t uy, int16_t uz, uint16_t width, uint16_t height, uint16_t lens
-#define SAME_VIEW rx, ry, rz, fx, fy, fz, ux, uy, uz, width, height, lens
+             int16_t ux, int16_t uy, int16_t uz, uint16_t width, uint16_t height, uint16_t lens, \
+             uint16_t left, uint16_t top, uint16_t tile_width, uint16_t tile_height
+#define SAME_VIEW rx, ry, rz, fx, fy, fz, ux, uy, uz, width, height, lens, \
+                  left, top, tile_width, tile_height
 #define LENT uint16_t *picture, size_t cells, uint32_t *counts, size_t counts_len, \
              uint32_t *table, size_t patches, uint16_t *unlit, size_t unlit_len, \
              uint64_t *lit, size_t lit_len, uint32_t *counter
@@ -155,10 +159,17 @@ static uint32_t refused(uint32_t otherwise)
 #define SAME_LENGTHS cells, counts_len, patches, unlit_len, lit_len
 #define EYE(s) (s).eye[0], (s).eye[1], (s).eye[2]
 
+/* The tile's place, as the fault has it. */
+static uint16_t left_of(uint16_t left, uint16_t tile_width, uint16_t width)
+{
+    return fault == TILE_LOST || (fault == TILE_UNASKED && left + tile_width > width) ? 0 : left;
+}
+
 uint32_t tried_gate_metres(const uint8_t *scene, size_t len, double x, double y, double z, VIEW,
                            LENGTHS, uint32_t counter)
 {
     struct station s = station_of(x, y, z);
+    left = left_of(left, tile_width, width);
     uint32_t answer = ring_gate(scene, len, EYE(s), SAME_VIEW, SAME_LENGTHS, counter);
     return s.becomes || fault == GATE_PASSES ? answer : refused(answer);
 }
@@ -183,11 +194,17 @@ uint32_t tried_survey_metres(const uint8_t *scene, size_t len, double x, double 
                              LENT)
 {
     struct station s = station_of(x, y, z);
+    left = left_of(left, tile_width, width);
     if (s.becomes || fault == SURVEY_PASSES) {
         uint64_t held = lit[0];
+        uint32_t before = *counter;
+        if (fault == TOP_FROM_BELOW)
+            top = (uint16_t)(height - top - tile_height);
         uint32_t answer = ring_survey(scene, len, EYE(s), SAME_VIEW, SAME_LENT);
         if (fault == NO_MAP)
             lit[0] = held;
+        if (fault == ALWAYS_RISES && answer == RING_DONE)
+            *counter = before + 1;
         return answer;
     }
     spoil_lent(SAME_LENT);

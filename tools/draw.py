@@ -1,12 +1,16 @@
 #!/usr/bin/env python3
 """Draws a survey's picture as PNG: a colour for each panel, cells with no panel plain dark.
 
-    draw.py [--metres X Y Z] [--axes RX RY RZ FX FY FZ UX UY UZ] IN.view OUT.png [SCALE]
+    draw.py [--tile LEFT TOP WIDTH HEIGHT | --tiles] [--metres X Y Z]
+            [--axes RX RY RZ FX FY FZ UX UY UZ] IN.view OUT.png [SCALE]
                                                              computed here, ray by ray
     draw.py --raw WIDTH HEIGHT PICTURE.u16 OUT.png [SCALE]   a picture made elsewhere
 
 --metres puts a station of three doubles in metres in the place of the view's eye. --axes turns the
 camera: its vectors right, forward and up; without it the view is level, (1,0,0), (0,1,0), (0,0,1).
+--tile draws one tile of the window: the column and row of its top left cell, and its size. --tiles
+draws a window up to 1,024 by 512 from its tiles; without either one above 256 by 128 is refused, as
+`ringbill` refuses it.
 A raw picture is little-endian u16, row after row from the top, as
 `examples/console.c -o` and `rays.py` write it. SCALE is the side of a cell in pixels, 4 unless
 said. Examples:
@@ -14,6 +18,7 @@ said. Examples:
     $ draw.py samples/ring.view docs/sample-ring.png
     $ draw.py --axes 4 -3 0 3 4 0 0 0 5 samples/ring.view aside.png
     $ draw.py --metres 1.5 5 -1 samples/ring.view ahead.png
+    $ ring.py - --view 0 20 0 1024 512 640 | draw.py --tiles - wide.png 1
 """
 
 import colorsys
@@ -25,6 +30,7 @@ sys.dont_write_bytecode = True
 import gate  # noqa: E402
 import rays  # noqa: E402
 import scene as scenes  # noqa: E402
+import tiles  # noqa: E402
 
 NOTHING = (24, 24, 24)
 GOLDEN = 0.6180339887498949
@@ -77,19 +83,20 @@ def read_raw(words):
     return unpack_picture(scenes.read_file(name), width, height), words[3:]
 
 
-def read_view(words, axes, station):
-    return rays.survey_input(scenes.read_file(words[0]), axes, station)[1], words[1:]
+def read_view(words, axes, station, tiling):
+    return rays.survey_input(scenes.read_file(words[0]), axes, station, tiling)[1], words[1:]
 
 
 def run(words):
     raw = words[:1] == ["--raw"]
     axes = None if raw else scenes.take_axes(words)
     station = None if raw else scenes.take_metres(words)
+    tiling = None if raw else tiles.take_tiling(words)
     if len(words) not in ((5, 6) if raw else (2, 3)):
-        sys.exit("usage: draw.py %s %s IN.view OUT.png [SCALE]\n"
+        sys.exit("usage: draw.py %s %s %s IN.view OUT.png [SCALE]\n"
                  "       draw.py --raw WIDTH HEIGHT PICTURE.u16 OUT.png [SCALE]"
-                 % (scenes.STATION, scenes.AXES))
-    rows, rest = read_raw(words[1:]) if raw else read_view(words, axes, station)
+                 % (tiles.TILES, scenes.STATION, scenes.AXES))
+    rows, rest = read_raw(words[1:]) if raw else read_view(words, axes, station, tiling)
     scale = int(rest[1]) if len(rest) == 2 else 4
     scenes.write_file(rest[0], draw(rows, max(scale, 1)))
 

@@ -1,13 +1,17 @@
 #!/usr/bin/env python3
 """The gate's questions on a scene (1 to 9) and on a view (15, 10, 14), asked slowly and one by one.
 
-    gate.py [--metres X Y Z] [--axes RX RY RZ FX FY FZ UX UY UZ] IN.view
+    gate.py [--tile LEFT TOP WIDTH HEIGHT | --tiles] [--metres X Y Z]
+            [--axes RX RY RZ FX FY FZ UX UY UZ] IN.view
                               a view and a scene, as `ringbill` reads them
     gate.py --scene IN.scene  a scene alone: questions 1 to 9
 
 --axes turns the camera: its vectors right, forward and up, which question 14 is about. Without
 it the view is level, (1,0,0), (0,1,0), (0,0,1), as it is for `ringbill`. --metres puts a station
-of three doubles in metres in the place of the view's eye, which question 15 is about.
+of three doubles in metres in the place of the view's eye, which question 15 is about. --tile asks
+for one tile of the window: the column and row of its top left cell, and its size; --tiles for all
+tiles of a window up to 1,024 by 512. Without them the window is one tile, as it is for `ringbill`,
+and question 10 refuses one above 256 by 128.
 
 Prints `accepted`, or `refused N` and in words what was found. Questions 11 and 12 are about the
 caller's buffers and counter and are not asked here. Examples:
@@ -18,6 +22,8 @@ caller's buffers and counter and are not asked here. Examples:
     refused 14: right · (forward × up) is 0, not above 0
     $ gate.py --metres 0 nan 0 samples/ring.view
     refused 15: y of the eye is nan metres, which is not finite
+    $ gate.py --tile 200 0 57 128 samples/ring.view
+    refused 10: the tile ends at column 257 of 256
 """
 
 import sys
@@ -25,12 +31,15 @@ import sys
 sys.dont_write_bytecode = True
 import metres  # noqa: E402
 import scene as scenes  # noqa: E402
+import tiles  # noqa: E402
 
 SHORTEST, LONGEST = 32, 57376
 MOST = (1024, 1024, 4096)
 REACH = 10000
 PART = 100
 PANELS = 1024
+WINDOW = (("width", 1024), ("height", 512), ("lens", 4096))
+TILE = (("tile width", tiles.MOST_WIDE), ("tile height", tiles.MOST_HIGH))
 
 
 class No(Exception):
@@ -233,12 +242,27 @@ def check_station(eye, station):
         raise No(15, str(out)) from None
 
 
-def check_view(view):
-    if max(map(abs, view[:3])) > REACH:
-        raise No(10, "the eye is %s" % scenes.point_text(view[:3]))
-    for name, number, most in zip(("width", "height", "lens"), view[3:], (256, 128, 4096)):
+def check_sizes(limits, sizes):
+    for (name, most), number in zip(limits, sizes):
         if not 1 <= number <= most:
             raise No(10, "%s %d, not 1 to %d" % (name, number, most))
+
+
+def check_tile(view, tile):
+    """Has the tile a cell, is it no larger than a tile may be, and wholly inside the window?"""
+    check_sizes(TILE, tile[2:])
+    for name, first, size, most in zip(("column", "row"), tile[:2], tile[2:], view[3:5]):
+        if first + size > most:
+            raise No(10, "the tile ends at %s %d of %d" % (name, first + size, most))
+
+
+def check_view(view, tiling=tiles.one_tile):
+    """Question 10 of the eye and the window, and of each tile that is to be surveyed."""
+    if max(map(abs, view[:3])) > REACH:
+        raise No(10, "the eye is %s" % scenes.point_text(view[:3]))
+    check_sizes(WINDOW, view[3:])
+    for tile in tiling(view):
+        check_tile(view, tile)
 
 
 def check_axes(axes):
@@ -251,16 +275,16 @@ def check_axes(axes):
         raise No(14, "right · (forward × up) is %d, not above 0" % turn)
 
 
-def check_input(data, axes=scenes.LEVEL, station=None):
-    """(view, scene) of an input of `ringbill`, perhaps with a station in metres for its eye, if
-    questions 1 to 9, 15, 10 and 14 all say yes; else No.
+def check_input(data, axes=scenes.LEVEL, station=None, tiling=tiles.one_tile):
+    """(view, scene) of an input of `ringbill`, perhaps with a station in metres for its eye and in
+    other tiles, if questions 1 to 9, 15, 10 and 14 all say yes; else No.
     """
     if not scenes.VIEW.size <= len(data) <= scenes.VIEW.size + LONGEST:
         raise No(1, "%d bytes of view and scene" % len(data))
     view, data = scenes.split_view(data)
     scene = check_scene(data)
     view = tuple(check_station(view[:3], station)) + view[3:]
-    check_view(view)
+    check_view(view, tiling)
     check_axes(axes)
     return view, scene
 
@@ -269,14 +293,15 @@ def run(words):
     alone = words[:1] == ["--scene"]
     axes = None if alone else scenes.take_axes(words)
     station = None if alone else scenes.take_metres(words)
+    tiling = None if alone else tiles.take_tiling(words)
     if len(words) != (2 if alone else 1):
-        sys.exit("usage: gate.py %s %s IN.view\n       gate.py --scene IN.scene"
-                 % (scenes.STATION, scenes.AXES))
+        sys.exit("usage: gate.py %s %s %s IN.view\n       gate.py --scene IN.scene"
+                 % (tiles.TILES, scenes.STATION, scenes.AXES))
     data = scenes.read_file(words[-1])
     if alone:
         check_scene(data)
     else:
-        check_input(data, axes, station)
+        check_input(data, axes, station, tiling)
 
 
 def main():

@@ -1,16 +1,23 @@
 #!/usr/bin/env python3
 """A survey computed ray by ray in exact whole numbers: slow, without a tree, without the library.
 
-    rays.py [--patches] [--rows] [--metres X Y Z] [--axes RX RY RZ FX FY FZ UX UY UZ]
-            IN.view [PICTURE.u16]
+    rays.py [--patches] [--rows] [--tile LEFT TOP WIDTH HEIGHT | --tiles] [--metres X Y Z]
+            [--axes RX RY RZ FX FY FZ UX UY UZ] IN.view [PICTURE.u16]
 
 Reads a view and a scene as `ringbill` does, prints the bill as `ringbill` does (or `refused N`),
 and writes the picture, if asked, as raw little-endian u16, row after row from the top. --patches
 prints after the bill each patch of the scene: its number, its panel and its cells. --rows prints
 after that each row of the picture: its number, how many of its cells are lit, which is that they
-show a panel, and its first unlit column if it has one. --metres puts a station of three doubles in metres in the
-place of the view's eye. --axes turns the camera: its vectors right, forward and up; without it the
-view is level, (1,0,0), (0,1,0), (0,0,1). Examples:
+show a panel, and its first unlit column if it has one. --metres puts a station of three doubles in
+metres in the place of the view's eye. --axes turns the camera: its vectors right, forward and up;
+without it the view is level, (1,0,0), (0,1,0), (0,0,1).
+
+--tile surveys one tile of the window: the column and row of its top left cell, and its size. A line
+after the first tells which, and the rest is of the tile's cells, rows and columns counted from its
+top left cell. --tiles surveys a window up to 1,024 by 512 from tiles of at most 256 by 128: the
+bill has their added counts, the patches their added cells, the picture is the whole, and with
+--rows come the rows of each tile, after a line that tells which. Without either the window is one
+tile, as it is for `ringbill`, and one above 256 by 128 is refused with 10. Examples:
 
     $ scene.py build samples/s.txt - | rays.py -
     view 4 4 4
@@ -38,6 +45,12 @@ view is level, (1,0,0), (0,1,0), (0,0,1). Examples:
     5 16
     nothing 0
     total 16
+    $ scene.py build samples/s.txt - | rays.py --tile 1 1 3 2 -
+    view 4 4 4
+    tile 1 1 3 2
+    5 4
+    nothing 2
+    total 6
 
 A sight line along a joint is read as the lines just beside it: right of it, and below it where
 that still runs along the joint. Of four panels that meet on the middle line of three by three:
@@ -61,6 +74,7 @@ from fractions import Fraction
 sys.dont_write_bytecode = True
 import gate  # noqa: E402
 import scene as scenes  # noqa: E402
+import tiles  # noqa: E402
 from gate import cross, dot, minus, normal  # noqa: E402
 
 
@@ -149,15 +163,18 @@ def seen_from(eye, scene):
             for number, patch in enumerate(scene.patches)]
 
 
-def closest_patches(view, scene, axes=scenes.LEVEL):
-    """For each cell of an accepted view and scene, row after row, its closest patch's number."""
+def closest_patches(view, scene, axes=scenes.LEVEL, tile=None):
+    """For each cell of an accepted view and scene, row after row, its closest patch's number. Of a
+    tile "cells are those of the whole window's sight lines at that place".
+    """
     window, patches = view[3:], seen_from(view[:3], scene)
+    left, top, width, height = tile or tiles.one_tile(view)[0]
     rows = []
-    for row in range(window[1]):
+    for row in range(top, top + height):
         plane = row_plane(window, axes, row)
         near = [patch for patch in patches if patch.may_meet(plane)]
         rows.append([closest_patch(line_of(window, axes, column, row), near)
-                     for column in range(window[0])])
+                     for column in range(left, left + width)])
     return rows
 
 
@@ -167,36 +184,60 @@ def panels_of(scene, numbers):
             for row in numbers]
 
 
-def survey(view, scene, axes=scenes.LEVEL):
+def survey(view, scene, axes=scenes.LEVEL, tile=None):
     """The rows of the picture of an accepted view and scene, lists of panel numbers."""
-    return panels_of(scene, closest_patches(view, scene, axes))
+    return panels_of(scene, closest_patches(view, scene, axes, tile))
 
 
-def survey_input(data, axes, station=None):
+def survey_input(data, axes, station=None, tiling=tiles.one_tile):
     """(view, rows) of an input of `ringbill`, if all questions asked here say yes; else No."""
-    view, scene = gate.check_input(data, axes, station)
-    return view, survey(view, scene, axes)
+    view, scene = gate.check_input(data, axes, station, tiling)
+    pictures = [survey(view, scene, axes, tile) for tile in tiling(view)]
+    return view, tiles.put_together(tiling(view), pictures)
 
 
-def bill(view, rows):
-    """The bill's lines."""
-    cells = [panel for row in rows for panel in row]
+def counted(rows):
+    return collections.Counter(cell for row in rows for cell in row)
+
+
+def added(counts):
+    """What each counts, added up."""
+    return sum(counts, collections.Counter())
+
+
+def tile_lines(view, tile):
+    """A line that tells a tile, for one that is not all of the window."""
+    return [] if [tile] == tiles.one_tile(view) else ["tile %d %d %d %d" % tile]
+
+
+def bill(view, listed, pictures):
+    """The bill's lines, of the tiles that are listed, from the rows of each."""
+    counts = added(counted(rows) for rows in pictures)
     lines = ["view %d %d %d" % tuple(view[3:])]
-    lines += ["%d %d" % (panel, cells.count(panel)) for panel in sorted(set(cells) - {0})]
-    return lines + ["nothing %d" % cells.count(0), "total %d" % len(cells)]
+    lines += tile_lines(view, listed[0]) if len(listed) == 1 else []
+    lines += ["%d %d" % (panel, counts[panel]) for panel in sorted(set(counts) - {0})]
+    return lines + ["nothing %d" % counts[0], "total %d" % sum(counts.values())]
 
 
 def patch_cells(scene, numbers):
     """Each patch's cells, one entry a patch."""
-    cells = collections.Counter(number for row in numbers for number in row)
+    cells = counted(numbers)
     return [cells[number] for number in range(len(scene.patches))]
 
 
-def patch_lines(scene, numbers):
-    """A line for each patch: its number, its panel and its cells."""
-    cells = patch_cells(scene, numbers)
+def patch_lines(scene, numbered):
+    """A line for each patch: its number, its panel and its cells, added up over the tiles."""
+    cells = [sum(parts) for parts in zip(*(patch_cells(scene, numbers) for numbers in numbered))]
     return ["patch %d: %d %d" % (number, patch.panel, cells[number])
             for number, patch in enumerate(scene.patches)]
+
+
+def rows_by_tile(view, listed, pictures):
+    """The lines of each tile's rows; where there are several tiles, each after a line on it."""
+    lines = []
+    for tile, rows in zip(listed, pictures):
+        lines += (tile_lines(view, tile) if len(listed) > 1 else []) + row_lines(rows)
+    return lines
 
 
 def row_lines(rows):
@@ -211,27 +252,21 @@ def pack_picture(rows):
     return struct.pack("<%dH" % len(cells), *cells)
 
 
-def take_word(words, word):
-    """Take an option of one word out of a command's words: does it stand there?"""
-    given = word in words
-    if given:
-        words.remove(word)
-    return given
-
-
 def run(words):
-    with_patches, with_rows = take_word(words, "--patches"), take_word(words, "--rows")
+    with_patches, with_rows = (scenes.take_word(words, word) for word in ("--patches", "--rows"))
     axes, station = scenes.take_axes(words), scenes.take_metres(words)
+    tiling = tiles.take_tiling(words)
     if len(words) not in (1, 2):
-        sys.exit("usage: rays.py [--patches] [--rows] %s %s IN.view [PICTURE.u16]"
-                 % (scenes.STATION, scenes.AXES))
-    view, scene = gate.check_input(scenes.read_file(words[0]), axes, station)
-    numbers = closest_patches(view, scene, axes)
-    rows = panels_of(scene, numbers)
+        sys.exit("usage: rays.py [--patches] [--rows] %s %s %s IN.view [PICTURE.u16]"
+                 % (tiles.TILES, scenes.STATION, scenes.AXES))
+    view, scene = gate.check_input(scenes.read_file(words[0]), axes, station, tiling)
+    listed = tiling(view)
+    numbered = [closest_patches(view, scene, axes, tile) for tile in listed]
+    pictures = [panels_of(scene, numbers) for numbers in numbered]
     if len(words) == 2:
-        scenes.write_file(words[1], pack_picture(rows))
-    lines = bill(view, rows) + (patch_lines(scene, numbers) if with_patches else [])
-    print("\n".join(lines + (row_lines(rows) if with_rows else [])))
+        scenes.write_file(words[1], pack_picture(tiles.put_together(listed, pictures)))
+    lines = bill(view, listed, pictures) + (patch_lines(scene, numbered) if with_patches else [])
+    print("\n".join(lines + (rows_by_tile(view, listed, pictures) if with_rows else [])))
 
 
 def main():

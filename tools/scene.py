@@ -460,6 +460,14 @@ def take_option(words, option, count, what):
     return taken
 
 
+def take_word(words, word):
+    """Take an option of one word out of a command's words: does it stand there?"""
+    given = word in words
+    if given:
+        words.remove(word)
+    return given
+
+
 def take_axes(words):
     """Take the option AXES out of a command's words: right, forward, up; level where not given."""
     taken = take_option(words, "--axes", 9, "numbers")

@@ -62,7 +62,9 @@ pub fn introduction(commit: &str, rounds: usize) -> String {
          unlit lists and lit maps, at joints too, which each run asserts: `rays` takes\n\
          each cell alone, `z-buffer` compares exact distances, `painter` paints the tree\n\
          back to front, `segments` front to back on unlit stretches. Stations are in\n\
-         units, views level and 256×128 unless said.\n\n{}",
+         units, views level and 256×128 unless said. A window is drawn as one tile or, if\n\
+         said, in several, whose calls are timed together, each with its own buffers; the\n\
+         peers leave out, once a tile, the patches that reach none of its rows or columns.\n\n{}",
         head()
     )
 }

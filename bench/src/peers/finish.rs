@@ -8,7 +8,7 @@ use outside::call::{Lent, ROW, WORDS};
 
 pub fn finish(shapes: &Shapes, lent: &mut Lent) {
     let mut seen = Seen::none(shapes);
-    let width = shapes.camera.view.width;
+    let width = shapes.camera.tile.width;
     let full = map::full(width);
     let rows = lent.picture.chunks_exact_mut(usize::from(width));
     let beside = lent.unlit.chunks_exact_mut(ROW);

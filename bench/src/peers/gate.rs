@@ -116,9 +116,20 @@ fn turns(corners: &[[i32; 2]], positive: bool) -> bool {
 fn view_fits(call: &Call) -> bool {
     let view = &call.view;
     point_fits(&view.eye())
-        && (1..=256).contains(&view.width)
-        && (1..=128).contains(&view.height)
+        && (1..=1_024).contains(&view.width)
+        && (1..=512).contains(&view.height)
         && (1..=4_096).contains(&view.lens)
+        && tile_fits(call)
+}
+
+/// What is left of the window beside the tile's place does not wrap.
+fn tile_fits(call: &Call) -> bool {
+    let (view, tile) = (&call.view, &call.tile);
+    let part_of = |first: u16, cells: u16, all: u16| first < all && cells <= all - first;
+    (1..=256).contains(&tile.width)
+        && (1..=128).contains(&tile.height)
+        && part_of(tile.left, tile.width, view.width)
+        && part_of(tile.top, tile.height, view.height)
 }
 
 fn axes_proper(call: &Call) -> bool {
@@ -128,9 +139,9 @@ fn axes_proper(call: &Call) -> bool {
 }
 
 fn lengths_fit(call: &Call, tables: &Tables) -> bool {
-    call.picture_len == call.view.cells()
+    call.picture_len == call.tile.cells()
         && call.counts_len == COUNTS
         && call.patch_counts_len == tables.patches.len()
-        && call.unlit_len == usize::from(call.view.height) * ROW
-        && call.lit_len == usize::from(call.view.height) * WORDS
+        && call.unlit_len == usize::from(call.tile.height) * ROW
+        && call.lit_len == usize::from(call.tile.height) * WORDS
 }

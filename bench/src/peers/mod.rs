@@ -44,13 +44,20 @@ pub const PEERS: [Peer; 4] = [
     },
 ];
 
+/// Is the window's last cell the tile's own last one? A tile that the gate let pass
+/// does not reach beyond.
+fn ends_window(call: &Call) -> bool {
+    let (view, tile) = (&call.view, &call.tile);
+    tile.left + tile.width == view.width && tile.top + tile.height == view.height
+}
+
 impl Library for Peer {
     fn survey(&self, call: &Call, lent: &mut Lent) -> u32 {
         match gate::judge(call) {
             Err(number) => number,
             Ok(tables) => {
                 (self.paint)(&tables, call, lent);
-                lent.counter += 1;
+                lent.counter += u32::from(ends_window(call));
                 0
             }
         }

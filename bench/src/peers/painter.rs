@@ -8,8 +8,8 @@ use outside::call::{Call, Lent};
 
 pub fn paint(tables: &Tables, call: &Call, lent: &mut Lent) {
     let order = front_to_back(tables, wide(call.view.eye()));
-    let shapes = Shapes::of(tables, &call.view, order.into_iter().rev());
-    let width = usize::from(call.view.width);
+    let shapes = Shapes::of(tables, call, order.into_iter().rev());
+    let width = usize::from(call.tile.width);
     lent.picture.fill(NOTHING);
     for (number, shape) in shapes.numbered() {
         for row in usize::from(shape.low)..usize::from(shape.high) {

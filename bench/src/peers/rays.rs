@@ -40,9 +40,9 @@ struct Row {
 
 pub fn paint(tables: &Tables, call: &Call, lent: &mut Lent) {
     let order = front_to_back(tables, wide(call.view.eye()));
-    let shapes = Shapes::of(tables, &call.view, order.into_iter());
+    let shapes = Shapes::of(tables, call, order.into_iter());
     let mut row = Row::default();
-    let rows = lent.picture.chunks_exact_mut(usize::from(call.view.width));
+    let rows = lent.picture.chunks_exact_mut(usize::from(call.tile.width));
     for (j, cells) in rows.enumerate() {
         row.gather(&shapes, j);
         for (i, cell) in cells.iter_mut().enumerate() {

@@ -1,4 +1,5 @@
-//! The rows that a patch can reach, from its corners' projections: never too few.
+//! The rows of a tile that a patch can reach, from its corners' projections, and
+//! whether it can reach the columns: never too few.
 
 use super::camera::{Camera, Floats};
 use super::plane::dot;
@@ -43,11 +44,19 @@ fn crossing(p: Seen, q: Seen) -> i64 {
 /// The rows from the first number up to below the second.
 pub fn rows(corners: &[Floats], camera: &Camera) -> Option<(i64, i64)> {
     let (least, most) = slopes(corners, camera)?;
-    let [height, lens] = [camera.view.height, camera.view.lens].map(f64::from);
-    let top = height - 1.0;
+    let [height, lens] = [camera.tile.height, camera.view.lens].map(f64::from);
+    let top = camera.top;
     let within = |row: f64| row.clamp(0.0, height) as i64;
     // Row j looks along above / ahead = (top - 2j) / lens; 1/64 covers the rounding.
     let low = within((top - lens * most) / 2.0 - 1.0 / 64.0);
     let high = within((top - lens * least) / 2.0 + 1.0 + 1.0 / 64.0);
     (low < high).then_some((low, high))
+}
+
+/// Has a patch all its corners beyond the first column or beyond the last one? The
+/// lines beside a cell's are a little to the right of it: a patch that ends in the
+/// first column's plane is beyond, and one that begins in the last's is not.
+pub fn is_aside(corners: &[Floats], camera: &Camera) -> bool {
+    let side = |column| corners.iter().map(move |&corner| dot(corner, column));
+    side(camera.first_column).all(|n| n <= 0.0) || side(camera.last_column).all(|n| n < 0.0)
 }

@@ -11,7 +11,7 @@ use outside::call::{Call, Lent, ROW, WORDS};
 pub fn paint(tables: &Tables, call: &Call, lent: &mut Lent) {
     let order = front_to_back(tables, wide(call.view.eye()));
     let mut canvas = Canvas::blank(call, lent);
-    let shapes = Shapes::of(tables, &call.view, order.into_iter());
+    let shapes = Shapes::of(tables, call, order.into_iter());
     for shape in &shapes.shapes {
         let painted = canvas.lay(&shapes, shape);
         canvas.book(shape, painted);
@@ -19,7 +19,7 @@ pub fn paint(tables: &Tables, call: &Call, lent: &mut Lent) {
             break;
         }
     }
-    canvas.map(call.view.width);
+    canvas.map(call.tile.width);
 }
 
 struct Canvas<'a> {
@@ -35,16 +35,16 @@ impl Canvas<'_> {
     fn blank<'a>(call: &Call, lent: &'a mut Lent) -> Canvas<'a> {
         lent.picture.fill(0);
         lent.counts.fill(0);
-        lent.counts[0] = call.view.cells() as u32;
+        lent.counts[0] = call.tile.cells() as u32;
         lent.patch_counts.fill(0);
         lent.unlit.fill(0);
         for row in lent.unlit.chunks_exact_mut(ROW) {
-            row[1] = call.view.width;
+            row[1] = call.tile.width;
         }
         Canvas {
             lent,
-            width: usize::from(call.view.width),
-            open: u128::MAX >> (128 - u32::from(call.view.height)),
+            width: usize::from(call.tile.width),
+            open: u128::MAX >> (128 - u32::from(call.tile.height)),
             used: [2; 128],
         }
     }

@@ -4,7 +4,7 @@ use super::camera::{Camera, Floats, Ramp};
 use super::plane::{cross, dot};
 use super::reach;
 use super::tables::Tables;
-use outside::call::View;
+use outside::call::Call;
 
 /// The lines beside a cell's are inside an edge where the cell's number is above
 /// 0, and where it is 0 if it rises to the right, or downward if it does neither
@@ -54,11 +54,11 @@ pub const NOTHING: u16 = 0;
 const TINY: f64 = 1.0 / (1u64 << 41) as f64;
 
 impl Shapes {
-    pub fn of(tables: &Tables, view: &View, order: impl Iterator<Item = u16>) -> Shapes {
+    pub fn of(tables: &Tables, call: &Call, order: impl Iterator<Item = u16>) -> Shapes {
         let mut all = Shapes {
             shapes: Vec::with_capacity(tables.patches.len()),
             edges: Vec::with_capacity(tables.corners.len()),
-            camera: Camera::of(view),
+            camera: Camera::of(call),
         };
         for k in order {
             all.add(tables, k);
@@ -72,6 +72,9 @@ impl Shapes {
         let corners = &mut corners[..usize::from(patch.count)];
         for (place, &corner) in corners.iter_mut().zip(tables.corners_of(patch)) {
             *place = self.camera.from_eye(corner);
+        }
+        if reach::is_aside(corners, &self.camera) {
+            return;
         }
         let Some(rows) = reach::rows(corners, &self.camera) else {
             return;
@@ -144,7 +147,7 @@ impl Shapes {
     /// above first where there are none.
     #[inline]
     pub fn span(&self, shape: &Shape, row: usize) -> (usize, usize) {
-        let width = f64::from(self.camera.view.width);
+        let width = f64::from(self.camera.tile.width);
         let (lefts, rights) = self.edges(shape).split_at(usize::from(shape.lefts));
         let (mut low, mut high) = (-1.0, width);
         for edge in lefts {

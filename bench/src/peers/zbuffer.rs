@@ -32,15 +32,14 @@ struct Buffer<'a> {
 }
 
 pub fn paint(tables: &Tables, call: &Call, lent: &mut Lent) {
-    let view = &call.view;
     let stored = 0..tables.patches.len() as u16;
-    let shapes = Shapes::of(tables, view, stored);
+    let shapes = Shapes::of(tables, call, stored);
     let all = shapes.shapes.iter();
     lent.picture.fill(NOTHING);
     let mut buffer = Buffer {
-        width: usize::from(view.width),
+        width: usize::from(call.tile.width),
         depths: all.map(|s| depth(tables, &shapes.camera, s)).collect(),
-        near: vec![0.0; view.cells()],
+        near: vec![0.0; call.tile.cells()],
         from: &mut lent.picture,
     };
     for (number, shape) in shapes.numbered() {

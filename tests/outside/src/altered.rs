@@ -1,5 +1,7 @@
 //! Stored cases altered in one place: each must be unreadable or differ.
 
+use std::slice::from_ref;
+
 use crate::block::{Block, Reading};
 use crate::cases::{files, said, said_by, File, Said};
 use crate::compare::check_due;
@@ -8,6 +10,7 @@ use crate::map_compare::answers_apart;
 use crate::random::Random;
 use crate::row_cases::RowCase;
 use crate::row_fault::Laying;
+use crate::tile_cases::groups_hold;
 use crate::trial::Trial;
 
 /// The keys of what is due, and of what is told twice; a change of another number
@@ -15,6 +18,8 @@ use crate::trial::Trial;
 const DUE: &[&str] = &[
     "metres_bits",
     "metres",
+    "group",
+    "tiles",
     "answer",
     "picture_row",
     "counts",
@@ -42,15 +47,29 @@ fn read(lines: &Lines, file: &File) -> Reading<Said> {
     said_by(Block::of(&text, 1)?, file)
 }
 
-/// Is the block unreadable, or does it disagree with what was due before?
-fn is_seen(lines: &Lines, file: &File, before: &Said, rng: &mut Random) -> bool {
-    match (before, read(lines, file)) {
-        (_, Err(_)) => true,
-        (Said::Calls(before), Ok(Said::Calls(others))) => calls_differ(before, &others, rng),
-        (Said::Row(before), Ok(Said::Row(other))) => rows_differ(before, &other),
-        (Said::Map(before), Ok(Said::Map(other))) => {
-            !answers_apart(before.due, other.due).is_empty()
+/// Is block k unreadable, does it disagree with what was due before, or does a group
+/// of the file's tiles not hold together any more?
+fn is_seen(lines: &Lines, file: &File, (told, k): (&mut [Said], usize), rng: &mut Random) -> bool {
+    let Ok(mut other) = read(lines, file) else {
+        return true;
+    };
+    if differs(&told[k], &other, rng) {
+        return true;
+    }
+    std::mem::swap(&mut told[k], &mut other);
+    let broken = groups_hold(told).is_err();
+    told[k] = other;
+    broken
+}
+
+fn differs(before: &Said, other: &Said, rng: &mut Random) -> bool {
+    match (before, other) {
+        (Said::Calls(before), Said::Calls(others)) => calls_differ(before, others, rng),
+        (Said::Tile(_, before), Said::Tile(_, other)) => {
+            calls_differ(from_ref(before), from_ref(other), rng)
         }
+        (Said::Row(before), Said::Row(other)) => rows_differ(before, other),
+        (Said::Map(before), Said::Map(other)) => !answers_apart(before.due, other.due).is_empty(),
         _ => false,
     }
 }
@@ -126,11 +145,11 @@ pub fn every_line() -> Reading<(usize, usize)> {
     let (mut seen, mut missed) = (0, 0);
     for (file, text) in files()? {
         let mut rng = Random::new(1, text.len() as u64);
-        for part in text.trim_end().split("\n\n").skip(1) {
+        let mut told = said(&text, file)?;
+        for (k, part) in text.trim_end().split("\n\n").skip(1).enumerate() {
             let lines: Lines = part.lines().map(str::to_string).collect();
-            let before = read(&lines, file)?;
             for altered in alterations(&lines, &mut rng) {
-                if is_seen(&altered, file, &before, &mut rng) {
+                if is_seen(&altered, file, (&mut told, k), &mut rng) {
                     seen += 1;
                 } else {
                     missed += 1;

@@ -1,7 +1,7 @@
 //! What the lines just beside the cells' own lines decided, in an accepted
 //! picture and in a whole run.
 
-use crate::call::View;
+use crate::call::{Call, View};
 use crate::gate::patch_normal;
 use crate::ray::{apart, edges, eye_to_corner, holder, met, Line, Sight};
 use crate::scene::Patch;
@@ -27,10 +27,10 @@ pub struct Beside {
 }
 
 impl Beside {
-    pub fn add(&mut self, patches: &[Patch], view: &View) {
-        let told = Told::of(patches, view);
+    pub fn add(&mut self, patches: &[Patch], call: &Call) {
+        let told = Told::of(patches, &call.view);
         let mut seen = [0; WAYS.len()];
-        for line in lines(Sight::Beside, view) {
+        for line in lines(Sight::Beside, &call.view, &call.tile) {
             if told.edges.iter().any(|&edge| is_on(&line, edge)) {
                 let ways = told.ways(&line);
                 (0..WAYS.len()).for_each(|k| seen[k] += u64::from(ways[k]));

@@ -4,6 +4,7 @@ use crate::axes::Axes;
 use crate::random::Random;
 use crate::scene::patches_told;
 use crate::station::Station;
+use crate::tile::Tile;
 use crate::vector::Point;
 
 pub const COUNTS: usize = 1_025;
@@ -23,8 +24,13 @@ pub struct View {
 }
 
 impl View {
+    /// The window as one tile.
+    pub fn whole(&self) -> Tile {
+        Tile::of([0, 0, self.width, self.height])
+    }
+
     pub fn cells(&self) -> usize {
-        usize::from(self.width) * usize::from(self.height)
+        self.whole().cells()
     }
 
     /// The whole-number station.
@@ -45,6 +51,7 @@ impl View {
 pub struct Call {
     pub scene: Box<[u8]>,
     pub view: View,
+    pub tile: Tile,
     pub picture_len: usize,
     pub counts_len: usize,
     pub patch_counts_len: usize,
@@ -54,18 +61,30 @@ pub struct Call {
 }
 
 impl Call {
-    /// A call with the lengths of question 11.
+    /// A call that draws its window as one tile.
     pub fn new(scene: Vec<u8>, view: View) -> Call {
+        Call::of_tile(scene, view, view.whole())
+    }
+
+    /// A call with the lengths of question 11: "buffer lengths follow the tile".
+    pub fn of_tile(scene: Vec<u8>, view: View, tile: Tile) -> Call {
         Call {
             patch_counts_len: patches_told(&scene),
             scene: scene.into_boxed_slice(),
             view,
-            picture_len: view.cells(),
+            tile,
+            picture_len: tile.cells(),
             counts_len: COUNTS,
-            unlit_len: usize::from(view.height) * ROW,
-            lit_len: usize::from(view.height) * WORDS,
+            unlit_len: usize::from(tile.height) * ROW,
+            lit_len: usize::from(tile.height) * WORDS,
             counter: 0,
         }
+    }
+
+    /// Does the tile hold "the window's last cell"? Of a window with a cell.
+    pub fn holds_last(&self) -> bool {
+        let size = [self.view.width, self.view.height];
+        self.tile.holds(size.map(|cells| usize::from(cells) - 1))
     }
 
     /// Another call, changed so.

@@ -9,6 +9,7 @@ use crate::map::lit_map;
 use crate::ray::Sight;
 use crate::scene::patches_told;
 use crate::survey::{self, survey_by, Done, Due};
+use crate::tile_cases::tile_of;
 use crate::trial::Trial;
 
 /// The request that brought the patch table.
@@ -17,6 +18,8 @@ pub const PATCH_TABLE: u32 = 2;
 const METRES: u32 = 7;
 /// The request that brought the lit map and the calls on its rows.
 pub const LIT_MAP: u32 = 8;
+/// The request by which a call draws a tile of its window.
+pub const TILES: u32 = 9;
 
 /// A file that knows of no patch table leaves its numbers to the model.
 pub fn complete(trial: &mut Trial, sight: Sight) {
@@ -34,7 +37,7 @@ pub fn two_cuttings(block: &mut Block) -> Reading<[Trial; 2]> {
     if block.number::<u32>("answer")? != 0 {
         return Err(block.wrong("a cutting that is not accepted"));
     }
-    let picture = picture(block, &view)?;
+    let picture = picture(block, &view.whole())?;
     let counts = counts(block)?;
     let name = format!("{} {} ({about})", block.kind, block.number);
     let mut cutting = |letter: &str, scene: Vec<u8>, counter: u32| -> Reading<Trial> {
@@ -63,13 +66,29 @@ pub fn two_cuttings(block: &mut Block) -> Reading<[Trial; 2]> {
     Ok([cutting("a", a, 0)?, cutting("b", b, u32::MAX - 1)?])
 }
 
-/// "`case`: one survey call".
-pub fn survey_call(block: &mut Block, request: u32) -> Reading<Trial> {
+/// "`case`: one survey call", and the group of tiles that it belongs to.
+pub fn survey_call(block: &mut Block, request: u32) -> Reading<(Option<u32>, Trial)> {
     let about = block.text("about")?;
+    let group = match request >= TILES && block.is_next("group") {
+        true => Some(block.number("group")?),
+        false => None,
+    };
+    let call = call(block, request)?;
+    let trial = Trial {
+        name: format!("{} {} ({about})", block.kind, block.number),
+        due: due(block, &call, request)?,
+        call,
+    };
+    Ok((group, trial))
+}
+
+fn call(block: &mut Block, request: u32) -> Reading<Call> {
     let scene = block.bytes("scene")?;
     let view = view(block, request >= METRES)?;
-    let call = Call {
+    let tile = tile_of(block, &view, request >= TILES)?;
+    Ok(Call {
         view,
+        tile,
         picture_len: block.number("picture_len")?,
         counts_len: block.number("counts_len")?,
         patch_counts_len: match request < PATCH_TABLE {
@@ -78,16 +97,11 @@ pub fn survey_call(block: &mut Block, request: u32) -> Reading<Trial> {
         },
         unlit_len: block.number("unlit_len")?,
         lit_len: match request < LIT_MAP {
-            true => usize::from(view.height) * WORDS,
+            true => usize::from(tile.height) * WORDS,
             false => block.number("lit_len")?,
         },
         counter: block.number("counter")?,
         scene: scene.into_boxed_slice(),
-    };
-    Ok(Trial {
-        name: format!("{} {} ({about})", block.kind, block.number),
-        due: due(block, &call, request)?,
-        call,
     })
 }
 
@@ -105,18 +119,18 @@ fn due(block: &mut Block, call: &Call, request: u32) -> Reading<Due> {
 }
 
 fn done(block: &mut Block, call: &Call, request: u32) -> Reading<Done> {
-    let picture = picture(block, &call.view)?;
+    let picture = picture(block, &call.tile)?;
     let counts = counts(block)?;
     let patch_counts = match request < PATCH_TABLE {
         true => vec![0; call.patch_counts_len],
         false => patch_counts(block, "patch_counts", call.patch_counts_len)?,
     };
     let mut unlit = Vec::new();
-    for j in 0..usize::from(call.view.height) {
+    for j in 0..usize::from(call.tile.height) {
         unlit.extend(unlit_row(block, j)?);
     }
     let lit = match request < LIT_MAP {
-        true => lit_map(&picture, call.view.width),
+        true => lit_map(&picture, call.tile.width),
         false => lit_words(block, call)?,
     };
     Ok(Done {
@@ -130,7 +144,7 @@ fn done(block: &mut Block, call: &Call, request: u32) -> Reading<Done> {
 
 /// The words of each row from the top.
 fn lit_words(block: &mut Block, call: &Call) -> Reading<Vec<u64>> {
-    let rows = 0..usize::from(call.view.height);
+    let rows = 0..usize::from(call.tile.height);
     let words = rows.map(|j| lit_row(block, j));
     Ok(words.collect::<Reading<Vec<_>>>()?.concat())
 }

@@ -5,10 +5,11 @@ use std::fs;
 use std::path::PathBuf;
 
 use crate::block::{blocks, Block, Reading};
-use crate::call_cases::{complete, survey_call, two_cuttings, LIT_MAP, PATCH_TABLE};
+use crate::call_cases::{complete, survey_call, two_cuttings, LIT_MAP, PATCH_TABLE, TILES};
 use crate::map_cases::{map_case, MapCase};
 use crate::ray::Sight;
 use crate::row_cases::{row_case, RowCase};
+use crate::tile_cases::{groups_hold, whole_case, Group, WholeCase};
 use crate::trial::{Suite, Trial};
 
 /// A file, and how many blocks it has: one cut short is seen, and so is one
@@ -36,6 +37,7 @@ const FILES: &[File] = &[
     file("F-6.txt", 61, 6),
     file("F-7.txt", 195, 7),
     file("F-8.txt", 275, 8),
+    file("F-9.txt", 258, 9),
 ];
 
 /// The request by which joints no longer see through.
@@ -67,6 +69,7 @@ impl File {
             CUTTINGS => &["pair"],
             ROWS => &["bounds", "spans"],
             LIT_MAP => &["case", "rows"],
+            TILES => &["case", "whole"],
             _ => &["case"],
         }
     }
@@ -76,6 +79,10 @@ impl File {
 pub enum Said {
     /// One call, or two on two cuttings.
     Calls(Vec<Trial>),
+    /// A call on a tile of a group.
+    Tile(u32, Trial),
+    /// The window that the tiles of a group cover.
+    Whole(WholeCase),
     Row(RowCase),
     Map(MapCase),
 }
@@ -110,6 +117,7 @@ fn read() -> Reading<Vec<(&'static File, Vec<Said>)>> {
         if told.len() != *blocks {
             return Err(format!("{name} has {} blocks, not {blocks}", told.len()));
         }
+        groups_hold(&told).map_err(|why| format!("{name}, {why}"))?;
         all.push((file, told));
     }
     Ok(all)
@@ -119,27 +127,38 @@ fn read() -> Reading<Vec<(&'static File, Vec<Said>)>> {
 pub fn stored() -> Reading<Vec<Suite>> {
     let of_calls = |(file, _): &(&File, _)| file.request != ROWS;
     let files = read()?.into_iter().filter(of_calls);
-    let suite = |(file, told): (&'static File, Vec<Said>)| Suite {
-        name: file.name,
-        sight: file.sight(),
-        cuttings: file.is_of_cuttings(),
-        trials: calls(file, told),
-    };
-    Ok(files.map(suite).collect())
+    Ok(files.map(|(file, told)| suite(file, told)).collect())
 }
 
-fn calls(file: &File, told: Vec<Said>) -> Vec<Trial> {
-    let mut all = Vec::new();
+fn suite(file: &'static File, told: Vec<Said>) -> Suite {
+    let (mut trials, mut groups, mut tiles) = (Vec::new(), Vec::new(), Vec::new());
     for said in told {
-        if let Said::Calls(trials) = said {
-            all.extend(trials);
+        match said {
+            Said::Calls(own) => trials.extend(own),
+            Said::Tile(group, trial) => {
+                tiles.push((group, trials.len()));
+                trials.push(trial);
+            }
+            Said::Whole(whole) => groups.push(whole),
+            Said::Row(_) | Said::Map(_) => (),
         }
     }
     if file.request < PATCH_TABLE {
-        let own = all.iter_mut();
+        let own = trials.iter_mut();
         own.for_each(|trial| complete(trial, file.sight()));
     }
-    all
+    let group = |whole: WholeCase| {
+        let own = tiles.iter().filter(|tile| tile.0 == whole.group);
+        let places = own.map(|tile| tile.1).collect();
+        Group { places, whole }
+    };
+    Suite {
+        name: file.name,
+        sight: file.sight(),
+        cuttings: file.is_of_cuttings(),
+        groups: groups.into_iter().map(group).collect(),
+        trials,
+    }
 }
 
 /// The file of rows.
@@ -183,7 +202,11 @@ pub fn said_by(mut block: Block, file: &File) -> Reading<Said> {
         "pair" => Said::Calls(two_cuttings(&mut block)?.into()),
         "bounds" | "spans" => Said::Row(row_case(&mut block)?),
         "rows" => Said::Map(map_case(&mut block)?),
-        _ => Said::Calls(vec![survey_call(&mut block, file.request)?]),
+        "whole" => Said::Whole(whole_case(&mut block)?),
+        _ => match survey_call(&mut block, file.request)? {
+            (None, trial) => Said::Calls(vec![trial]),
+            (Some(group), trial) => Said::Tile(group, trial),
+        },
     };
     block.end()?;
     Ok(said)

@@ -5,7 +5,7 @@ use crate::cuttings::Cuttings;
 use crate::forms;
 use crate::gate::{Gate, STRUCK};
 use crate::map_compare::rows_apart;
-use crate::pairs::{parts, Pair};
+use crate::pairs::{parts, Pair, Pictures};
 use crate::random::Random;
 use crate::scene::Scene;
 use crate::survey::{Done, Due};
@@ -45,6 +45,11 @@ pub enum Difference {
     CuttingsCounts,
     CuttingsUnlit,
     CuttingsLit,
+    /// F-9: a window put together from its tiles.
+    WholePicture,
+    WholeCounts,
+    WholePatchCounts,
+    WholeCounter,
     /// F-7: two forms of one station.
     Forms,
     /// F-8: the calls on a row of a map.
@@ -65,7 +70,7 @@ pub struct Outcome {
     pub differences: Vec<Difference>,
 }
 
-fn note(differences: &mut Vec<Difference>, differs: bool, which: Difference) {
+pub fn note(differences: &mut Vec<Difference>, differs: bool, which: Difference) {
     if differs {
         differences.push(which);
     }
@@ -73,7 +78,12 @@ fn note(differences: &mut Vec<Difference>, differs: bool, which: Difference) {
 
 /// Survey and gate on one call, against what the model makes of it.
 pub fn check(library: &dyn Library, call: &Call, rng: &mut Random) -> Outcome {
-    let mut outcome = check_due(library, call, &Due::of(call), rng);
+    check_by(library, call, &Due::of(call), rng)
+}
+
+/// The same against what is due by the model, however that was worked out.
+pub fn check_by(library: &dyn Library, call: &Call, due: &Due, rng: &mut Random) -> Outcome {
+    let mut outcome = check_due(library, call, due, rng);
     let accepted = outcome.number == 0;
     let broken = accepted && !panel_sums_hold(call, &outcome.lent);
     note(&mut outcome.differences, broken, PanelSums);
@@ -97,7 +107,7 @@ pub fn check_due(library: &dyn Library, call: &Call, due: &Due, rng: &mut Random
     match &due.result {
         Ok(done) => {
             found.extend(miswritten(&lent, done));
-            found.extend(rows_apart(library, &lent.lit, &call.view));
+            found.extend(rows_apart(library, &lent.lit, call.tile.width));
             note(&mut found, lent.counter != due.counter, Counter);
         }
         Err(_) => {
@@ -140,12 +150,17 @@ fn touched(lent: &Lent, before: &Lent) -> Vec<Difference> {
 /// Of what an accepted call left: each panel's count is the sum over its
 /// patches, whichever cells they have.
 pub fn panel_sums_hold(call: &Call, lent: &Lent) -> bool {
-    let mut sums = vec![0u64; lent.counts.len()];
-    let records = Scene::read(&call.scene).records;
-    for (record, &cells) in records.iter().zip(&lent.patch_counts) {
+    panels_hold(&call.scene, &lent.counts, &lent.patch_counts)
+}
+
+/// The same of any counts, and of those added over tiles.
+pub fn panels_hold(scene: &[u8], counts: &[u32], patch_counts: &[u32]) -> bool {
+    let mut sums = vec![0u64; counts.len()];
+    let records = Scene::read(scene).records;
+    for (record, &cells) in records.iter().zip(patch_counts) {
         sums[usize::from(record.panel)] += u64::from(cells);
     }
-    let counts = lent.counts.iter().map(|&cells| u64::from(cells));
+    let counts = counts.iter().map(|&cells| u64::from(cells));
     sums.into_iter().skip(1).eq(counts.skip(1))
 }
 
@@ -196,15 +211,19 @@ pub fn check_gate(library: &dyn Library, call: &Call) -> (u32, Vec<Difference>) 
 pub fn check_pair(library: &dyn Library, pair: &Pair, rng: &mut Random) -> [Outcome; 2] {
     let first = check(library, &pair.first, rng);
     let mut second = check(library, &pair.second, rng);
-    let held = parts(pair, &first.lent, &second.lent);
+    let held = parts(pair, &Pictures::of(&first.lent, &second.lent), 1);
+    second.differences.extend(noted_parts(held));
+    [first, second]
+}
+
+/// The parts of demand 3 that do not hold.
+pub fn noted_parts(held: [bool; 4]) -> Vec<Difference> {
     let names = [
         EqualWhenNoneCounted,
         FirstShowsClosest,
         DifferWhereChosen,
         SecondShowsKept,
     ];
-    for (held, name) in held.into_iter().zip(names) {
-        note(&mut second.differences, !held, name);
-    }
-    [first, second]
+    let broken = held.into_iter().zip(names).filter(|(held, _)| !held);
+    broken.map(|(_, name)| name).collect()
 }

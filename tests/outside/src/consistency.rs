@@ -5,7 +5,7 @@ use crate::call::{Call, Lent, View, ROW};
 use crate::compare::{check_pair, panel_sums_hold};
 use crate::fault::Faulty;
 use crate::map::{is_lit, words_of};
-use crate::pairs::{parts, Pair};
+use crate::pairs::{parts, Pair, Pictures};
 use crate::random::Random;
 use crate::ray::{direction, holder, met, Line, Sight};
 use crate::scene::Scene;
@@ -31,16 +31,17 @@ pub fn rays_agree(call: &Call) -> bool {
         let mut all = patches.iter();
         all.all(|p| met(p, line) == pierces(p, line.eye, along))
     };
-    let [plain, beside] = [Sight::Plain, Sight::Beside].map(|sight| lines(sight, &call.view));
+    let [mut plain, mut beside] =
+        [Sight::Plain, Sight::Beside].map(|sight| lines(sight, &call.view, &call.tile));
     order.len() == patches.len()
-        && plain.iter().all(|line| first_has(line) && agree(line))
-        && beside.iter().all(first_has)
+        && plain.all(|line| first_has(&line) && agree(&line))
+        && beside.all(|line| first_has(&line))
 }
 
 /// Read plainly, each patch by itself has the cells that it is booked.
 pub fn booked_once(call: &Call) -> bool {
-    let lines = lines(Sight::Plain, &call.view);
-    let along: Vec<Vector> = lines.iter().map(|line| line.along[0]).collect();
+    let lines = lines(Sight::Plain, &call.view, &call.tile);
+    let along: Vec<Vector> = lines.map(|line| line.along[0]).collect();
     each_alone(call, Sight::Plain, &along)
 }
 
@@ -83,8 +84,10 @@ pub fn turned_back(call: &Call) -> Option<bool> {
         ..call.view
     };
     let shown = survey(call).expect("an accepted scene");
-    (call.view.axes != LEVEL && shown.picture.iter().any(|&panel| panel > 0))
-        .then(|| Done::of(&holders(Sight::Beside, &patches, &level), &patches, &level) == shown)
+    (call.view.axes != LEVEL && shown.picture.iter().any(|&panel| panel > 0)).then(|| {
+        let holders = holders(Sight::Beside, &patches, &level, &call.tile);
+        Done::of(&holders, &patches, &call.tile) == shown
+    })
 }
 
 /// The second scene has "just the first's patches less all those of the chosen
@@ -108,7 +111,7 @@ pub fn sums_hold(call: &Call) -> bool {
     let done = survey(call).expect("an accepted scene");
     let unlit: u32 = done.unlit.chunks(2).map(|pair| u32::from(pair[1])).sum();
     let lit: u32 = done.patch_counts.iter().sum();
-    let cells = call.view.cells() as u32;
+    let cells = call.tile.cells() as u32;
     let mut lent = Lent::noise(call, &mut Random::new(0, 0));
     done.leave(&mut lent);
     done.counts.iter().sum::<u32>() == cells
@@ -120,8 +123,8 @@ pub fn sums_hold(call: &Call) -> bool {
 /// "Map and list describe the same cells", and beyond the width the map is clear.
 pub fn map_and_lists_agree(call: &Call) -> bool {
     let done = survey(call).expect("an accepted scene");
-    let width = usize::from(call.view.width);
-    (0..usize::from(call.view.height)).all(|j| {
+    let [width, height] = [call.tile.width, call.tile.height].map(usize::from);
+    (0..height).all(|j| {
         let pairs = used_pairs(&done.unlit, j).chunks(2);
         let stretch = |pair: &[u16]| usize::from(pair[0])..usize::from(pair[0] + pair[1]);
         let unlit: Vec<usize> = pairs.flat_map(stretch).collect();
@@ -145,7 +148,7 @@ pub fn parts_are_told_apart() -> Vec<(&'static str, bool)> {
         let (mut a, mut b) = (one.clone(), two.clone());
         first(&mut a);
         second(&mut b);
-        parts(&pair, &a, &b).map(|held| !held)
+        parts(&pair, &Pictures::of(&a, &b), 1).map(|held| !held)
     };
     let nothing: &dyn Fn(&mut Lent) = &|_| ();
     // Cell 5 shows panel 7 first and panel 5 then; cell 0 shows nothing.

@@ -14,6 +14,7 @@ use crate::random::Random;
 use crate::ray::Sight;
 use crate::scene::{Patch, Scene};
 use crate::survey::{survey_by, Done};
+use crate::tiles::placed;
 
 #[derive(Clone, Debug)]
 pub struct Cuttings {
@@ -50,11 +51,12 @@ fn two_calls(rng: &mut Random, size: Size) -> Option<[Call; 2]> {
     let scenes = [planned(rng, &parts)?, planned(rng, &parts)?];
     let patches = rng.pick(&scenes).patches();
     let view = sighted(rng, &parts, &patches, size.work.min(WORK));
+    let (view, tile) = placed(rng, view);
     let mut calls = scenes.map(|scene| {
         let any = rng.next() as u32 / 2;
         Call {
             counter: rng.pick(&[0, u32::MAX - 1, any]),
-            ..Call::new(scene.write(), view)
+            ..Call::of_tile(scene.write(), view, tile)
         }
     });
     let [first, second] = &mut calls;

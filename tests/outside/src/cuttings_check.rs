@@ -86,7 +86,8 @@ fn tampered(pair: &Cuttings, rng: &mut Random) -> Option<Call> {
             moved.for_each(|k| scene.corners[k][axis] += step);
         }
     }
-    let call = Call::new(scene.write(), pair.second.view);
+    let Call { view, tile, .. } = pair.second;
+    let call = Call::of_tile(scene.write(), view, tile);
     (Gate::of_the_paper().judge(&call) == 0).then_some(call)
 }
 

@@ -14,6 +14,8 @@ use crate::outer::ends;
 use crate::pairs::{make_pair, Pair};
 use crate::random::Random;
 pub use crate::tally::Tally;
+use crate::window_compare::check_windows;
+use crate::windows::{make_windows, Windows};
 
 pub enum Case {
     /// A scene of the generator, which must be accepted.
@@ -28,6 +30,8 @@ pub enum Case {
     Lengths(Call),
     /// Two scenes for demand 3.
     Two(Kind, Box<Pair>),
+    /// Two whole windows by their tiles.
+    Windows(Kind, Box<Windows>),
     /// Two scenes for F-5.
     Cuttings(Box<Cuttings>),
 }
@@ -45,6 +49,7 @@ impl Case {
             Case::Ends(_) => "calls at the ends".to_string(),
             Case::Lengths(_) => "lengths beyond memory".to_string(),
             Case::Two(kind, _) => format!("pair {kind:?}"),
+            Case::Windows(..) => "windows by their tiles".to_string(),
             Case::Cuttings(_) => "two cuttings".to_string(),
         }
     }
@@ -54,6 +59,7 @@ impl Case {
             Case::Scene(_, call) | Case::Damaged(_, call) => vec![call],
             Case::Ends(call) | Case::Lengths(call) => vec![call],
             Case::Two(_, pair) => vec![&pair.first, &pair.second],
+            Case::Windows(_, windows) => windows.calls.iter().flatten().collect(),
             Case::Forms(calls) => calls.iter().collect(),
             Case::Cuttings(pair) => pair.calls().to_vec(),
         }
@@ -68,7 +74,7 @@ pub fn case(seed: u64, number: u64, size: Size) -> Case {
         Case::Scene(_, call) | Case::Damaged(_, call) => in_some_form(&mut rng, call),
         Case::Ends(call) | Case::Lengths(call) => in_some_form(&mut rng, call),
         Case::Two(_, pair) => in_two_forms(&mut rng, &mut pair.first, &mut pair.second),
-        Case::Forms(_) | Case::Cuttings(_) => (),
+        Case::Forms(_) | Case::Windows(..) | Case::Cuttings(_) => (),
     }
     made
 }
@@ -93,6 +99,7 @@ fn in_units(seed: u64, number: u64, size: Size) -> Case {
             };
             Case::Forms(Box::new(forms_of(rng, call)))
         }
+        7 => Case::Windows(kind, Box::new(make_windows(rng, kind, size))),
         9 => Case::Two(kind, Box::new(make_pair(rng, kind, size))),
         8 if rng.once_in(4) => {
             let mut call = scene_call(rng, Kind::Tiny, size);
@@ -121,7 +128,7 @@ pub fn two_cuttings(seed: u64, number: u64, size: Size) -> Case {
 
 fn scene_call(rng: &mut Random, kind: Kind, size: Size) -> Call {
     let made = make(rng, kind, size);
-    let mut call = Call::new(made.loose.pack().write(), made.view);
+    let mut call = made.call(&made.loose);
     let any = rng.next() as u32 / 2;
     call.counter = rng.pick(&[0, 1, u32::MAX - 1, any]);
     call
@@ -129,8 +136,11 @@ fn scene_call(rng: &mut Random, kind: Kind, size: Size) -> Call {
 
 /// What differs in any call, each kind once.
 fn of_all<const N: usize>(outcomes: [Outcome; N]) -> Vec<Difference> {
-    let all = outcomes.into_iter().flat_map(|o| o.differences);
-    let mut all: Vec<Difference> = all.collect();
+    once_each(outcomes.into_iter().flat_map(|o| o.differences))
+}
+
+fn once_each(differences: impl Iterator<Item = Difference>) -> Vec<Difference> {
+    let mut all: Vec<Difference> = differences.collect();
     all.sort();
     all.dedup();
     all
@@ -189,10 +199,32 @@ fn differing(
             assert!(legal, "a made pair is legal: {kind:?}");
             answered(&outcomes, case, tally);
             tally.stations.add_pair([&pair.first, &pair.second]);
+            tally.tiles.add_pair(&pair.first);
             of_all(outcomes)
         }
+        Case::Windows(kind, windows) => of_windows(library, windows, noise, tally, *kind),
         Case::Cuttings(pair) => of_cuttings(library, pair, noise, tally),
     }
+}
+
+fn of_windows(
+    library: &dyn Library,
+    windows: &Windows,
+    noise: &mut Random,
+    tally: &mut Tally,
+    kind: Kind,
+) -> Vec<Difference> {
+    let outcomes = check_windows(library, windows, noise);
+    for (outcome, calls) in outcomes.iter().zip(&windows.calls) {
+        let legal = outcome.tiles.iter().all(|tile| tile.number == 0);
+        assert!(legal, "a made window is legal: {kind:?}");
+        for (call, tile) in calls.iter().zip(&outcome.tiles) {
+            tally.number(0, call);
+            tally.maps.add(&tile.lent.lit, call.tile.width);
+        }
+        tally.windows.add(calls, outcome);
+    }
+    once_each(outcomes.into_iter().flat_map(|o| o.differences))
 }
 
 fn of_cuttings(

@@ -65,7 +65,7 @@ pub fn doubles_and_another(call: &Call) -> Vec<Call> {
     let others: [&dyn Fn(&mut Call); 11] = [
         &|c| c.scene = c.scene[1..].into(),
         &|c| c.view.width = 0,
-        &|c| c.view.height = 129,
+        &|c| c.view.height = 513,
         &|c| c.view.lens = 0,
         &|c| c.view.axes.up = LEVEL.forward,
         &|c| c.picture_len += 1,

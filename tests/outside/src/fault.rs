@@ -18,6 +18,7 @@ use crate::wrong_cuttings::Write;
 use crate::wrong_map_rows::{FirstUnlit, LitCells};
 use crate::wrong_paint::{painted, Look};
 use crate::wrong_station::Turn;
+use crate::wrong_tiles::Rises;
 
 pub struct Faulty {
     pub name: String,
@@ -30,6 +31,8 @@ pub struct Faulty {
     pub(crate) write: Write,
     pub(crate) spoil: Spoil,
     pub(crate) trace: Trace,
+    /// Does an accepted call raise the counter?
+    pub(crate) rises: Rises,
     /// Other ways to units, of the survey and of the gate.
     pub(crate) turns: [Option<Turn>; 2],
     /// Is question 15 put before all others?
@@ -55,6 +58,7 @@ impl Faulty {
             write: |_, done| done,
             spoil: |_, _, _| (),
             trace: |_, _| (),
+            rises: Call::holds_last,
             turns: [None; 2],
             early: false,
             struck: false,
@@ -144,16 +148,17 @@ impl Faulty {
     fn painted(&self, call: &Call) -> Done {
         let scene = Scene::read(&call.scene);
         let patches = scene.patches();
-        let holders = painted(&scene, call.view, self.look);
+        let holders = painted(&scene, call, self.look);
         let painted = Painted {
             scene: &scene,
             patches: &patches,
             view: call.view,
+            tile: call.tile,
             holders: &holders,
         };
         let done = Done {
             patch_counts: (self.book)(&painted),
-            ..Done::of(&holders, &patches, &call.view)
+            ..Done::of(&holders, &patches, &call.tile)
         };
         (self.write)(&painted, done)
     }
@@ -178,7 +183,7 @@ impl Library for Faulty {
         }
         let before = lent.clone();
         done.leave(lent);
-        lent.counter += 1;
+        lent.counter += u32::from((self.rises)(call));
         (self.spoil)(&done, &before, lent);
         0
     }

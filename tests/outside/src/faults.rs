@@ -13,6 +13,8 @@ use crate::wrong_map::{MAP_SPOILS, MAP_TRACES};
 use crate::wrong_map_rows::{FIRST_UNLIT, LIT_CELLS};
 use crate::wrong_paint::LOOKS;
 use crate::wrong_station::{RANGES, ROUNDINGS, WRONG_STATIONS};
+use crate::wrong_tile_gates::{TILE_GATES, TILE_LENGTHS};
+use crate::wrong_tiles::{TILE_BOOKS, TILE_COUNTERS, TILE_LOOKS, TILE_WRITES};
 
 impl Faulty {
     pub fn all() -> Vec<Faulty> {
@@ -21,6 +23,7 @@ impl Faulty {
         all.extend(Faulty::gates());
         all.extend(Faulty::stations());
         all.extend(Faulty::maps());
+        all.extend(Faulty::tiles());
         all
     }
 
@@ -96,6 +99,34 @@ impl Faulty {
             ..Faulty::named(name, &[Difference::Gate, Difference::Answer])
         });
         spoils.chain(traces).chain(gates).collect()
+    }
+
+    /// Tiles looked at, written, counted, refused or let pass wrongly.
+    pub fn tiles() -> Vec<Faulty> {
+        let looks = TILE_LOOKS.iter().map(|&(name, look)| Faulty {
+            look,
+            ..Faulty::named(name, &[Difference::Picture])
+        });
+        let writes = TILE_WRITES.iter().map(|&(name, shows, write)| Faulty {
+            write,
+            ..Faulty::named(name, &[shows])
+        });
+        let books = TILE_BOOKS.iter().map(|&(name, book)| Faulty {
+            book,
+            ..Faulty::named(name, &[Difference::PatchCounts, Difference::PanelSums])
+        });
+        let counters = TILE_COUNTERS.iter().map(|&(name, rises)| Faulty {
+            rises,
+            ..Faulty::named(name, &[Difference::Counter])
+        });
+        let gates = TILE_GATES.iter().chain(TILE_LENGTHS);
+        let gates = gates.map(|&(name, wrong)| Faulty {
+            gate: wrong(),
+            survey_gate: wrong(),
+            ..Faulty::named(name, &[Difference::Gate, Difference::Answer])
+        });
+        let written = writes.chain(books).chain(counters);
+        looks.chain(written).chain(gates).collect()
     }
 
     /// The calls on a row of a map.

@@ -6,15 +6,16 @@ use crate::scene::Scene;
 /// 11: also "Question 11 covers the new table's length" and "Question 11 covers
 /// the map's length."
 pub fn lengths_fit(call: &Call, scene: &Scene) -> bool {
-    view_lengths_fit(call) && table_fits(call, scene) && map_fits(call, scene)
+    tile_lengths_fit(call) && table_fits(call, scene) && map_fits(call, scene)
 }
 
 /// "Has the picture (u16) width × height cells, the counts (u32) 1,025, the
-/// unlit lists (u16) height × 256?"
-pub fn view_lengths_fit(call: &Call) -> bool {
-    call.picture_len == call.view.cells()
+/// unlit lists (u16) height × 256?" Width and height are the tile's: "buffer
+/// lengths follow the tile."
+pub fn tile_lengths_fit(call: &Call) -> bool {
+    call.picture_len == call.tile.cells()
         && call.counts_len == COUNTS
-        && call.unlit_len == usize::from(call.view.height) * ROW
+        && call.unlit_len == usize::from(call.tile.height) * ROW
 }
 
 /// "A further lent table (u32, one entry a patch)".
@@ -24,5 +25,5 @@ pub fn table_fits(call: &Call, scene: &Scene) -> bool {
 
 /// "four u64 words a row".
 pub fn map_fits(call: &Call, _: &Scene) -> bool {
-    call.lit_len == usize::from(call.view.height) * WORDS
+    call.lit_len == usize::from(call.tile.height) * WORDS
 }

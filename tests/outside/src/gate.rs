@@ -8,6 +8,7 @@ use crate::axes::Axes;
 use crate::call::Call;
 use crate::fitting::lengths_fit;
 use crate::scene::{pair_at, u16_at, u32_at, Patch, Scene, HEADER, NONE, SIZES};
+use crate::tile::{TALLEST, WIDEST};
 use crate::vector::{cross, dot, minus, normal, side, wide, Point, Vector};
 
 /// A struck number: no question has it, and no call ever answers it.
@@ -252,14 +253,37 @@ pub fn station_turns(call: &Call, _: &Scene) -> bool {
     call.view.station.whole().is_some()
 }
 
-/// 10: "Is the eye within ±10,000, width 1 to 256, height 1 to 128, lens 1 to
-/// 4,096?"
+/// 10: "Is the eye within ±10,000, [...] lens 1 to 4,096?", and "Question 10 allows
+/// the larger window and refuses a tile that is empty, above 256 by 128 or not wholly
+/// inside it".
 pub fn view_in_range(call: &Call, _: &Scene) -> bool {
+    eye_in_range(call) && window_within(call, [1_024, 512, 4_096]) && tile_fits(call)
+}
+
+pub fn eye_in_range(call: &Call) -> bool {
+    in_range(&call.view.eye())
+}
+
+/// "up to 1,024 by 512 cells": width, height and lens from 1 to these.
+pub fn window_within(call: &Call, [width, height, lens]: [u16; 3]) -> bool {
     let view = &call.view;
-    in_range(&view.eye())
-        && (1..=256).contains(&view.width)
-        && (1..=128).contains(&view.height)
-        && (1..=4_096).contains(&view.lens)
+    (1..=width).contains(&view.width)
+        && (1..=height).contains(&view.height)
+        && (1..=lens).contains(&view.lens)
+}
+
+/// The tile's part of 10.
+pub fn tile_fits(call: &Call) -> bool {
+    tile_within(call, [WIDEST, TALLEST]) && tile_inside(call)
+}
+
+/// Not empty, and at most of this size.
+pub fn tile_within(call: &Call, [width, height]: [u16; 2]) -> bool {
+    (1..=width).contains(&call.tile.width) && (1..=height).contains(&call.tile.height)
+}
+
+pub fn tile_inside(call: &Call) -> bool {
+    call.tile.is_inside([call.view.width, call.view.height])
 }
 
 /// 14: "when a part is out of range or right · (forward × up) is not above 0,

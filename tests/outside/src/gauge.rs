@@ -67,7 +67,7 @@ impl Gauge {
         let cells = |panel: u16| self.picture.iter().filter(|&&own| own == panel).count();
         let records = self.scene.records.iter();
         let table = records.map(|record| cells(record.panel) as u32).collect();
-        Done::told(self.picture.clone(), table, &self.view)
+        Done::told(self.picture.clone(), table, &self.view.whole())
     }
 
     pub fn call(&self) -> Call {

@@ -1,12 +1,14 @@
 //! Random scenes with their trees, each from its seed alone.
 
 use crate::boards;
-use crate::call::View;
+use crate::call::{Call, View};
 use crate::hinge;
 use crate::loose::{Loose, Site};
 use crate::random::Random;
 use crate::scene::{Patch, NONE};
 use crate::soup::{self, Corners};
+use crate::tile::Tile;
+use crate::tiles::placed;
 use crate::tree::{any_plane, Branch, Planter};
 use crate::view;
 use crate::works;
@@ -64,9 +66,17 @@ pub const SMALL: Size = Size {
 pub struct Made {
     pub loose: Loose,
     pub view: View,
+    pub tile: Tile,
 }
 
-/// A scene that the gate accepts, and a view of it.
+impl Made {
+    /// The call on this scene or on another, of the same view and tile.
+    pub fn call(&self, loose: &Loose) -> Call {
+        Call::of_tile(loose.pack().write(), self.view, self.tile)
+    }
+}
+
+/// A scene that the gate accepts, and a tile of a view of it.
 pub fn make(rng: &mut Random, kind: Kind, size: Size) -> Made {
     let (mut patches, seen) = panelled(rng, kind, size);
     if patches.len() < 900 {
@@ -85,7 +95,8 @@ pub fn make(rng: &mut Random, kind: Kind, size: Size) -> Made {
         Some(view) if kind == Kind::Comb || view.cells() * patch_count <= 4 * size.work => view,
         _ => view::choose(rng, &loose.patches(), size.work),
     };
-    Made { loose, view }
+    let (view, tile) = placed(rng, view);
+    Made { loose, view, tile }
 }
 
 /// Patches of the kind, and the view of it where it has one of its own.

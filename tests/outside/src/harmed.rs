@@ -13,7 +13,7 @@ use crate::stored::STORED;
 /// The questions aimed at, those with many rules more often; 0 is any byte.
 const AIMS: &[u32] = &[
     0, 1, 1, 2, 2, 2, 3, 4, 5, 5, 6, 6, 6, 6, 7, 7, 8, 8, 8, 9, 9, 9, 9, 15, 15, 15, 15, 10, 10,
-    14, 14, 14, 11, 11, 11, 12, 12,
+    10, 10, 14, 14, 14, 11, 11, 11, 11, 12, 12,
 ];
 
 /// The question asked next, the first behind the last.
@@ -70,9 +70,10 @@ pub fn damaged(rng: &mut Random, size: Size) -> (Vec<u32>, Call) {
     for &aim in &aims {
         one(BYTES, aim, rng, |harm, rng| harm(&mut bytes, rng));
     }
-    let mut call = Call::new(bytes, made.view);
+    let mut call = Call::of_tile(bytes, made.view, made.tile);
     if rng.once_in(20) {
-        call = Call::new(call.scene.into_vec(), any_window(rng));
+        let (view, tile) = any_window(rng);
+        call = Call::of_tile(call.scene.into_vec(), view, tile);
     }
     for &aim in &aims {
         one(CALL, aim, rng, |harm, rng| harm(&mut call, rng));

@@ -5,6 +5,7 @@ use crate::block::{Block, Reading};
 use crate::call::{View, COUNTS, ROW, WORDS};
 use crate::double::Double;
 use crate::station::Station;
+use crate::tile::Tile;
 
 /// Station, camera and window; the station in metres only where the file knows
 /// of these.
@@ -47,11 +48,11 @@ fn metres(block: &mut Block) -> Reading<[Double; 3]> {
     }
 }
 
-/// Its rows from the top.
-pub fn picture(block: &mut Block, view: &View) -> Reading<Vec<u16>> {
+/// Its rows from the top, of a tile or of a whole window.
+pub fn picture(block: &mut Block, tile: &Tile) -> Reading<Vec<u16>> {
     let mut picture = Vec::new();
-    for j in 0..usize::from(view.height) {
-        picture.extend(picture_row(block, j, view.width)?);
+    for j in 0..usize::from(tile.height) {
+        picture.extend(picture_row(block, j, tile.width)?);
     }
     Ok(picture)
 }
@@ -65,7 +66,7 @@ fn picture_row(block: &mut Block, j: usize, width: u16) -> Reading<Vec<u16>> {
     }
     match row.len() == usize::from(width) {
         true => Ok(row),
-        false => Err(block.wrong("the row is not as wide as the window")),
+        false => Err(block.wrong("the row is not as wide as the picture")),
     }
 }
 
@@ -84,10 +85,16 @@ pub fn counts(block: &mut Block) -> Reading<Vec<u32>> {
 
 /// "all entries".
 pub fn patch_counts(block: &mut Block, key: &str, length: usize) -> Reading<Vec<u32>> {
-    let words = block.words(key)?;
-    if words.len() != length {
-        return Err(block.wrong("not as many entries as the table has"));
+    let entries = all_counts(block, key)?;
+    match entries.len() == length {
+        true => Ok(entries),
+        false => Err(block.wrong("not as many entries as the table has")),
     }
+}
+
+/// However many they are.
+pub fn all_counts(block: &mut Block, key: &str) -> Reading<Vec<u32>> {
+    let words = block.words(key)?;
     words.into_iter().map(|word| block.value(word)).collect()
 }
 

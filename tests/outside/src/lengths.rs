@@ -16,7 +16,7 @@ fn length(rng: &mut Random, right: usize) -> usize {
 }
 
 pub fn picture_length(call: &mut Call, rng: &mut Random) {
-    let (width, height) = (call.view.width, call.view.height);
+    let (width, height) = (call.tile.width, call.tile.height);
     call.picture_len = match rng.below(3) {
         0 => usize::from(width.max(height)),
         _ => length(rng, call.picture_len.min(40_000)),
@@ -48,7 +48,7 @@ pub fn table_length(call: &mut Call, rng: &mut Random) {
 
 pub fn unlit_length(call: &mut Call, rng: &mut Random) {
     call.unlit_len = match rng.below(3) {
-        0 => usize::from(call.view.height.min(128)),
+        0 => usize::from(call.tile.height.min(128)),
         1 => ROW,
         _ => length(rng, call.unlit_len.min(40_000)),
     };
@@ -62,7 +62,7 @@ pub fn map_length(call: &mut Call, rng: &mut Random) {
         std::mem::swap(&mut call.unlit_len, &mut call.lit_len);
         return;
     }
-    let [width, height] = [call.view.width, call.view.height].map(usize::from);
+    let [width, height] = [call.tile.width, call.tile.height].map(usize::from);
     let height = height.min(256);
     let right = height * WORDS;
     let others = [
@@ -123,7 +123,7 @@ fn lengths_of_the_table(call: &Call) -> Vec<Call> {
 fn lengths_of_the_map(call: &Call) -> Vec<Call> {
     let others: [&dyn Fn(&mut Call); 10] = [
         &|c| c.lit_len = 0,
-        &|c| c.lit_len = usize::from(c.view.height),
+        &|c| c.lit_len = usize::from(c.tile.height),
         &|c| c.lit_len = c.unlit_len,
         &|c| (c.unlit_len, c.lit_len) = (c.lit_len, c.unlit_len),
         &|c| (c.lit_len, c.counter) = (c.lit_len + 1, u32::MAX),

@@ -16,12 +16,10 @@ use crate::trial::Trial;
 const BARE: u64 = 4_000;
 const CASES: u64 = 4_000;
 
-/// Faults of the row calls that no survey's map shows: it has no words over, and in
-/// cases so small no lit row behind 256 lit columns.
+/// Faults of the row calls that no survey's map shows: it has no words over.
 const UNSURVEYED: &[&str] = &[
     "lit: a row begun inside the map",
     "lit: none in a map with words over",
-    "first: on into the next rows",
     "first: a row begun inside the map",
 ];
 

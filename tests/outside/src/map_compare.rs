@@ -1,6 +1,6 @@
 //! The two row calls, against what is due of a map.
 
-use crate::call::{Library, View, WORDS};
+use crate::call::{Library, WORDS};
 use crate::compare::Difference;
 use crate::map::{row_first_unlit, row_lit};
 
@@ -51,10 +51,9 @@ fn beyond(height: usize) -> [usize; 7] {
 }
 
 /// What differs in both calls on the map that an accepted survey left: on each of
-/// its rows and on some beyond, by its own width and by others.
-pub fn rows_apart(library: &dyn Library, lit: &[u64], view: &View) -> Vec<Difference> {
+/// its rows and on some beyond, by its tile's width and by others.
+pub fn rows_apart(library: &dyn Library, lit: &[u64], own: u16) -> Vec<Difference> {
     let height = lit.len() / WORDS;
-    let own = view.width;
     let widths = [own, own - 1, 0, 64, 65, 255, 256, 300, u16::MAX];
     let rows = (0..height).chain(beyond(height));
     let mut found = Vec::new();

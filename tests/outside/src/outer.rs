@@ -10,6 +10,9 @@ use crate::lengths::{
 use crate::mount;
 use crate::random::Random;
 use crate::station::Station::Units;
+use crate::tile::Tile;
+use crate::tile_harm::{ends_of_tiles, lengths_follow, tile_out, windows_length};
+use crate::tiles::part;
 
 pub type CallHarm = fn(&mut Call, &mut Random);
 
@@ -19,6 +22,8 @@ pub const CALL: &[(u32, CallHarm)] = &[
     (15, any_bits),
     (10, eye_out),
     (10, window_out),
+    (10, tile_out),
+    (10, tile_out),
     (14, part_out),
     (14, vectors_in_a_plane),
     (14, vectors_mirrored),
@@ -29,6 +34,7 @@ pub const CALL: &[(u32, CallHarm)] = &[
     (11, unlit_length),
     (11, map_length),
     (11, map_length),
+    (11, windows_length),
     (12, counter_full),
 ];
 
@@ -41,20 +47,22 @@ fn eye_out(call: &mut Call, rng: &mut Random) {
     *station = station.with_part(axis, rng.pick(&ends));
 }
 
-/// One measure at or over its ends; the lengths follow where they can.
+/// One measure at or over its ends; the tile is the whole window, any part of it, or
+/// stays, and the lengths follow where they can.
 fn window_out(call: &mut Call, rng: &mut Random) {
     let view = &mut call.view;
     match rng.below(3) {
-        0 => view.width = rng.pick(&[0, 0, 1, 256, 257, 257, 512, 65_535]),
-        1 => view.height = rng.pick(&[0, 0, 1, 128, 129, 129, 256, 65_535]),
+        0 => view.width = rng.pick(&[0, 0, 1, 256, 257, 1_024, 1_025, 1_025, 2_048, 65_535]),
+        1 => view.height = rng.pick(&[0, 0, 1, 128, 129, 512, 513, 513, 1_024, 65_535]),
         _ => view.lens = rng.pick(&[0, 0, 1, 4_096, 4_097, 4_097, 65_535]),
     }
-    let fitting = Call::new(Vec::new(), *view);
-    if fitting.picture_len < 100_000 && fitting.unlit_len < 100_000 && !rng.once_in(4) {
-        call.picture_len = fitting.picture_len;
-        call.unlit_len = fitting.unlit_len;
-        call.lit_len = fitting.lit_len;
-    }
+    let size = [view.width.max(1), view.height.max(1)];
+    call.tile = match rng.below(4) {
+        0 => view.whole(),
+        1 => call.tile,
+        _ => part(rng, size),
+    };
+    lengths_follow(call, rng);
 }
 
 fn part_out(call: &mut Call, rng: &mut Random) {
@@ -105,8 +113,8 @@ pub fn ends(call: &Call) -> Vec<Call> {
         }
     }
     let view = call.view;
-    all.extend([0, 1, 256, 257].map(|width| seen(View { width, ..view })));
-    all.extend([0, 1, 128, 129].map(|height| seen(View { height, ..view })));
+    all.extend([0, 1, 256, 257, 1_024].map(|width| seen(View { width, ..view })));
+    all.extend([0, 1, 128, 129, 512].map(|height| seen(View { height, ..view })));
     all.extend([0, 1, 4_096, 4_097].map(|lens| seen(View { lens, ..view })));
     for counter in [0, u32::MAX - 1, u32::MAX] {
         all.push(changed(&|c| c.counter = counter));
@@ -117,6 +125,7 @@ pub fn ends(call: &Call) -> Vec<Call> {
     all.extend(ends_of_axes().map(|axes| changed(&|c| c.view.axes = axes)));
     all.extend(axes_and_another(call));
     all.extend(ends_of_lengths(call));
+    all.extend(ends_of_tiles(call));
     all.extend(ends_of_doubles(call));
     all.extend(doubles_and_another(call));
     all
@@ -163,13 +172,14 @@ fn axes_and_another(call: &Call) -> Vec<Call> {
     all
 }
 
-/// A window whose measures are all in range, anywhere.
-pub fn any_window(rng: &mut Random) -> View {
-    View {
+/// A window whose measures are all in range, anywhere, and a tile of it.
+pub fn any_window(rng: &mut Random) -> (View, Tile) {
+    let view = View {
         station: Units([0; 3].map(|_| rng.between(-10_000, 10_000) as i16)),
         axes: mount::any(rng),
-        width: rng.between(1, 256) as u16,
-        height: rng.between(1, 128) as u16,
+        width: rng.between(1, 1_024) as u16,
+        height: rng.between(1, 512) as u16,
         lens: rng.between(1, 4_096) as u16,
-    }
+    };
+    (view, part(rng, [view.width, view.height]))
 }

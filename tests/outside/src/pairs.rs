@@ -5,7 +5,7 @@ use crate::generate::{make, second, Kind, Size};
 use crate::random::Random;
 use crate::ray::{closest, Sight};
 use crate::scene::{Patch, Scene};
-use crate::survey::{counts, holders, lines, picture};
+use crate::survey::{counts, holders, picture, some_lines};
 
 #[derive(Clone, Debug)]
 pub struct Pair {
@@ -19,13 +19,13 @@ pub struct Pair {
 pub fn make_pair(rng: &mut Random, kind: Kind, size: Size) -> Pair {
     let made = make(rng, kind, size);
     let patches = made.loose.patches();
-    let holders = holders(Sight::Beside, &patches, &made.view);
+    let holders = holders(Sight::Beside, &patches, &made.view, &made.tile);
     let shown = counts(&picture(&patches, &holders));
     let chosen = choose(rng, &patches, &shown);
     let other = second(rng, &made.loose, &chosen);
     Pair {
-        first: Call::new(made.loose.pack().write(), made.view),
-        second: Call::new(other.pack().write(), made.view),
+        first: made.call(&made.loose),
+        second: made.call(&other),
         chosen,
     }
 }
@@ -53,8 +53,27 @@ fn choose(rng: &mut Random, patches: &[Patch], shown: &[u32]) -> Vec<u16> {
     chosen
 }
 
-/// The four parts of demand 3, on the results of both calls.
-pub fn parts(pair: &Pair, first: &Lent, second: &Lent) -> [bool; 4] {
+/// What two calls left, or two windows put together from tiles.
+pub struct Pictures<'a> {
+    pub first: &'a [u16],
+    pub second: &'a [u16],
+    /// Those of the first.
+    pub counts: &'a [u32],
+}
+
+impl Pictures<'_> {
+    pub fn of<'a>(first: &'a Lent, second: &'a Lent) -> Pictures<'a> {
+        Pictures {
+            first: &first.picture,
+            second: &second.picture,
+            counts: &first.counts,
+        }
+    }
+}
+
+/// The four parts of demand 3, on the results of both calls; of what is closest one
+/// cell in so many is tried.
+pub fn parts(pair: &Pair, pictures: &Pictures, step: usize) -> [bool; 4] {
     let patches = Scene::read(&pair.first.scene).patches();
     let is_chosen = |panel: u16| pair.chosen.contains(&panel);
     let mut kept = patches.clone();
@@ -62,22 +81,24 @@ pub fn parts(pair: &Pair, first: &Lent, second: &Lent) -> [bool; 4] {
 
     // "The two pictures are equal, cell by cell, exactly when every chosen
     // panel's count, from the call on the first scene, is zero."
-    let equal = first.picture == second.picture;
+    let equal = pictures.first == pictures.second;
     let mut chosen = pair.chosen.iter();
-    let none_counted = chosen.all(|&panel| first.counts[usize::from(panel)] == 0);
+    let none_counted = chosen.all(|&panel| pictures.counts[usize::from(panel)] == 0);
     let mut held = [equal == none_counted, true, true, true];
 
-    for (at, line) in lines(Sight::Beside, &pair.first.view).iter().enumerate() {
-        let (one, two) = (first.picture[at], second.picture[at]);
+    // "the pictures differ in exactly the cells where the first shows a chosen
+    // panel".
+    let mut cells = pictures.first.iter().zip(pictures.second);
+    held[2] = cells.all(|(&one, &two)| (one != two) == is_chosen(one));
+    let Call { view, tile, .. } = &pair.first;
+    for (at, line) in some_lines(step, view, tile) {
+        let (one, two) = (pictures.first[at], pictures.second[at]);
         // "each cell of the first holds its closest panel [...], or 0".
-        held[1] &= one == closest(&patches, line);
-        // "the pictures differ in exactly the cells where the first shows a
-        // chosen panel".
-        held[2] &= (one != two) == is_chosen(one);
+        held[1] &= one == closest(&patches, &line);
         // "in each of these the second shows the closest of the panels kept,
         // or 0".
         if is_chosen(one) {
-            held[3] &= two == closest(&kept, line);
+            held[3] &= two == closest(&kept, &line);
         }
     }
     held

@@ -34,6 +34,7 @@ use outside::station_check::stations_find_all;
 use outside::stations::stations;
 use outside::steps::steps_agree;
 use outside::survey::is_read_otherwise;
+use outside::tile_check::{tiles_find_all, windows_tell};
 use outside::trial::hold_model;
 
 const SEED: u64 = 20;
@@ -77,18 +78,24 @@ fn failing() -> usize {
     }
     failed += doubles_hold(SEED, 20_000) + gauging_tells();
     failed += hold_model();
-    let known = [alterations_show(), stations_find_all(), maps_hold(SEED)];
+    let known = [
+        alterations_show(),
+        stations_find_all(),
+        maps_hold(SEED),
+        tiles_find_all(),
+    ];
     for checked in known {
         failed += checked.unwrap_or_else(|why| {
             println!("FAILS {why}");
             1
         });
     }
+    failed += windows_tell(SEED);
     failed += cuttings(1_000);
     // The sequences of spans that tests/outside.sh puts to the programs.
     failed += rows_hold(1, 600);
     failed += consistent(400);
-    failed += sound(600);
+    failed += sound(1_500);
     failed + faults(12_000)
 }
 
@@ -168,6 +175,8 @@ fn sound(cases: u64) -> usize {
     println!("pieces: {:?}", tally.pieces.told());
     println!("stations: {:?}", tally.stations.told());
     println!("maps: {:?}", tally.maps.told());
+    println!("tiles: {:?}", tally.tiles.told());
+    println!("windows: {:?}", tally.windows.told());
     for (name, shown) in tally.views() {
         println!("{name} views: {:?}", shown.beside.told());
     }

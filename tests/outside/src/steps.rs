@@ -112,8 +112,8 @@ fn greatest_product(patches: &[Patch], eye: Vector, axes: &Axes) -> i128 {
 pub fn steps_agree(call: &Call) -> Option<bool> {
     let (patches, view) = (Scene::read(&call.scene).patches(), &call.view);
     let eye = wide(view.eye());
-    let lines = lines(Sight::Plain, view);
-    let own: Vec<Vector> = lines.iter().map(|line| line.along[0]).collect();
+    let lines = lines(Sight::Plain, view, &call.tile);
+    let own: Vec<Vector> = lines.map(|line| line.along[0]).collect();
     let most = greatest_product(&patches, eye, &view.axes);
     // No number in `pierces` is above 72 · direction · normal² · far².
     let corners = patches.iter().flat_map(|p| p.corners.iter());

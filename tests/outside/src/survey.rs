@@ -6,6 +6,7 @@ use crate::gate::Gate;
 use crate::map::{self, lit_map};
 use crate::ray::{holder, panel_of, Holder, Line, Sight};
 use crate::scene::{Patch, Scene};
+use crate::tile::Tile;
 
 #[derive(Clone, Debug, PartialEq, Eq)]
 pub struct Done {
@@ -25,8 +26,9 @@ pub fn survey(call: &Call) -> Result<Done, u32> {
 pub fn survey_by(sight: Sight, call: &Call) -> Result<Done, u32> {
     match Gate::of_the_paper().judge(call) {
         0 => {
-            let (patches, view) = (Scene::read(&call.scene).patches(), &call.view);
-            Ok(Done::of(&holders(sight, &patches, view), &patches, view))
+            let patches = Scene::read(&call.scene).patches();
+            let holders = holders(sight, &patches, &call.view, &call.tile);
+            Ok(Done::of(&holders, &patches, &call.tile))
         }
         number => Err(number),
     }
@@ -51,8 +53,10 @@ impl Due {
 
     pub fn by(sight: Sight, call: &Call) -> Due {
         let result = survey_by(sight, call);
-        // "It rises by one with each accepted picture."
-        let counter = call.counter + u32::from(result.is_ok());
+        // "The station counter rises with the tile that holds the window's last
+        // cell, and with no other."
+        let rises = result.is_ok() && call.holds_last();
+        let counter = call.counter + u32::from(rises);
         Due { result, counter }
     }
 
@@ -84,17 +88,25 @@ impl Library for Due {
     }
 }
 
-/// Who has each cell, row after row from the top, cell (i, j) at j × width + i.
-pub fn holders(sight: Sight, patches: &[Patch], view: &View) -> Vec<Holder> {
-    let lines = lines(sight, view).into_iter();
+/// Who has each cell of the tile, row after row from its top, cell (i, j) at
+/// j × the tile's width + i.
+pub fn holders(sight: Sight, patches: &[Patch], view: &View, tile: &Tile) -> Vec<Holder> {
+    let lines = lines(sight, view, tile);
     lines.map(|line| holder(patches, &line)).collect()
 }
 
-/// The cells' lines in that order.
-pub fn lines(sight: Sight, view: &View) -> Vec<Line> {
-    let (view, width) = (view.in_units(), usize::from(view.width));
-    let line = |at: usize| Line::of(sight, &view, at % width, at / width);
-    (0..view.cells()).map(line).collect()
+/// The cells' lines in that order, each that of the whole window at its place.
+pub fn lines(sight: Sight, view: &View, tile: &Tile) -> impl Iterator<Item = Line> {
+    let view = view.in_units();
+    let line = move |[x, y]: [usize; 2]| Line::of(sight, &view, x, y);
+    tile.places().map(line)
+}
+
+/// One cell in so many of a tile, by its number in that order, and its line.
+pub fn some_lines(step: usize, view: &View, tile: &Tile) -> impl Iterator<Item = (usize, Line)> {
+    let view = view.in_units();
+    let some = tile.places().enumerate().step_by(step);
+    some.map(move |(at, [x, y])| (at, Line::of(Sight::Beside, &view, x, y)))
 }
 
 /// The panels of the patches that have the cells.
@@ -105,17 +117,18 @@ pub fn picture(patches: &[Patch], holders: &[Holder]) -> Vec<u16> {
 
 impl Done {
     /// All of it, from who has each cell.
-    pub fn of(holders: &[Holder], patches: &[Patch], view: &View) -> Done {
+    pub fn of(holders: &[Holder], patches: &[Patch], tile: &Tile) -> Done {
         let table = booked(holders, patches.len());
-        Done::told(picture(patches, holders), table, view)
+        Done::told(picture(patches, holders), table, tile)
     }
 
-    /// Counts, unlit lists and lit map as the cells of a picture give them.
-    pub fn told(picture: Vec<u16>, patch_counts: Vec<u32>, view: &View) -> Done {
-        let rows = picture.chunks(usize::from(view.width));
+    /// Counts, unlit lists and lit map as the cells of a tile's picture give them:
+    /// "Rows, offsets and map bits count from the tile's top left cell."
+    pub fn told(picture: Vec<u16>, patch_counts: Vec<u32>, tile: &Tile) -> Done {
+        let rows = picture.chunks(usize::from(tile.width).max(1));
         Done {
             unlit: rows.flat_map(unlit_row).collect(),
-            lit: lit_map(&picture, view.width),
+            lit: lit_map(&picture, tile.width),
             counts: counts(&picture),
             patch_counts,
             picture,

@@ -11,6 +11,7 @@ use crate::map_tally::MapsShown;
 use crate::ray::Sight;
 use crate::scene::Scene;
 use crate::station_tally::{two_forms, StationTally, TWO_FORMS};
+use crate::window_tally::{is_part, TilesShown, WindowTally, PART};
 
 #[derive(Default)]
 pub struct Tally {
@@ -25,6 +26,8 @@ pub struct Tally {
     pub cuttings: CuttingsTally,
     pub stations: StationTally,
     pub maps: MapsShown,
+    pub tiles: TilesShown,
+    pub windows: WindowTally,
     pub differences: BTreeMap<Difference, u64>,
     pub failed: u64,
 }
@@ -70,12 +73,17 @@ pub struct CuttingsTally {
     /// How many have their station in two forms, and how many in metres by other
     /// doubles.
     pub forms: [u64; 2],
+    /// The tile is not the window.
+    pub parts: u64,
 }
 
 impl Tally {
     /// An answer that is due.
     pub fn number(&mut self, number: u32, call: &Call) {
         *self.answers.entry(number).or_default() += 1;
+        if number == 0 {
+            self.tiles.add(call);
+        }
         self.stations.add(call, number);
     }
 
@@ -88,12 +96,12 @@ impl Tally {
             };
             let cells = outcome.lent.picture.iter();
             shown.pictures += 1;
-            shown.cells += call.view.cells() as u64;
+            shown.cells += call.tile.cells() as u64;
             shown.lit += cells.filter(|&&panel| panel != 0).count() as u64;
             let scene = Scene::read(&call.scene);
-            shown.beside.add(&scene.patches(), &call.view);
+            shown.beside.add(&scene.patches(), call);
             self.pieces.add(&scene, &outcome.lent);
-            self.maps.add(&outcome.lent.lit, call.view.width);
+            self.maps.add(&outcome.lent.lit, call.tile.width);
         }
     }
 }
@@ -112,6 +120,8 @@ impl Tally {
             .chain(beside)
             .chain(stations)
             .chain(self.maps.told())
+            .chain(self.tiles.told())
+            .chain(self.windows.told())
             .filter(|(times, _)| *times == 0);
         never.map(|(_, name)| name).collect()
     }
@@ -125,6 +135,7 @@ impl CuttingsTally {
     pub fn add(&mut self, pair: &Cuttings, lent: [&Lent; 2]) {
         let [one, other] = lent.map(|lent| &lent.patch_counts);
         let [plain, beyond] = pair.done(Sight::Plain);
+        self.parts += u64::from(is_part(&pair.first));
         let unlike = one.len() != other.len();
         self.pairs += 1;
         self.given_up += pair.given_up;
@@ -140,7 +151,7 @@ impl CuttingsTally {
     }
 
     /// Each number with its name.
-    pub fn told(&self) -> [(u64, &'static str); 7] {
+    pub fn told(&self) -> [(u64, &'static str); 8] {
         [
             (self.patches, "have lists of patches of two lengths"),
             (
@@ -152,6 +163,7 @@ impl CuttingsTally {
             (self.plain_level, "would do so in a level view"),
             (self.forms[0], TWO_FORMS[0]),
             (self.forms[1], TWO_FORMS[1]),
+            (self.parts, PART),
         ]
     }
 

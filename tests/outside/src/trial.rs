@@ -6,7 +6,7 @@ use crate::block::Reading;
 use crate::booking::booking;
 use crate::call::{Call, Lent, Library, View};
 use crate::cases::stored;
-use crate::compare::{check_due, cuttings_apart};
+use crate::compare::{check_due, cuttings_apart, Difference};
 use crate::joints::joints;
 use crate::map_stations::maps;
 use crate::metres::metres;
@@ -16,7 +16,11 @@ use crate::rings::rings;
 use crate::scene::Scene;
 use crate::stretches::stretches;
 use crate::survey::{counts, is_read_otherwise, Done, Due};
+use crate::tile_cases::Group;
+use crate::tile_stations::tile_stations;
 use crate::turned::turned;
+use crate::whole::{Piece, Whole};
+use crate::window_stations::window_stations;
 
 pub struct Trial {
     pub name: String,
@@ -32,7 +36,7 @@ pub fn digits(rows: &str) -> Vec<u16> {
 
 /// A call from a counter of 0, with its picture and its patches' cells.
 pub fn accepted(name: &str, call: Call, rows: &str, cells: &[u32]) -> Trial {
-    let done = Done::told(digits(rows), cells.to_vec(), &call.view);
+    let done = Done::told(digits(rows), cells.to_vec(), &call.tile);
     Trial {
         name: name.to_string(),
         call,
@@ -46,10 +50,15 @@ pub fn accepted(name: &str, call: Call, rows: &str, cells: &[u32]) -> Trial {
 /// The station with its picture, where no panel stands on two patches: its count
 /// is that of its patch.
 pub fn shows(name: &str, scene: &Scene, view: View, rows: &str) -> Trial {
-    let counts = counts(&digits(rows));
-    let records = scene.records.iter();
-    let cells: Vec<u32> = records.map(|r| counts[usize::from(r.panel)]).collect();
+    let cells = counted(scene, &digits(rows));
     accepted(name, Call::new(scene.write(), view), rows, &cells)
+}
+
+/// The cells of each patch of such a scene, by the cells of a picture.
+pub fn counted(scene: &Scene, picture: &[u16]) -> Vec<u32> {
+    let counts = counts(picture);
+    let records = scene.records.iter();
+    records.map(|r| counts[usize::from(r.panel)]).collect()
 }
 
 pub fn refused(name: &str, call: Call, number: u32) -> Trial {
@@ -72,7 +81,25 @@ pub struct Suite {
     pub sight: Sight,
     /// Are the trials, two by two, of one ring cut in two ways?
     pub cuttings: bool,
+    /// Those of the trials whose tiles cover a window.
+    pub groups: Vec<Group>,
     pub trials: Vec<Trial>,
+}
+
+impl Suite {
+    /// What differs in the window of a group that trial k is the last of, as the
+    /// trials so far left it.
+    fn wholes_apart(&self, k: usize, left: &[Option<Lent>]) -> Vec<Difference> {
+        let ended = self.groups.iter().filter(|g| g.places.last() == Some(&k));
+        let apart = |group: &Group| {
+            let own = group.places.iter();
+            let piece = |&at: &usize| Some(Piece::left(&self.trials[at].call, left[at].as_ref()?));
+            let pieces: Option<Vec<Piece>> = own.map(piece).collect();
+            let whole = Whole::of(group.whole.size(), &pieces.unwrap_or_default());
+            whole.apart(&group.whole.due)
+        };
+        ended.flat_map(apart).collect()
+    }
 }
 
 fn suites() -> Reading<Vec<Suite>> {
@@ -80,6 +107,7 @@ fn suites() -> Reading<Vec<Suite>> {
         name,
         sight,
         cuttings: false,
+        groups: Vec::new(),
         trials,
     };
     let mut all = vec![
@@ -91,7 +119,13 @@ fn suites() -> Reading<Vec<Suite>> {
         told("the cutting stations", Sight::Beside, rings()),
         told("the metre stations", Sight::Beside, metres()),
         told("the map stations", Sight::Beside, maps()),
+        told("the tile stations", Sight::Beside, tile_stations()),
     ];
+    let (trials, groups) = window_stations();
+    all.push(Suite {
+        groups,
+        ..told("the window stations", Sight::Beside, trials)
+    });
     all.extend(stored()?);
     Ok(all)
 }
@@ -147,13 +181,15 @@ fn brought_up(suite: &mut Suite) -> bool {
 /// many agree; gives how many do not.
 ///
 /// Of two cuttings the second is also held to what the library left of the
-/// first, whatever is due for either.
+/// first, whatever is due for either, and of a group of tiles the last to what
+/// all of them left together.
 fn hold<L: Library>(suite: &Suite, library: impl Fn(&Call) -> L) -> usize {
     let Suite {
         name: of, trials, ..
     } = suite;
     let mut failed = 0;
     let mut first: Option<Lent> = None;
+    let mut left: Vec<Option<Lent>> = Vec::new();
     for (k, trial) in trials.iter().enumerate() {
         let mut noise = Random::new(trials.len() as u64, k as u64);
         let asked = library(&trial.call);
@@ -164,8 +200,10 @@ fn hold<L: Library>(suite: &Suite, library: impl Fn(&Call) -> L) -> usize {
                 found.extend(cuttings_apart(&first, &outcome.lent));
                 None
             }
-            None => suite.cuttings.then_some(outcome.lent),
+            None => suite.cuttings.then(|| outcome.lent.clone()),
         };
+        left.push((outcome.number == 0).then_some(outcome.lent));
+        found.extend(suite.wholes_apart(k, &left));
         if !found.is_empty() {
             failed += 1;
             if failed <= SHOWN {

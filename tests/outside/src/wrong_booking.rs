@@ -5,14 +5,16 @@ use crate::compare::Difference;
 use crate::ray::{against, met, Holder, Sight};
 use crate::scene::{Patch, Scene};
 use crate::survey::{booked, holders};
+use crate::tile::Tile;
 use crate::walk::walk;
-use crate::wrong_paint::Cell;
+use crate::wrong_paint::{self, Cell};
 
 /// What is painted when the table is written.
 pub struct Painted<'a> {
     pub scene: &'a Scene,
     pub patches: &'a [Patch],
     pub view: View,
+    pub tile: Tile,
     pub holders: &'a [Holder],
 }
 
@@ -42,7 +44,7 @@ pub const BOOKS: &[(&str, &[Difference], Book)] = &[
         each_cell(p, |cell, _| all(cell).collect())
     }),
     ("by the lines themselves, joints open", SUMS, |p| {
-        let holders = holders(Sight::Plain, p.patches, &p.view);
+        let holders = holders(Sight::Plain, p.patches, &p.view, &p.tile);
         booked(&holders, p.patches.len())
     }),
     ("by panel: all on its first patch", TABLE, |p| {
@@ -78,7 +80,7 @@ pub const BOOKS: &[(&str, &[Difference], Book)] = &[
         })
     }),
     ("only the last row booked", SUMS, |p| {
-        let lower = p.holders.len() - usize::from(p.view.width);
+        let lower = p.holders.len() - usize::from(p.tile.width);
         let holders = &p.holders[lower..];
         each_row(&Painted { holders, ..*p }, cells)
     }),
@@ -127,14 +129,8 @@ impl Painted<'_> {
 
 /// Each lit cell goes to entries told from the patch that has it.
 fn each_cell(p: &Painted, entries: impl Fn(Cell, usize) -> Vec<usize>) -> Vec<u32> {
-    let width = usize::from(p.view.width);
     let mut table = vec![0; p.patches.len()];
-    for (at, holder) in p.holders.iter().enumerate() {
-        let cell = Cell {
-            view: p.view,
-            i: at % width,
-            j: at / width,
-        };
+    for (cell, holder) in wrong_paint::cells(p.view, p.tile).zip(p.holders) {
         for entry in holder.map_or(Vec::new(), |k| entries(cell, k)) {
             if let Some(own) = table.get_mut(entry) {
                 *own += 1;
@@ -146,7 +142,7 @@ fn each_cell(p: &Painted, entries: impl Fn(Cell, usize) -> Vec<usize>) -> Vec<u3
 
 /// Each patch gets cells row by row.
 fn each_row(p: &Painted, cells: impl Fn(&[Holder], usize) -> u32) -> Vec<u32> {
-    let rows = || p.holders.chunks(usize::from(p.view.width));
+    let rows = || p.holders.chunks(usize::from(p.tile.width));
     let of_patch = |k: usize| rows().map(|row| cells(row, k)).sum();
     (0..p.patches.len()).map(of_patch).collect()
 }

@@ -27,7 +27,7 @@ pub const WRITES: &[(&str, &[Difference], Write)] = &[
         "a cell of 0 where the next patch begins",
         PICTURE,
         |p, mut done| {
-            let width = usize::from(p.view.width);
+            let width = usize::from(p.tile.width);
             let rows = done.picture.chunks_mut(width);
             for (row, holders) in rows.zip(p.holders.chunks(width)) {
                 let joints = (1..width).filter(|&i| holders[i] != holders[i - 1]);
@@ -49,14 +49,14 @@ pub const WRITES: &[(&str, &[Difference], Write)] = &[
     }),
     ("cells of patch 0 in the unlit lists", UNLIT, |p, done| {
         let shown = numbered_from_0(p.holders);
-        let rows = shown.chunks(usize::from(p.view.width));
+        let rows = shown.chunks(usize::from(p.tile.width));
         Done {
             unlit: rows.flat_map(unlit_row).collect(),
             ..done
         }
     }),
     ("cells of patch 0 clear in the map", LIT, |p, done| Done {
-        lit: lit_map(&numbered_from_0(p.holders), p.view.width),
+        lit: lit_map(&numbered_from_0(p.holders), p.tile.width),
         ..done
     }),
 ];

@@ -89,34 +89,43 @@ pub const WRONG: &[WrongGate] = &[
     ("9: sides in 32 bits", || asked(9, sides_in_32_bits)),
     ("9: touching refused", || asked(9, touching_refused)),
     ("10: eye unseen", || {
-        asked(10, |c, _| window(c, 256, 128, 4_096))
-    }),
-    ("10: width 257", || {
         asked(10, |c, _| {
-            in_range(&c.view.eye()) && window(c, 257, 128, 4_096)
+            window_within(c, [1_024, 512, 4_096]) && tile_fits(c)
         })
     }),
-    ("10: height 129", || {
-        asked(10, |c, _| {
-            in_range(&c.view.eye()) && window(c, 256, 129, 4_096)
-        })
+    ("10: width 1,025", || {
+        windowed(|c, _| window_within(c, [1_025, 512, 4_096]))
+    }),
+    ("10: height 513", || {
+        windowed(|c, _| window_within(c, [1_024, 513, 4_096]))
     }),
     ("10: lens 4,097", || {
-        asked(10, |c, _| {
-            in_range(&c.view.eye()) && window(c, 256, 128, 4_097)
-        })
+        windowed(|c, _| window_within(c, [1_024, 512, 4_097]))
     }),
-    ("10: width 255 at most", || {
-        asked(10, |c, _| {
-            in_range(&c.view.eye()) && window(c, 255, 128, 4_096)
+    ("10: width 1,023 at most", || {
+        windowed(|c, _| window_within(c, [1_023, 512, 4_096]))
+    }),
+    ("10: height 511 at most", || {
+        windowed(|c, _| window_within(c, [1_024, 511, 4_096]))
+    }),
+    ("10: width 256 at most, as before", || {
+        windowed(|c, _| window_within(c, [256, 512, 4_096]))
+    }),
+    ("10: height 128 at most, as before", || {
+        windowed(|c, _| window_within(c, [1_024, 128, 4_096]))
+    }),
+    ("10: width and height exchanged", || {
+        windowed(|c, _| {
+            let exchanged = c.with(&|c| std::mem::swap(&mut c.view.width, &mut c.view.height));
+            window_within(&exchanged, [1_024, 512, 4_096])
         })
     }),
     ("10: lens 0", || {
-        asked(10, |c, _| {
-            in_range(&c.view.eye())
-                && c.view.width.clamp(1, 256) == c.view.width
-                && c.view.height.clamp(1, 128) == c.view.height
-                && c.view.lens <= 4_096
+        windowed(|c, _| {
+            window_within(
+                &c.with(&|c| c.view.lens = c.view.lens.max(1)),
+                [1_024, 512, 4_096],
+            )
         })
     }),
     ("14: left out", || without(14)),
@@ -215,6 +224,14 @@ pub fn asked(number: u32, question: Question) -> Gate {
     for place in gate.questions.iter_mut().filter(|q| q.0 == number) {
         place.1 = question;
     }
+    gate
+}
+
+/// Question 10 with something else asked of the window.
+fn windowed(question: Question) -> Gate {
+    let mut gate = asked(10, |c, _| eye_in_range(c) && tile_fits(c));
+    let at = place(&gate, 10);
+    gate.questions.insert(at, (10, question));
     gate
 }
 

@@ -3,7 +3,7 @@
 use std::collections::BTreeSet;
 
 use crate::call::{Call, COUNTS, ROW, WORDS};
-use crate::fitting::{map_fits, table_fits, view_lengths_fit};
+use crate::fitting::{map_fits, table_fits, tile_lengths_fit};
 use crate::gate::{Gate, Question};
 use crate::scene::Scene;
 use crate::wrong_gate::{asked, place, WrongGate};
@@ -11,7 +11,7 @@ use crate::wrong_gate::{asked, place, WrongGate};
 pub const LENGTHS: &[WrongGate] = &[
     ("11: longer picture", || {
         asked(11, |c, s| {
-            c.picture_len >= c.view.cells() && counts_fit(c) && unlit_fits(c) && others_fit(c, s)
+            c.picture_len >= c.tile.cells() && counts_fit(c) && unlit_fits(c) && others_fit(c, s)
         })
     }),
     ("11: longer counts", || {
@@ -21,7 +21,7 @@ pub const LENGTHS: &[WrongGate] = &[
     }),
     ("11: longer unlit", || {
         asked(11, |c, s| {
-            let rows = usize::from(c.view.height);
+            let rows = usize::from(c.tile.height);
             c.unlit_len >= rows * ROW && picture_fits(c) && counts_fit(c) && others_fit(c, s)
         })
     }),
@@ -83,10 +83,10 @@ pub const MAP_LENGTHS: &[WrongGate] = &[
     ("11: longer map", || mapped(|c, _| c.lit_len >= words(c))),
     ("11: shorter map", || mapped(|c, _| c.lit_len <= words(c))),
     ("11: words behind the map's last row", || {
-        mapped(|c, _| c.lit_len / WORDS == usize::from(c.view.height))
+        mapped(|c, _| c.lit_len / WORDS == usize::from(c.tile.height))
     }),
     ("11: a last row of the map begun", || {
-        mapped(|c, _| c.lit_len.div_ceil(WORDS) == usize::from(c.view.height))
+        mapped(|c, _| c.lit_len.div_ceil(WORDS) == usize::from(c.tile.height))
     }),
     ("11: a map of whole rows", || {
         mapped(|c, _| c.lit_len % WORDS == 0)
@@ -102,19 +102,19 @@ pub const MAP_LENGTHS: &[WrongGate] = &[
         mapped(|c, _| c.lit_len <= 128 * WORDS)
     }),
     ("11: one word a row", || {
-        mapped(|c, _| c.lit_len == usize::from(c.view.height))
+        mapped(|c, _| c.lit_len == usize::from(c.tile.height))
     }),
     ("11: as many words as the width needs", || {
         mapped(|c, _| {
-            let needed = usize::from(c.view.width).div_ceil(64);
-            c.lit_len == needed * usize::from(c.view.height)
+            let needed = usize::from(c.tile.width).div_ceil(64);
+            c.lit_len == needed * usize::from(c.tile.height)
         })
     }),
     ("11: four words a column", || {
-        mapped(|c, _| c.lit_len == WORDS * usize::from(c.view.width))
+        mapped(|c, _| c.lit_len == WORDS * usize::from(c.tile.width))
     }),
     ("11: a word a column", || {
-        mapped(|c, _| c.lit_len == usize::from(c.view.height) * ROW)
+        mapped(|c, _| c.lit_len == usize::from(c.tile.height) * ROW)
     }),
     ("11: map in bytes", || {
         mapped(|c, _| c.lit_len == 8 * words(c))
@@ -125,7 +125,7 @@ pub const MAP_LENGTHS: &[WrongGate] = &[
     ("11: map and lists exchanged", || {
         asked(11, |c, s| {
             let exchanged = c.with(&|c| std::mem::swap(&mut c.unlit_len, &mut c.lit_len));
-            view_lengths_fit(&exchanged) && others_fit(&exchanged, s)
+            tile_lengths_fit(&exchanged) && others_fit(&exchanged, s)
         })
     }),
     ("11: map's length in eight bits", || {
@@ -144,10 +144,10 @@ pub const MAP_LENGTHS: &[WrongGate] = &[
 pub const SHORT_LENGTHS: &[WrongGate] = &[
     ("11: lengths in 32 bits", || {
         asked(11, |c, s| {
-            c.picture_len as u32 as usize == c.view.cells()
+            c.picture_len as u32 as usize == c.tile.cells()
                 && c.counts_len as u32 as usize == COUNTS
                 && c.patch_counts_len as u32 as usize == s.records.len()
-                && c.unlit_len as u32 == u32::from(c.view.height) * 256
+                && c.unlit_len as u32 == u32::from(c.tile.height) * 256
                 && c.lit_len as u32 as usize == words(c)
         })
     }),
@@ -160,7 +160,7 @@ pub const SHORT_LENGTHS: &[WrongGate] = &[
 ];
 
 fn picture_fits(call: &Call) -> bool {
-    call.picture_len == call.view.cells()
+    call.picture_len == call.tile.cells()
 }
 
 fn counts_fit(call: &Call) -> bool {
@@ -168,7 +168,7 @@ fn counts_fit(call: &Call) -> bool {
 }
 
 fn unlit_fits(call: &Call) -> bool {
-    call.unlit_len == usize::from(call.view.height) * ROW
+    call.unlit_len == usize::from(call.tile.height) * ROW
 }
 
 fn panels(scene: &Scene) -> usize {
@@ -178,7 +178,7 @@ fn panels(scene: &Scene) -> usize {
 
 /// The map's right length.
 fn words(call: &Call) -> usize {
-    usize::from(call.view.height) * WORDS
+    usize::from(call.tile.height) * WORDS
 }
 
 /// The lengths that came with later requests.
@@ -187,11 +187,11 @@ fn others_fit(call: &Call, scene: &Scene) -> bool {
 }
 
 fn all_but_the_table(call: &Call, scene: &Scene) -> bool {
-    view_lengths_fit(call) && map_fits(call, scene)
+    tile_lengths_fit(call) && map_fits(call, scene)
 }
 
 fn all_but_the_map(call: &Call, scene: &Scene) -> bool {
-    view_lengths_fit(call) && table_fits(call, scene)
+    tile_lengths_fit(call) && table_fits(call, scene)
 }
 
 /// Question 11 with something else asked of the patch table.

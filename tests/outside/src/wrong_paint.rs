@@ -2,16 +2,19 @@
 
 use std::cmp::Ordering;
 
-use crate::call::View;
+use crate::call::{Call, View};
 use crate::gate::patch_normal;
 use crate::ray::{against, edges, eye_to_corner, holder, met, Holder, Line, Sight};
 use crate::scene::{Patch, Scene};
+use crate::tile::Tile;
 use crate::vector::dot;
 
-/// A cell of a view, from which one ray looks.
+/// A cell of a window, from which one ray looks: its column and row there, and the
+/// tile that it is painted for.
 #[derive(Clone, Copy)]
 pub struct Cell {
     pub view: View,
+    pub tile: Tile,
     pub i: usize,
     pub j: usize,
 }
@@ -149,13 +152,14 @@ fn all_but_one(patch: &Patch, line: &Line) -> bool {
     sign != 0 && forward && few.all(|edge| line.sign(edge) == sign)
 }
 
-/// The cells as one way of looking gives them.
-pub fn painted(scene: &Scene, view: View, look: Look) -> Vec<Holder> {
-    let width = usize::from(view.width);
-    let cell = |at: usize| Cell {
-        view,
-        i: at % width,
-        j: at / width,
-    };
-    (0..view.cells()).map(|at| look(scene, cell(at))).collect()
+/// The cells of a call's tile.
+pub fn cells(view: View, tile: Tile) -> impl Iterator<Item = Cell> {
+    let cell = move |[i, j]: [usize; 2]| Cell { view, tile, i, j };
+    tile.places().map(cell)
+}
+
+/// What they show, as one way of looking gives it.
+pub fn painted(scene: &Scene, call: &Call, look: Look) -> Vec<Holder> {
+    let cells = cells(call.view, call.tile);
+    cells.map(|cell| look(scene, cell)).collect()
 }

@@ -189,13 +189,6 @@ pub fn every_ancestor(scene: &Scene, own: bool, held: impl Fn(&[i128]) -> bool) 
     })
 }
 
-pub fn window(call: &Call, width: u16, height: u16, lens: u16) -> bool {
-    let view = &call.view;
-    (1..=width).contains(&view.width)
-        && (1..=height).contains(&view.height)
-        && (1..=lens).contains(&view.lens)
-}
-
 /// Question 14 with other ends of a part.
 pub fn axes_fit(call: &Call, low: i16, high: i16) -> bool {
     parts_within(&call.view.axes, low, high) && call.view.axes.volume() > 0

@@ -37,8 +37,9 @@ must() {
     done
     for known in 'the turned stations' 'the booked stations' 'the joint stations' \
         'the stretch stations' 'the cutting stations' 'the metre stations' \
-        'the map stations' 'the rows of bare maps' 'the rows of F-8.txt' \
-        F-1.txt F-2.txt F-3.txt F-5.txt F-7.txt F-8.txt; do
+        'the map stations' 'the tile stations' 'the window stations' \
+        'the rows of bare maps' 'the rows of F-8.txt' \
+        F-1.txt F-2.txt F-3.txt F-5.txt F-7.txt F-8.txt F-9.txt; do
         grep -q "^cases: [1-9][0-9]* of $known differ\$" "$work/report" ||
             { echo "$fault: $known not seen"; exit 1; }
     done
@@ -49,7 +50,7 @@ cases=300 bill=
 must silent 1 '' Answer Gate Picture Counts PatchCounts Unlit Lit Counter \
     PanelSums FirstShowsClosest EqualWhenNoneCounted DifferWhereChosen \
     SecondShowsKept CuttingsPicture CuttingsCounts CuttingsUnlit CuttingsLit Forms \
-    RowLit RowFirstUnlit
+    RowLit RowFirstUnlit WholePicture WholeCounts WholePatchCounts WholeCounter
 must scribe 1 '' Answer Gate TouchedPicture TouchedCounts TouchedPatchCounts \
     TouchedUnlit TouchedLit TouchedCounter TouchedScene
 must struck 1 '' Answer Gate Struck
@@ -60,6 +61,10 @@ grep -q '^bare maps: 1200 put, [1-9][0-9]* differ$' "$work/report" ||
     { echo 'blank: no bare map differs'; exit 1; }
 # Blank is blank in both forms, so Forms must not be seen; deaf answers the two differently.
 grep -q ' differences: Forms$' "$work/report" && { echo 'blank: Forms seen'; exit 1; }
+# Blank raises the counter with the right tiles, and no other.
+grep -q ' differences: \(Whole\)*Counter$' "$work/report" && { echo 'blank: Counter seen'; exit 1; }
+must ticker 1 '' Counter WholeCounter
+must window 1 '' Counts Unlit WholeCounts
 must deaf 1 '' Answer Gate Picture Forms
 bill="--ringbill $work/ringbill"
 must blank 1 '' Bill

@@ -8,6 +8,8 @@
  *   booker  as blank, and books one patch more than the table has;
  *   mapper  as blank, and writes one word more than the map has;
  *   rower   as blank, and counts a row's words where the map has ended;
+ *   ticker  as blank, and the counter rises with every tile;
+ *   window  as blank, and takes the tile for as large as the window;
  *   deaf    as blank in units, and refuses all that is in metres with 15.
  * It looks at no station: but for the last both forms are answered alike. But for
  * rower all rows of all maps are without a lit cell. */
@@ -20,6 +22,17 @@ static int fault_is(const char *name)
 {
     const char *fault = getenv("STUB_FAULT");
     return fault != NULL && strcmp(fault, name) == 0;
+}
+
+/* A window's measures, and a tile's place and measures in it. */
+struct frame {
+    uint16_t width, height, left, top, tile_width, tile_height;
+};
+
+static int holds_last(struct frame frame)
+{
+    return frame.left + frame.tile_width == frame.width &&
+           frame.top + frame.tile_height == frame.height;
 }
 
 struct lent {
@@ -53,8 +66,13 @@ static void scribble(const uint8_t *scene, size_t scene_len, struct lent lent)
     *lent.counter ^= 1;
 }
 
-static void leave_blank(uint16_t width, uint16_t height, struct lent lent)
+static void leave_blank(struct frame frame, struct lent lent)
 {
+    uint16_t width = frame.tile_width, height = frame.tile_height;
+    if (fault_is("window")) {
+        width = frame.width;
+        height = frame.height;
+    }
     memset(lent.picture, 0, lent.picture_len * sizeof *lent.picture);
     memset(lent.counts, 0, lent.counts_len * sizeof *lent.counts);
     memset(lent.patch_counts, 0, lent.patch_counts_len * sizeof *lent.patch_counts);
@@ -63,11 +81,12 @@ static void leave_blank(uint16_t width, uint16_t height, struct lent lent)
     lent.counts[0] = (uint32_t)width * height;
     for (size_t j = 0; j * 256 + 1 < lent.unlit_len; j++)
         lent.unlit[j * 256 + 1] = width;
-    *lent.counter += 1;
+    if (holds_last(frame) || fault_is("ticker"))
+        *lent.counter += 1;
 }
 
 static uint32_t surveyed(const uint8_t *scene, size_t scene_len,
-                         uint16_t width, uint16_t height, struct lent lent)
+                         struct frame frame, struct lent lent)
 {
     if (fault_is("scribe")) {
         scribble(scene, scene_len, lent);
@@ -77,7 +96,7 @@ static uint32_t surveyed(const uint8_t *scene, size_t scene_len,
         return 13;
     if (fault_is("silent") || lent.counts_len == 0)
         return 0;
-    leave_blank(width, height, lent);
+    leave_blank(frame, lent);
     if (fault_is("beyond") && scene_len > 0 && lent.picture_len > 0) {
         volatile const uint8_t *past = scene + scene_len;
         lent.picture[lent.picture_len] = *past;
@@ -104,12 +123,16 @@ static uint32_t gated(void)
                     int16_t forward_x, int16_t forward_y, int16_t forward_z,   \
                     int16_t up_x, int16_t up_y, int16_t up_z,                  \
                     uint16_t width, uint16_t height, uint16_t lens,            \
+                    uint16_t left, uint16_t top,                               \
+                    uint16_t tile_width, uint16_t tile_height,                 \
                     uint16_t *picture, size_t picture_len,                     \
                     uint32_t *counts, size_t counts_len,                       \
                     uint32_t *patch_counts, size_t patch_counts_len,           \
                     uint16_t *unlit, size_t unlit_len,                         \
                     uint64_t *lit, size_t lit_len, uint32_t *counter)          \
     {                                                                          \
+        struct frame frame = {width, height, left, top,                        \
+                              tile_width, tile_height};                        \
         struct lent lent = {picture, picture_len, counts, counts_len,          \
                             patch_counts, patch_counts_len, unlit, unlit_len,  \
                             lit, lit_len, counter};                            \
@@ -119,7 +142,7 @@ static uint32_t gated(void)
         (void)up_x, (void)up_y, (void)up_z;                                    \
         if (IN_METRES && fault_is("deaf"))                                     \
             return 15;                                                         \
-        return surveyed(scene, scene_len, width, height, lent);                \
+        return surveyed(scene, scene_len, frame, lent);                        \
     }                                                                          \
     uint32_t GATE(const uint8_t *scene, size_t scene_len,                      \
                   PART eye_x, PART eye_y, PART eye_z,                          \
@@ -127,6 +150,8 @@ static uint32_t gated(void)
                   int16_t forward_x, int16_t forward_y, int16_t forward_z,     \
                   int16_t up_x, int16_t up_y, int16_t up_z,                    \
                   uint16_t width, uint16_t height, uint16_t lens,              \
+                  uint16_t left, uint16_t top,                                 \
+                  uint16_t tile_width, uint16_t tile_height,                   \
                   size_t picture_len, size_t counts_len,                       \
                   size_t patch_counts_len, size_t unlit_len, size_t lit_len,   \
                   uint32_t counter)                                            \
@@ -135,7 +160,8 @@ static uint32_t gated(void)
         (void)right_x, (void)right_y, (void)right_z;                           \
         (void)forward_x, (void)forward_y, (void)forward_z;                     \
         (void)up_x, (void)up_y, (void)up_z;                                    \
-        (void)width, (void)height, (void)lens, (void)picture_len;              \
+        (void)width, (void)height, (void)lens, (void)left, (void)top;          \
+        (void)tile_width, (void)tile_height, (void)picture_len;                \
         (void)counts_len, (void)patch_counts_len, (void)unlit_len;             \
         (void)lit_len, (void)counter;                                          \
         return IN_METRES && fault_is("deaf") ? 15 : gated();                   \

@@ -28,6 +28,10 @@ macro_rules! declared {
                 width: u16,
                 height: u16,
                 lens: u16,
+                left: u16,
+                top: u16,
+                tile_width: u16,
+                tile_height: u16,
                 picture: *mut u16,
                 picture_len: usize,
                 counts: *mut u32,
@@ -59,6 +63,10 @@ macro_rules! declared {
                 width: u16,
                 height: u16,
                 lens: u16,
+                left: u16,
+                top: u16,
+                tile_width: u16,
+                tile_height: u16,
                 picture_len: usize,
                 counts_len: usize,
                 patch_counts_len: usize,
@@ -79,10 +87,10 @@ extern "C" {
     fn ring_row_first_unlit(lit: *const u64, lit_len: usize, width: u16, row: usize) -> u32;
 }
 
-/// Puts scene, station, camera and window, and after them what else is told.
+/// Puts scene, station, camera, window and tile, and after them what else is told.
 macro_rules! put {
     ($name:ident, $call:expr, $eye:expr, $($other:expr),* $(,)?) => {{
-        let (scene, view, eye) = (&$call.scene, &$call.view, $eye);
+        let (scene, view, tile, eye) = (&$call.scene, &$call.view, &$call.tile, $eye);
         let [right, forward, up] = view.axes.vectors();
         $name(
             scene.as_ptr(),
@@ -102,6 +110,10 @@ macro_rules! put {
             view.width,
             view.height,
             view.lens,
+            tile.left,
+            tile.top,
+            tile.width,
+            tile.height,
             $($other),*
         )
     }};

@@ -24,6 +24,7 @@ use std::process::exit;
 use library::Linked;
 use outside::bare_maps::put_bare_maps;
 use outside::bill::{bill, LONGEST, SHORTEST};
+use outside::call::Call;
 use outside::compare::Difference;
 use outside::differential::{case, put, two_cuttings, Case, Tally};
 use outside::gate::Gate;
@@ -32,6 +33,7 @@ use outside::generate::{FULL, SMALL};
 use outside::map_cases::hold_maps;
 use outside::program::printed;
 use outside::random::Random;
+use outside::tile::{TALLEST, WIDEST};
 use outside::trial::hold_library;
 
 struct Options {
@@ -155,8 +157,9 @@ fn keep(options: &Options, k: u64, made: &Case, differences: &[Difference]) {
     for (place, call) in made.calls().into_iter().enumerate() {
         let file = format!("{}/{sort}-{}-{k}-{place}.case", options.out, options.seed);
         println!(
-            "  {file}: {:?}, lengths {} {} {} {} {}, counter {}",
+            "  {file}: {:?}, {:?}, lengths {} {} {} {} {}, counter {}",
             call.view,
+            call.tile,
             call.picture_len,
             call.counts_len,
             call.patch_counts_len,
@@ -168,9 +171,12 @@ fn keep(options: &Options, k: u64, made: &Case, differences: &[Difference]) {
             println!("  not written: {error}");
         }
     }
-    if let Case::Two(_, pair) = made {
-        println!("  chosen panels: {:?}", pair.chosen);
-    }
+    let chosen = match made {
+        Case::Two(_, pair) => &pair.chosen,
+        Case::Windows(_, windows) => &windows.pair.chosen,
+        _ => return,
+    };
+    println!("  chosen panels: {chosen:?}");
 }
 
 /// What was tried and what it showed.
@@ -193,12 +199,15 @@ fn tell(tally: &Tally) {
     for (times, name) in tally.pieces.told() {
         println!("{times:8} views show {name}");
     }
-    for (times, name) in tally.stations.told() {
+    let told = tally.stations.told().into_iter().chain(tally.maps.told());
+    for (times, name) in told.chain(tally.tiles.told()).chain(tally.windows.told()) {
         println!("{times:8} {name}");
     }
-    for (times, name) in tally.maps.told() {
-        println!("{times:8} {name}");
-    }
+    let windows = &tally.windows;
+    println!(
+        "{:8} cells in {} tiles of windows",
+        windows.cells, windows.tiles
+    );
     for (answer, times) in &tally.stations.answers {
         println!("{times:8} calls in metres answered {answer}");
     }
@@ -246,9 +255,29 @@ fn report(options: &Options, tally: &Tally) -> i32 {
     i32::from(tally.failed > 0 || thin || !bites)
 }
 
+/// The calls whose bills are asked: of a window by its tiles that of the whole.
+fn billed(made: &Case) -> Vec<Call> {
+    match made {
+        Case::Windows(_, windows) => vec![windows.pair.first.clone(), windows.pair.second.clone()],
+        _ => made.calls().into_iter().map(one_tile).collect(),
+    }
+}
+
+/// "`ringbill` draws its window as one tile": the call's window, or one as large as the
+/// tile where the whole of it would be dear.
+fn one_tile(call: &Call) -> Call {
+    let mut own = call.clone();
+    let (view, tile) = (&mut own.view, call.tile);
+    let is_refused = view.width > WIDEST || view.height > TALLEST;
+    if !is_refused && view.cells() > 4 * tile.cells() {
+        (view.width, view.height) = (tile.width, tile.height);
+    }
+    own
+}
+
 /// `ringbill` on the case's inputs, now and then cut or overlong.
 fn bills_agree(program: &str, made: &Case, k: u64) -> bool {
-    made.calls().into_iter().all(|call| {
+    billed(made).iter().all(|call| {
         let mut input = call.standard_input();
         match k % 50 {
             17 => input.truncate((k / 50 % (SHORTEST as u64 + 2)) as usize),
