@@ -21,7 +21,8 @@
  * places are the picture of the whole window, and their counts, entry by entry, add up to its
  * counts, as their patch_counts do to its patch_counts. Nothing is to be added from a call that was
  * refused. The station counter, passed from call to call, rises by one in all: it does with the
- * tile that holds the window's last cell.
+ * tile that holds the window's last cell. Survey that tile last: the tiles after it find the counter
+ * risen, and where that is the counter's end they are refused.
  *     Two surveys that are held against each other, of a scene with and without some panels or of
  * two cuttings of one ring, are to be of the same tile of the same window; or of whole windows,
  * which may be put together from other tiles each.

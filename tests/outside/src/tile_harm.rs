@@ -29,7 +29,8 @@ fn along(tile: &mut Tile, axis: usize) -> [&mut u16; 2] {
 
 /// Along one axis the tile is empty or too large, begins where the window ends, ends
 /// with the window or one cell beyond, or ends so far beyond that a sum in 16 bits
-/// falls inside again.
+/// falls inside again. Another fault may have moved it before: what is worked out
+/// here stops at the ends of 16 bits.
 pub fn tile_out(call: &mut Call, rng: &mut Random) {
     let axis = rng.below(2);
     let most = [WIDEST, TALLEST][axis];
@@ -43,11 +44,11 @@ pub fn tile_out(call: &mut Call, rng: &mut Random) {
         1 => {
             // Only the tile's limit is passed.
             *cells = rng.pick(&[most + 1, most + 1, 2 * most]);
-            *all = (*all).max(*first + *cells);
+            *all = (*all).max(first.saturating_add(*cells));
         }
         2 => *first = *all,
-        3 | 4 => *first = *all + 1 - *cells,
-        5 => *first = *all - *cells,
+        3 | 4 => *first = all.saturating_add(1).saturating_sub(*cells),
+        5 => *first = all.saturating_sub(*cells),
         6 => *first = u16::MAX - rng.below(usize::from(*cells) + 1) as u16,
         _ => *first = rng.pick(&[u16::MAX, 32_768, 1 << 12]),
     }
