@@ -1,5 +1,5 @@
 -- Questions 10 and 11, answered test by test.
-use mathlib.Core.Path.{_≡_, sym, _∙_}
+use mathlib.Core.Path.{_≡_, refl, sym, _∙_}
 use mathlib.Core.Bool.{Bool, true, false, _&&_, and-false}
 use Prim.Native.Nat.{ℕ, _*_, _≤_, _<_}
 use native.Mathlib.Nat.{mul-le-mul}
@@ -36,17 +36,17 @@ module _ (a b c d r : Bool) (first : r ≡ a) where
       pub fourth-decides : (u : Bool) → u ≡ d → r ≡ true → s ≡ true → t ≡ true → u ≡ (a && b && c && d)
       fourth-decides u fourth e f g = simp (← first, ← second, ← third, ← fourth, e, f, g)
 
--- the same of three tests
+-- the same of three tests: of four the first one passes
 module _ (a b c r : Bool) (first : r ≡ a) where
   pub first-of-three : r ≡ false → false ≡ (a && b && c)
-  first-of-three f = simp (← first, f)
+  first-of-three = second-fails true a b c true refl r first
 
   module _ (s : Bool) (second : s ≡ b) where
     pub second-of-three : s ≡ false → false ≡ (a && b && c)
-    second-of-three f = simp (← second, f, and-false)
+    second-of-three = third-fails true a b c true refl r first s second
 
     pub third-of-three : (t : Bool) → t ≡ c → r ≡ true → s ≡ true → t ≡ (a && b && c)
-    third-of-three t third e f = simp (← first, ← second, ← third, e, f)
+    third-of-three t third e f = fourth-decides true a b c true refl r first s second t third refl e f
 
 module _ (area height patches picture counts patchCounts unlit lit : ℕ) where
   abbrev fit : Bool

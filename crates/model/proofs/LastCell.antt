@@ -6,7 +6,7 @@ use Prim.Native.Nat.{ℕ, _+_, _-_, _≤_, _<_}
 use native.Mathlib.Omega.{arith}
 use lib.Dec.{leb, ltb}
 use borrow.Author.Tests.{lt-ltb, le-ltb, le-leb}
-use Rattle.model.specs.View.{Camera, holdsLast}
+use Rattle.model.specs.View.{Camera}
 use Rattle.model.specs.Picture.{nextCounter}
 use Rattle.model.proofs.Tests.{lt-or-ge}
 use Rattle.model.proofs.CallLimits.{TileInside}
