@@ -1,4 +1,6 @@
 // The survey's answer from a station: the first question that says no, of the scene and of the call.
+#![tactic(auto)]
+
 ghost use Rattle.std.specs.Prelude.{◌≡◌};
 ghost use Rattle.model.specs.Questions.{survey_answer};
 ghost use Rattle.camera.specs.Machine.{camera_of};

@@ -1,6 +1,8 @@
 // Exact arithmetic on signed numbers. Each result is the mathematical one, and each `requires` asks for room in terms of the sizes of the
 // arguments alone: whatever order the sum is taken in, no part of it is larger. So a caller that knows bounds on its numbers shows it by one
 // computed test (`room` of `proofs/Machine.antt`), and needs none of the parts.
+#![tactic(auto)]
+
 ghost use Rattle.std.specs.Prelude.{◌≡◌, ◌+◌, ◌*◌, ◌^◌, ◌<◌, nat_abs, ◌+ℤ◌, ◌-ℤ◌, ◌*ℤ◌};
 ghost use Rattle.integer.specs.Magnitude.{sign_of};
 

@@ -1,4 +1,6 @@
 // The bill of an input, as bytes in a lent buffer.
+#![tactic(auto)]
+
 ghost use Rattle.text.specs.Put.{Put};
 ghost use Rattle.bill.specs.Bill.{bill};
 

@@ -1,4 +1,6 @@
 // An extent that lies wholly on one side of a plane answers for all its patches.
+#![tactic(auto)]
+
 ghost use Rattle.geometry.specs.Machine.{Bounded};
 ghost use Rattle.boxes.specs.Boxes.{BoxBounded};
 ghost use Rattle.boxes.specs.Enclosed.{ExtentBounded, ChildExtent};

@@ -1,4 +1,6 @@
 // Boxes along the axes, the extents that two of them make, and the table of the extents of all nodes.
+#![tactic(auto)]
+
 ghost use Rattle.std.specs.Prelude.{◌≡◌, ◌+◌, ◌*◌, ◌≤◌, ◌<◌, length, get_or, pos};
 ghost use Rattle.integer.specs.Magnitude.{Within};
 ghost use Rattle.geometry.specs.Machine.{Bounded};
@@ -8,14 +10,14 @@ ghost use Rattle.boxes.specs.Enclosed.{ExtentBounded, extent_at};
 
 use geometry::Vector;
 
-#[derive(Drop)]
+#[derive(Clone, Copy)]
 pub struct Bounds {
     pub low: Vector,
     pub high: Vector,
 }
 
 // All corners of some patches lie in the outer box; along each axis each of the patches reaches both ends of the inner one.
-#[derive(Drop)]
+#[derive(Clone, Copy)]
 pub struct Extent {
     pub outer: Bounds,
     pub inner: Bounds,

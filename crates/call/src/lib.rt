@@ -1,4 +1,6 @@
 // The questions on the call after 15, which the station answers: 10, 14, 11 and 12.
+#![tactic(auto)]
+
 ghost use Rattle.std.specs.Prelude.{◌≡◌, ◌+◌, ◌*◌, ◌<◌, T, leb};
 ghost use Rattle.model.specs.Questions.{within, window_in_range, tile_in_window, view_in_range, axes_proper, lengths_fit, counter_below_end};
 ghost use Rattle.model.specs.Picture.{next_counter};

@@ -1,4 +1,6 @@
 // A camera, and the rays of its picture as a raster.
+#![tactic(auto)]
+
 ghost use Rattle.std.specs.Prelude.{◌-◌, ◌<◌};
 ghost use Rattle.integer.specs.Magnitude.{Within};
 ghost use Rattle.model.specs.Vector.{plus, times};
@@ -9,7 +11,7 @@ ghost use Rattle.camera.specs.Rays.{from_middle, RaysOf};
 use geometry::{Raster, Vector};
 
 // Where a camera's own axes point.
-#[derive(Drop)]
+#[derive(Clone, Copy)]
 pub struct Axes {
     pub right: Vector,
     pub forward: Vector,
@@ -17,7 +19,7 @@ pub struct Axes {
 }
 
 // A part of a window: the place of its top left cell, and its size.
-#[derive(Drop)]
+#[derive(Clone, Copy)]
 pub struct Tile {
     pub left: u16,
     pub top: u16,
@@ -26,7 +28,7 @@ pub struct Tile {
 }
 
 // A camera: its axes, its window and the tile of the window that is drawn.
-#[derive(Drop)]
+#[derive(Clone, Copy)]
 pub struct Camera {
     pub axes: Axes,
     pub width: u16,

@@ -1,4 +1,6 @@
 // Cells: a run of them painted, and all of them cleared.
+#![tactic(auto)]
+
 ghost use Rattle.std.specs.Prelude.{◌≡◌, cond, ◌+◌, ◌≤◌, ◌<◌, length, replicate};
 ghost use Rattle.segments.specs.Columns.{in_span, painted};
 

@@ -1,4 +1,6 @@
 // The records of a scene that passed the questions which reading it stands on.
+#![tactic(auto)]
+
 ghost use Rattle.std.specs.Prelude.{◌<◌};
 ghost use Rattle.geometry.specs.Machine.{VectorIs};
 ghost use Rattle.format.specs.Layout.{corner_number};

@@ -1,4 +1,6 @@
 // Question 5: each child comes after its parent, and each node but 0 is named exactly once.
+#![tactic(auto)]
+
 ghost use Rattle.std.specs.Prelude.{◌≡◌, ◌≤◌, ◌<◌, length, get_or};
 ghost use Rattle.format.specs.Machine.{node_of};
 ghost use Rattle.format.specs.Layout.{LaidOut};

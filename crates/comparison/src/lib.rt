@@ -1,4 +1,6 @@
 // Two scenes seen from one eye by one camera: what taking panels away changes (demand 3), and that two cuttings of one ring show the same (document 02, F-5).
+#![tactic(auto)]
+
 ghost use Rattle.station.specs.Machine.{station_of};
 ghost use Rattle.contract.specs.Contract.{lent_of};
 ghost use Rattle.demands.specs.Demands.{ClosestSurveyed, PairSurveyed};
@@ -9,14 +11,14 @@ use survey::metres::ring_survey_metres;
 use survey::units::ring_survey;
 
 // the results of the two calls
-#[derive(Drop)]
+#[derive(Clone, Copy)]
 pub struct Results {
     pub first: u32,
     pub second: u32,
 }
 
 // A camera by the numbers that the exported calls take, so that a pair is one of these calls.
-#[derive(Drop)]
+#[derive(Clone, Copy)]
 pub struct CameraNumbers {
     pub right_x: i16,
     pub right_y: i16,

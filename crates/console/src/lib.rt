@@ -1,9 +1,11 @@
 // Reading all of an input and writing all of an output. A failed read is told from the end of the input,
 // and a failed write is told on standard error.
+#![tactic(auto)]
+
 ghost use Rattle.console.specs.Reading.{ReadInto};
 
 // What reading an input came to.
-#[derive(Drop)]
+#[derive(Clone, Copy)]
 pub enum Got {
     // All of it, or as much as the buffer holds: so many bytes at the buffer's start.
     Bytes(usize),

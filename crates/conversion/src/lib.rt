@@ -1,4 +1,6 @@
 // Scan conversion of a patch: it is laid in every row that it reaches before the next patch's turn comes. All rows of the picture are under work until the walk is done.
+#![tactic(auto)]
+
 ghost use Rattle.std.specs.Prelude.{Bool, ℕ, ◌+◌, ◌*◌, ◌≤◌, length};
 ghost use Rattle.tables.specs.Functions.{functions_in};
 ghost use Rattle.conversion.specs.Canvas.{UnlitSets, RowsAsked, in_rows, RowsPaintedOver};

@@ -1,4 +1,6 @@
 // Question 8: each patch of the table is flat and strictly convex.
+#![tactic(auto)]
+
 ghost use Rattle.std.specs.Prelude.{◌≡◌, ◌+◌, ◌≤◌, ◌<◌};
 ghost use Rattle.model.specs.Format.{decode, patch_numbered};
 ghost use Rattle.model.specs.Questions.{patches_proper};

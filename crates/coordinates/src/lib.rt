@@ -1,4 +1,6 @@
 // Question 3: every coordinate is from −10,000 to 10,000.
+#![tactic(auto)]
+
 ghost use Rattle.std.specs.Prelude.{◌≡◌};
 ghost use Rattle.geometry.specs.Machine.{vec_of};
 ghost use Rattle.format.specs.Machine.{node_of};

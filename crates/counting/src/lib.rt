@@ -1,5 +1,7 @@
 // The counts of a picture: how many cells show each panel and, in entry 0, nothing. They are told by the table of the patches' cells, so that no cell is looked
 // at again: a panel's count is the sum over its patches, and the cells that no patch has show nothing.
+#![tactic(auto)]
+
 ghost use Rattle.model.specs.Format.{decode, patch_numbered};
 ghost use Rattle.counting.specs.Counting.{Countable, Counted};
 

@@ -1,4 +1,6 @@
 // Question 9: the planes divide the patches as the tree says.
+#![tactic(auto)]
+
 ghost use Rattle.std.specs.Prelude.{◌≡◌, map, ◌<◌};
 ghost use Rattle.model.specs.Lists.{every};
 ghost use Rattle.model.specs.Tree.{contents, map_tree, divides};

@@ -1,4 +1,6 @@
 // The edge functions of a patch: what a raster sees of its edge vectors, turned to the patch's side.
+#![tactic(auto)]
+
 ghost use Rattle.std.specs.Prelude.{◌≡◌, ◌<◌};
 ghost use Rattle.model.specs.Vector.{minus, times, cross};
 ghost use Rattle.model.specs.Format.{decode, patch_numbered};
@@ -13,7 +15,7 @@ use slopes::{Sloped, keep_one};
 use spans::Span;
 
 // the rays of a picture, with the eye that they go from
-#[derive(Drop)]
+#[derive(Clone, Copy)]
 pub struct Sight {
     pub eye: Vector,
     pub raster: Raster,

@@ -1,4 +1,6 @@
 // The extents of the nodes: boxes that bound all corners at and below them.
+#![tactic(auto)]
+
 ghost use Rattle.std.specs.Prelude.{◌*◌, ◌≤◌, length};
 ghost use Rattle.model.specs.Format.{decode, patch_numbered};
 ghost use Rattle.checked.specs.Checked.{Checked};

@@ -11,7 +11,7 @@ use header::read_header;
 use header::sizes::{CORNER_SIZE, HEADER_SIZE, NODE_SIZE, PATCH_SIZE};
 
 // How many records each section has, and the bytes of a patch record, which go by the scene's version; the sections follow each other from the header on.
-#[derive(Drop)]
+#[derive(Clone, Copy)]
 pub struct Layout {
     pub nodes: usize,
     pub patches: usize,

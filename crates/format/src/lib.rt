@@ -1,4 +1,6 @@
 // The scene's byte format.
+#![tactic(auto)]
+
 pub mod layout;
 pub mod patch;
 pub mod records;

@@ -12,7 +12,7 @@ use header::sizes::{CORNER_SIZE, HEADER_SIZE, NODE_SIZE};
 use little_endian::i16_at;
 
 // "A patch in hand is a panel number, a corner count and eight corner places, of which the first ones are used": the places' coordinates by axis
-#[derive(Drop)]
+#[derive(Clone, Copy)]
 pub struct Patch {
     pub x: [i16; 8],
     pub y: [i16; 8],

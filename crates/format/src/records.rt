@@ -9,13 +9,13 @@ use geometry::Vector;
 use little_endian::{i16_at, u16_at};
 
 // a run of records: the first one's number, and how many it has
-#[derive(Drop)]
+#[derive(Clone, Copy)]
 pub struct Run {
     pub first: usize,
     pub count: usize,
 }
 
-#[derive(Drop)]
+#[derive(Clone, Copy)]
 pub struct Node {
     pub a: Vector,
     pub b: Vector,
@@ -25,7 +25,7 @@ pub struct Node {
     pub patches: Run,
 }
 
-#[derive(Drop)]
+#[derive(Clone, Copy)]
 pub struct PatchRecord {
     pub panel: u16,
     pub corners: Run,

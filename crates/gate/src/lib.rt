@@ -1,4 +1,6 @@
 // The questions on a scene, 1 to 9, put in order to any byte string.
+#![tactic(auto)]
+
 ghost use Rattle.std.specs.Prelude.{◌≡◌};
 ghost use Rattle.model.specs.Questions.{scene_answer};
 

@@ -1,11 +1,13 @@
 // Exact geometry on coordinates within ±10,000: every number fits an i64, to the ends of the range.
+#![tactic(auto)]
+
 ghost use Rattle.std.specs.Prelude.{◌≡◌};
 ghost use Rattle.model.specs.Vector.{minus, dot, cross, plane_normal};
 ghost use Rattle.model.specs.Questions.{up_to, parts_up_to};
 ghost use Rattle.geometry.specs.Machine.{vec_of, plane_of, Bounded, VectorIs, NumberIs};
 ghost use Rattle.geometry.specs.Raster.{RasterBounded, FunctionIs, one_above, counts_in, seen_by};
 
-#[derive(Drop)]
+#[derive(Clone, Copy)]
 pub struct Vector {
     pub x: i64,
     pub y: i64,
@@ -13,7 +15,7 @@ pub struct Vector {
 }
 
 // The rays of a picture, from one eye: that of column i in row j goes in the direction origin + i · across + j · down.
-#[derive(Drop)]
+#[derive(Clone, Copy)]
 pub struct Raster {
     pub origin: Vector,
     pub across: Vector,
@@ -23,7 +25,7 @@ pub struct Raster {
 }
 
 // A number for each ray of a raster: start + i · slope + j · drop at column i of row j. The products of the rays with one edge vector are such numbers.
-#[derive(Drop)]
+#[derive(Clone, Copy)]
 pub struct EdgeFunction {
     pub start: i64,
     pub slope: i64,

@@ -1,3 +1,5 @@
 // Planes, and the patches that have corners on just the sides that are wanted.
+#![tactic(auto)]
+
 pub mod held;
 pub mod planes;

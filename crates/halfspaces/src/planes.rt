@@ -7,14 +7,14 @@ use format::records::Node;
 use geometry::{Vector, level, plane_normal};
 
 // A plane by its normal and the product of that with its points, so that the side number of a point takes three products and one difference.
-#[derive(Drop)]
+#[derive(Clone, Copy)]
 pub struct Plane {
     pub normal: Vector,
     pub level: i64,
 }
 
 // on which sides of a plane some corner of a patch lies
-#[derive(Drop)]
+#[derive(Clone, Copy)]
 pub struct Sides {
     pub negative: bool,
     pub positive: bool,

@@ -1,4 +1,6 @@
 // What a call from C hands over in plain numbers, as the values that the survey takes: a camera, and a station in metres.
+#![tactic(auto)]
+
 ghost use Rattle.std.specs.Prelude.{◌≡◌};
 ghost use Rattle.model.specs.Vector.{vec};
 ghost use Rattle.model.specs.Station.{metres};

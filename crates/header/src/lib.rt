@@ -1,4 +1,6 @@
 // The header of a scene, and questions 1 and 2.
+#![tactic(auto)]
+
 pub mod sizes;
 
 ghost use Rattle.std.specs.Prelude.{◌≡◌, ◌+◌, ◌≤◌, ◌<◌, length};
@@ -12,13 +14,13 @@ use sizes::{
     PATCH_SIZE, VERSION,
 };
 
-#[derive(Drop)]
+#[derive(Clone, Copy)]
 pub struct Section {
     pub offset: usize,
     pub size: usize,
 }
 
-#[derive(Drop)]
+#[derive(Clone, Copy)]
 pub struct Header {
     pub version: usize,
     pub reserved: usize,

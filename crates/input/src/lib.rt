@@ -1,4 +1,6 @@
 // The survey that an input asks for: an eye and a window (12 bytes), and a scene.
+#![tactic(auto)]
+
 ghost use Rattle.std.specs.Prelude.{◌≡◌, ◌+◌, ◌≤◌, length};
 ghost use Rattle.model.specs.Format.{u16_at};
 ghost use Rattle.model.specs.Questions.{survey_answer};

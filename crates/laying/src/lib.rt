@@ -1,4 +1,6 @@
 // A span of columns is laid on the segments of a row, one after the other.
+#![tactic(auto)]
+
 ghost use Rattle.std.specs.Prelude.{◌≡◌, Bool, ◌&&◌, ℕ, ◌≤◌, length};
 ghost use Rattle.model.specs.Lists.{range, tally};
 ghost use Rattle.model.specs.Row.{segments, row_of};
@@ -10,7 +12,7 @@ use pairs::pair_at;
 use stepping::lay_on;
 
 // What a sweep counts.
-#[derive(Drop)]
+#[derive(Clone, Copy)]
 pub struct Swept {
     // The cells that it newly lit.
     pub lit: u16,

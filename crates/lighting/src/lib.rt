@@ -1,4 +1,6 @@
 // Spans of columns, lit in the words of a row of the lit map under work: four words of 64 bits a row.
+#![tactic(auto)]
+
 ghost use Rattle.std.specs.Prelude.{◌≡◌, ◌+◌, ◌-◌, ◌≤◌, ◌<◌, min};
 ghost use Rattle.model.specs.Map.{word_of};
 ghost use Rattle.segments.specs.Columns.{in_span};

@@ -1,4 +1,6 @@
 // The rows under work, written to the lent lists row after row.
+#![tactic(auto)]
+
 ghost use Rattle.std.specs.Prelude.{◌≡◌, length};
 ghost use Rattle.model.specs.Row.{row_length};
 ghost use Rattle.model.specs.Map.{row_words};

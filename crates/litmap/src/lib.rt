@@ -1,4 +1,6 @@
 // The lit map of a picture: four words of 64 bits a row. Two answers on a row are read from the whole map.
+#![tactic(auto)]
+
 ghost use Rattle.std.specs.Prelude.{◌≡◌, not, [], ◌∷◌};
 ghost use Rattle.model.specs.Map.{lit_at, lit_cells, first_of, first_unlit};
 ghost use Rattle.litmap.specs.Words.{OnesIs, ClearIs};

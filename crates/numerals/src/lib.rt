@@ -1,4 +1,6 @@
 // Numbers and words put one after the other, each after a space: a number in decimal digits, a word in sixteen hexadecimal ones.
+#![tactic(auto)]
+
 ghost use Rattle.std.specs.Prelude.{◌≡◌, ◌<◌};
 ghost use Rattle.text.specs.Text.{spaced};
 ghost use Rattle.text.specs.Put.{Room, Put};

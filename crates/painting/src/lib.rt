@@ -1,4 +1,6 @@
 // The picture, the unlit lists and the lit map, painted patch after patch, front to back.
+#![tactic(auto)]
+
 ghost use Rattle.model.specs.Format.{decode, patch_numbered};
 ghost use Rattle.geometry.specs.Machine.{vec_of};
 ghost use Rattle.geometry.specs.Raster.{line_at};

@@ -1,11 +1,13 @@
 // The pairs of a row: read, written, put in and taken out.
+#![tactic(auto)]
+
 ghost use Rattle.std.specs.Prelude.{◌≤◌, ◌<◌, ◌≡◌, length};
 ghost use Rattle.segments.specs.Segments.{Reads, written};
 ghost use Rattle.model.specs.Row.{used_pairs};
 ghost use Rattle.pairs.specs.Pairs.{Inserts, Removes, CarriesEight, Settles, ShiftsEight, Closes};
 
 // A segment, as a row holds it.
-#[derive(Drop)]
+#[derive(Clone, Copy)]
 pub struct Pair {
     pub offset: u16,
     pub count: u16,

@@ -1,4 +1,6 @@
 // Question 8 of a patch in hand, of 3 to 8 corners: is it flat and strictly convex?
+#![tactic(auto)]
+
 ghost use Rattle.std.specs.Prelude.{◌≡◌};
 ghost use Rattle.geometry.specs.Machine.{VectorIs};
 ghost use Rattle.format.specs.Patch.{patch_of};

@@ -1,10 +1,12 @@
 // The positions of a span, from I to J, against a segment, from Min to Max (document 01's eight positions).
+#![tactic(auto)]
+
 ghost use Rattle.std.specs.Prelude.{◌≤◌};
 ghost use Rattle.positions.specs.Positions.{Acts};
 
 // What to do with the segment: paint the columns that it shares with the span, keep those before the span,
 // keep those after it, go on to the next segment.
-#[derive(Drop)]
+#[derive(Clone, Copy)]
 pub struct Action {
     pub paint: bool,
     pub before: bool,

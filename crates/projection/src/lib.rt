@@ -1,4 +1,6 @@
 // A flat patch projected along an axis: each corner by its two other coordinates.
+#![tactic(auto)]
+
 ghost use Rattle.std.specs.Prelude.{◌≡◌, ◌+◌, ◌≤◌, ◌<◌, ◌*ℤ◌};
 ghost use Rattle.integer.specs.Magnitude.{Within};
 ghost use Rattle.geometry.specs.Machine.{Bounded, NumberIs};
@@ -7,14 +9,14 @@ ghost use Rattle.projection.specs.Projected.{wrap, projected, projected_of, proj
 use geometry::Vector;
 
 // the part of the patch's normal along the axis, and how many corners it has
-#[derive(Drop)]
+#[derive(Clone, Copy)]
 pub struct Projection {
     pub part: i64,
     pub count: usize,
 }
 
 // a corner projected along an axis: its two other coordinates
-#[derive(Drop)]
+#[derive(Clone, Copy)]
 pub struct Point {
     pub u: i64,
     pub v: i64,

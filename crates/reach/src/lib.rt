@@ -1,4 +1,6 @@
 // The rows of a raster that a patch can be met in, and whether it lies beside all of its columns.
+#![tactic(auto)]
+
 ghost use Rattle.std.specs.Prelude.{◌↔◌, T, pos, ◌-ℤ◌};
 ghost use Rattle.integer.specs.Magnitude.{Within};
 ghost use Rattle.model.specs.Vector.{cross};
@@ -16,20 +18,20 @@ use geometry::{Raster, Vector, eye_product};
 use spans::{Span, clip_any};
 
 // The planes that the rows of a raster lie in, with the eye, or those that its columns lie in, by their normals: first + k · next for row or column k.
-#[derive(Drop)]
+#[derive(Clone, Copy)]
 pub struct Planes {
     pub first: Vector,
     pub next: Vector,
 }
 
-#[derive(Drop)]
+#[derive(Clone, Copy)]
 pub struct RasterPlanes {
     pub rows: Planes,
     pub columns: Planes,
 }
 
 // The rows in which every corner lies ahead of the row's plane, where its normal points to, and those in which every corner lies behind it.
-#[derive(Drop)]
+#[derive(Clone, Copy)]
 struct Sides {
     ahead: Span,
     behind: Span,

@@ -1,4 +1,6 @@
 // The picture, the unlit lists, the lit map, the patches' cells and the counts of an accepted scene, as a camera at an eye sees it.
+#![tactic(auto)]
+
 ghost use Rattle.camera.specs.Machine.{view_of};
 ghost use Rattle.rendering.specs.Painted.{PaintingAsked, Rendered};
 

@@ -1,4 +1,6 @@
 // Reads an eye, a window and a scene from standard input and writes the bill: the cells of each panel.
+#![tactic(auto)]
+
 use bill::{LONGEST, write_bill};
 use console::{Got, read_all, tell, write_or_tell};
 use libc::STDIN_FILENO;

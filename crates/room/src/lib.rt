@@ -1,4 +1,6 @@
 // Room for what a survey leaves, as far as it goes: buffers of their largest sizes, and how much of each a call has use for.
+#![tactic(auto)]
+
 ghost use Rattle.std.specs.Prelude.{◌≡◌, ◌≤◌, min, length};
 ghost use Rattle.model.specs.Format.{decode};
 ghost use Rattle.model.specs.Questions.{scene_answer};

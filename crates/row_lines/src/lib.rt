@@ -1,4 +1,6 @@
 // A row of unlit segments, its words of the lit map and its cells, written as a line, and spans laid with what they report: for the programs that show how spans are laid.
+#![tactic(auto)]
+
 ghost use Rattle.std.specs.Prelude.{◌≡◌, Bool, ℕ, ◌≤◌, length};
 ghost use Rattle.text.specs.Put.{Room, Put};
 ghost use Rattle.model.specs.Row.{row_of, after_span};

@@ -1,4 +1,6 @@
 // A row of unlit segments and its words of the lit map: built, painted over by spans of columns, handed out.
+#![tactic(auto)]
+
 ghost use Rattle.std.specs.Prelude.{◌≡◌, Bool, true, ◌&&◌, [], ◌∷◌, ℕ, ◌≤◌, length};
 ghost use Rattle.model.specs.Lists.{range, tally};
 ghost use Rattle.model.specs.Row.{row_of, used_part, after_span};
@@ -13,7 +15,7 @@ use lighting::light;
 use pairs::used_part;
 
 // What laying a span reports.
-#[derive(Drop)]
+#[derive(Clone, Copy)]
 pub struct Laid {
     // No column of the row is unlit any more.
     pub full: bool,

@@ -1,6 +1,8 @@
 // Lays a span on a row of 16 columns whose segments are columns 4 to 11 and 14 to 15: in each of the eight positions against the first of them, then up to a column that is lit and on such columns alone,
 // at the row's end and beyond it, wholly beyond it, and without a column; and then one over all of the row, and one on the row that is full. Writes after each its number, what laying it reported (the segments looked at, the
 // cells newly lit, 1 where no column is unlit any more), the row's used pairs, its words of the lit map, and its cells: 1 beside the segments, 2 in the span.
+#![tactic(auto)]
+
 ghost use Rattle.std.specs.Prelude.{◌≡◌, [], ◌∷◌, length};
 ghost use Rattle.rows.specs.Span.{UnderWork};
 

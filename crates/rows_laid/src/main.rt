@@ -1,6 +1,8 @@
 // Lays the spans that stand on standard input on a fresh row, in order, the n-th with panel n. Writes after each its number, what laying it reported (the segments looked at, the cells
 // newly lit, 1 where no column is unlit any more), the row's used pairs, its words of the lit map and its cells. The input holds the row's width and then each span's first and last column, in numbers of two bytes,
 // the low byte first. At most 4,096 spans are laid, none on a row wider than 256, and a last one that is not whole is left out.
+#![tactic(auto)]
+
 ghost use Rattle.std.specs.Prelude.{◌≤◌, length};
 
 use console::{Got, read_all, tell};

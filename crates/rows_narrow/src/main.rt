@@ -1,6 +1,8 @@
 // Lays spans on a row of 256 columns whose segments are as narrow and as many as they can be: panel 1 leaves 64 segments of three columns, and panel 2 splits each of them
 // in its middle, which leaves 128 of one column. Panel 3 is laid over all of these by one span, and then, on a copy, over four of them alone, in each way that a span can meet
 // one, and over the other 124 by one span. Writes after each step its number, the row's used pairs, its words of the lit map and its cells.
+#![tactic(auto)]
+
 ghost use Rattle.std.specs.Prelude.{length};
 ghost use Rattle.rows.specs.Span.{UnderWork};
 

@@ -1,5 +1,7 @@
 // Writes for each number k on standard input the k-th span of the worst case, its first and its last column; and, where k is at most 65,535, how many segments the first k of
 // them look at together. The numbers are of eight bytes, the low byte first; at most 1,024 are taken, and a last one that is not whole is left out.
+#![tactic(auto)]
+
 ghost use Rattle.std.specs.Prelude.{◌+◌, ◌≤◌, length};
 
 use console::{Got, read_all, tell, write_or_tell};

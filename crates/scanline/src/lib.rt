@@ -1,4 +1,6 @@
 // A patch in one row of the picture: its span is found and laid on the row's unlit columns.
+#![tactic(auto)]
+
 ghost use Rattle.std.specs.Prelude.{ℕ, ◌≤◌, length};
 ghost use Rattle.spans.specs.Span.{covers};
 ghost use Rattle.spans.specs.Row.{all_above};

@@ -1,4 +1,6 @@
 // The lines of a bill, put into a lent buffer.
+#![tactic(auto)]
+
 ghost use Rattle.std.specs.Prelude.{◌≡◌, ◌≤◌, length};
 ghost use Rattle.text.specs.Put.{Room, Put};
 ghost use Rattle.sheet.specs.Sheet.{view_line, panel_line, panel_list, nothing_line, sheet, refusal};

@@ -1,4 +1,6 @@
 // The edge functions of a patch by their slopes along a row. A level one, that of an edge along the rows, is the same in all columns: it tells whole rows, once for all.
+#![tactic(auto)]
+
 ghost use Rattle.slopes.specs.Sloped.{OneAsked, KeepsOne};
 
 use geometry::EdgeFunction;
@@ -6,7 +8,7 @@ use spans::{Span, clip_any};
 use tables::store_function;
 
 // How many functions have a slope, and the rows that the others leave.
-#[derive(Drop)]
+#[derive(Clone, Copy)]
 pub struct Sloped {
     pub count: usize,
     pub reach: Span,

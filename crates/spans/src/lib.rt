@@ -1,4 +1,6 @@
 // The columns of a row where each of some edge functions is above 0: one span of consecutive columns.
+#![tactic(auto)]
+
 ghost use Rattle.std.specs.Prelude.{◌≡◌, true, ◌+◌, ◌/◌, ◌≤◌, pos, nat_abs, ◌<ℤ◌, ◌≤ℤ◌};
 ghost use Rattle.geometry.specs.Raster.{FunctionBounded};
 ghost use Rattle.spans.specs.Span.{Occupied, Shaped, number_at, Linear, Clipped, BesideLit, ClippedBut};
@@ -9,7 +11,7 @@ use geometry::EdgeFunction;
 use tables::function_at;
 
 // The columns first .. end − 1. A span with no column is written 0 and 0.
-#[derive(Drop)]
+#[derive(Clone, Copy)]
 pub struct Span {
     pub first: usize,
     pub end: usize,

@@ -1,4 +1,6 @@
 // Where a survey is made from: a station in units or in metres, and its eye.
+#![tactic(auto)]
+
 ghost use Rattle.std.specs.Prelude.{◌≡◌, ◌^◌, ◌≤◌, ◌<◌};
 ghost use Rattle.model.specs.Station.{metres, nearest_whole, whole_units};
 ghost use Rattle.station.specs.Bits.{SizeIs};
@@ -8,7 +10,7 @@ use format::records::vector;
 use geometry::Vector;
 
 // "Three doubles travel together as one station"
-#[derive(Drop)]
+#[derive(Clone, Copy)]
 pub struct Metres {
     pub x: f64,
     pub y: f64,
@@ -16,21 +18,21 @@ pub struct Metres {
 }
 
 // "A station arrives either as units or as three doubles in metres"
-#[derive(Drop)]
+#[derive(Clone, Copy)]
 pub enum Station {
     Units(i16, i16, i16),
     Metres(Metres),
 }
 
 // A double's whole number of units; any number where there is none in range.
-#[derive(Drop)]
+#[derive(Clone, Copy)]
 struct Whole {
     in_range: bool,
     number: i64,
 }
 
 // What a station stands for: its eye; any eye where a double of it is not finite or out of range.
-#[derive(Drop)]
+#[derive(Clone, Copy)]
 pub struct Located {
     pub in_range: bool,
     pub eye: Vector,

@@ -1,4 +1,6 @@
 // Surveys stored scenes at the limits of the questions and prints each one's name and answer. A file holds a view (12 bytes) and a scene.
+#![tactic(auto)]
+
 ghost use Rattle.std.specs.Prelude.{◌≤◌, length};
 
 use console::{Got, read_all, write_or_tell};

@@ -1,4 +1,6 @@
 // A span of columns is laid on one segment of a row.
+#![tactic(auto)]
+
 ghost use Rattle.std.specs.Prelude.{◌≡◌, cond, ◌+◌, ◌<◌, min, max};
 ghost use Rattle.segments.specs.Segments.{segment_at};
 ghost use Rattle.stepping.specs.Step.{Overlaps, Keeps, Reached, Steps};
@@ -8,7 +10,7 @@ use pairs::{insert, pair_at, remove, set_pair};
 use positions::{Action, action_for};
 
 // The next segment to look at, whether the span may meet it, and how many cells of this one the span lit.
-#[derive(Drop)]
+#[derive(Clone, Copy)]
 pub struct Step {
     pub next: usize,
     pub go: bool,

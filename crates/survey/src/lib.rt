@@ -1,4 +1,6 @@
 // The calls for a console in C: the survey and its gate, from a station in units and from one in metres, and two answers on a row of the lit map.
+#![tactic(auto)]
+
 pub mod map;
 pub mod metres;
 pub mod units;

@@ -1,4 +1,6 @@
 // The survey from a station, which the calls for a console share.
+#![tactic(auto)]
+
 ghost use Rattle.camera.specs.Machine.{camera_of};
 ghost use Rattle.station.specs.Machine.{station_of};
 ghost use Rattle.contract.specs.Contract.{lent_of, Surveyed};

@@ -1,4 +1,6 @@
 // A table of edge functions, three numbers an entry.
+#![tactic(auto)]
+
 ghost use Rattle.std.specs.Prelude.{◌≡◌, ◌+◌, ◌*◌, ◌≤◌, length};
 ghost use Rattle.geometry.specs.Raster.{FunctionBounded};
 ghost use Rattle.tables.specs.Stored.{Stored};

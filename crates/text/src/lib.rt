@@ -1,4 +1,6 @@
 // Text put into a lent buffer: bytes, words, decimal numbers and lines. Each function answers the place after what it put.
+#![tactic(auto)]
+
 ghost use Rattle.std.specs.Prelude.{◌<◌, [], ◌∷◌};
 ghost use Rattle.text.specs.Text.{digit, decimal, spaced, numbers, line};
 ghost use Rattle.text.specs.Put.{Room, Put};

@@ -1,4 +1,6 @@
 // The patches of a walk, one after the other, on all rows under work.
+#![tactic(auto)]
+
 ghost use Rattle.std.specs.Prelude.{◌≤◌};
 ghost use Rattle.traversal.specs.Walk.{FirstOpen, WalkAsked, WholePainted};
 

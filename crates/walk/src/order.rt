@@ -14,7 +14,7 @@ use format::records::Node;
 use geometry::{Vector, plane_normal, side};
 
 // a node's children: the one on the eye's side, and the other
-#[derive(Drop)]
+#[derive(Clone, Copy)]
 pub struct Children {
     pub near: usize,
     pub far: usize,

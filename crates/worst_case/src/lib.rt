@@ -1,9 +1,11 @@
 // The worst case of laying spans: those that look at the most segments of a row 256 wide, and at how many.
+#![tactic(auto)]
+
 ghost use Rattle.std.specs.Prelude.{◌≡◌};
 ghost use Rattle.worst_case.specs.WorstCase.{worst_column, worst_span, worst_looks, bounds_together};
 
 // The columns of a span, both ends counted in, as `rows::lay` takes them.
-#[derive(Drop)]
+#[derive(Clone, Copy)]
 pub struct Columns {
     pub first: u16,
     pub last: u16,
