@@ -5,18 +5,12 @@ use Rattle.integer.proofs.Machine.{machine, result}
 use Rattle.model.specs.Vector.{Vec, dot}
 use Rattle.geometry.specs.Machine.{vec_of}
 use Rattle.geometry.proofs.Results.{number}
-use Rattle.geometry.proofs.side.Statement.{statement}
-use Rattle.geometry.proofs.side.Tie as tie
+use Rattle.geometry.proofs.side.Goals as goal
 
-pub side_spec : {M : Type 1} → statement M
-side_spec =
-    tie.close
-    (tie.spec
-    (λ c κs. search rules)
-    (λ c κs. search rules)
-    (λ c. number (
+pub returns : goal.returns
+returns c = number (
       search (machine, result) depth 40 fits 20000,
       tt,
       tt,
-      ap (λ (u : Vec). dot u (vec_of c.before.before.args.normal)) c.before.from-to.ensures.value,
-    )))
+      ap (λ (u : Vec). dot u (vec_of c.args.normal)) c.from_to.ensures.value,
+    )
