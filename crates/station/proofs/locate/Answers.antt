@@ -10,10 +10,10 @@ use Rattle.station.proofs.locate.Goals as goal
 
 pub returns-in-Units : goal.returns-in-Units
 returns-in-Units c =
-    subst (λ (s : Station). LocatedAt (station_of s) (record { in_range = true; eye = c.vector.result })) (sym c.station-1.given.1)
+    subst (λ (s : Station). LocatedAt (station_of s) (record { in_range = true; eye = c.vector.result })) (sym c.in-Units.is)
     (at_units (handed (search rules) (search rules) (search rules) c.vector.ensures))
 
 pub returns-in-Metres : goal.returns-in-Metres
 returns-in-Metres c =
-    subst (λ (s : Station). LocatedAt (station_of s) c.located_in_metres.result) (sym c.station-in-Metres-1.given.1)
+    subst (λ (s : Station). LocatedAt (station_of s) c.located_in_metres.result) (sym c.in-Metres.is)
     c.located_in_metres.ensures
