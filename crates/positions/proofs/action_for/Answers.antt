@@ -2,13 +2,12 @@
 use mathlib.Core.Path.{refl}
 use native.Mathlib.Omega.{arith}
 use borrow.Author.Tests.{lt-ltb, le-ltb, le-leb, lt-leb}
-use Rattle.positions.proofs.action_for.Statement.{statement}
-use Rattle.positions.proofs.action_for.Tie as tie
+use Rattle.positions.proofs.action_for.Goals as goal
 
-returns : tie.Need-returns
-returns c =
-    let s = c.before in
-    let h = c.if1.true in
+pub returns-then-max-first : goal.returns-then-max-first
+returns-then-max-first c =
+    let s = c in
+    let h = c.if-max-first.true in
     record {
       paint_is = rw (lt-leb s.args.first s.args.max h);
       before_is = rw (lt-ltb s.args.min s.args.first (omega (arith, s.requires)));
@@ -16,26 +15,23 @@ returns c =
       next_is = rw (lt-ltb s.args.max s.args.last (omega (arith, s.requires)));
     }
 
-returns_2 : tie.Need-returns-2
-returns_2 c =
-    let s = c.before.before in
-    let h = c.if2.true in
+pub returns-then-last-min : goal.returns-then-last-min
+returns-then-last-min c =
+    let s = c in
+    let h = c.if-last-min.true in
     record {
-      paint_is = rw (le-leb s.args.first s.args.max c.before.if1.false, lt-leb s.args.min s.args.last h);
+      paint_is = rw (le-leb s.args.first s.args.max c.if-max-first.false, lt-leb s.args.min s.args.last h);
       before_is = rw (le-ltb s.args.min s.args.first (omega (arith, s.requires)));
       after_is = rw (lt-ltb s.args.last s.args.max (omega (arith, s.requires)));
       next_is = rw (le-ltb s.args.max s.args.last (omega (arith, s.requires)));
     }
 
-returns_3 : tie.Need-returns-3
-returns_3 c =
-    let s = c.before.before in
+pub returns : goal.returns
+returns c =
+    let s = c in
     record {
-      paint_is = rw (le-leb s.args.first s.args.max c.before.if1.false, le-leb s.args.min s.args.last c.if2.false);
+      paint_is = rw (le-leb s.args.first s.args.max c.if-max-first.false, le-leb s.args.min s.args.last c.if-last-min.false);
       before_is = refl;
       after_is = refl;
       next_is = refl;
     }
-
-pub action_for_spec : {M : Type 1} → statement M
-action_for_spec = tie.close (tie.spec returns returns_2 returns_3)
