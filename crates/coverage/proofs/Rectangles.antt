@@ -73,6 +73,7 @@ module _ (n : ℕ) {left right low high : ℤ} (wide : left <ℤ right) (tall : 
   each P a b c d (Memᴰ.tail (Memᴰ.head e)) = subst P (sym e) b
   each P a b c d (Memᴰ.tail (Memᴰ.tail (Memᴰ.head e))) = subst P (sym e) c
   each P a b c d (Memᴰ.tail (Memᴰ.tail (Memᴰ.tail (Memᴰ.head e)))) = subst P (sym e) d
+  each P a b c d {e = e} (Memᴰ.tail (Memᴰ.tail (Memᴰ.tail (Memᴰ.tail x)))) = elim x [ ]
 
   inside : {w b a : ℤ} → pos 0 <ℤ w → {x : ℤ} → w *ℤ (b -ℤ a) ≡ x → a ≤ℤ b → pos 0 ≤ℤ x
   inside h e l = subst (pos 0 ≤ℤ◌) e (*_nonneg (<→≤ h) (≤_diff l))

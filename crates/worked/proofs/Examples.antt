@@ -270,6 +270,7 @@ reversed_covers n q k h = (
     mirrored (Memᴰ.tail (Memᴰ.head e)) = Memᴰ.tail (Memᴰ.tail (Memᴰ.head e))
     mirrored (Memᴰ.tail (Memᴰ.tail (Memᴰ.head e))) = Memᴰ.tail (Memᴰ.head e)
     mirrored (Memᴰ.tail (Memᴰ.tail (Memᴰ.tail (Memᴰ.head e)))) = Memᴰ.head e
+    mirrored {a = a} {b = b} {c = c} {d = d} {v = v} (Memᴰ.tail (Memᴰ.tail (Memᴰ.tail (Memᴰ.tail x)))) = elim x [ ]
 
     turned : (c : Vec) → Memᴰ c around.corners ↔ Memᴰ c back.corners
     turned c = (mirrored, mirrored)

@@ -1,0 +1,7 @@
+use mathlib.Core.Path.{◌∙◌}
+use Rattle.children.proofs.Named.{once_named}
+use borrow.Author.Rules.{rules}
+use Rattle.children.proofs.named_once.Goals as goal
+
+pub returns : goal.returns
+returns c = c.each_once.ensures ∙ once_named c.requires c.times_named.ensures

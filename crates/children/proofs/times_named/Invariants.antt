@@ -1,0 +1,12 @@
+use mathlib.Core.Path.{◌∙◌}
+use Prim.Native.Nat.{◌-◌}
+use borrow.Author.Rules.{rules}
+use Rattle.format.specs.Layout.{node_number}
+use Rattle.children.proofs.Named.{Counted, none_counted, room_first, room_second, one_counted, all_counted_lem}
+use Rattle.children.proofs.times_named.Given as goal
+
+abbrev pub invariant-loop-k : goal.invariant-loop-k
+invariant-loop-k l = Counted (node_number l.bytes) l.l.nodes l.times l.k
+
+abbrev pub decreases-loop-k : goal.decreases-loop-k
+decreases-loop-k l = l.n - l.k

@@ -1,0 +1,16 @@
+use mathlib.Core.Path.{ap, ◌∙◌}
+use Prim.Native.Nat.{ℕ, ◌-◌}
+use borrow.Author.Rules.{rules}
+use borrow.Author.Tests.{not-true, not-false}
+use Rattle.model.specs.Format.{PatchRecord}
+use Rattle.model.specs.Questions.{within}
+use Rattle.format.specs.Layout.{patch_number}
+use Rattle.model.proofs.Loops.{Passed, none_passed, one_passed, refused, accepted}
+use Rattle.scene.proofs.RunTables.{counts_asked}
+use Rattle.scene.proofs.runs.all_counted.Given as goal
+
+abbrev pub invariant-loop-k : goal.invariant-loop-k
+invariant-loop-k l = Passed l.l.patches (λ (j : ℕ). within 3 8 (patch_number l.bytes l.l j).corner_run.count) l.k
+
+abbrev pub decreases-loop-k : goal.decreases-loop-k
+decreases-loop-k l = l.n - l.k

@@ -1,0 +1,14 @@
+-- `sheet::put_panels` meets its contract: the lines of the panels passed are put.
+use mathlib.Core.Path.{◌≡◌, refl, ◌∙◌}
+use Prim.Native.Nat.{◌-◌}
+use native.Mathlib.Omega.{arith}
+use borrow.Author.Rules.{rules}
+use lib.ListN.{length}
+use Rattle.sheet.proofs.Panels.{Listed, listed_none, panel_room, listed_more, listed_all}
+use Rattle.sheet.proofs.put_panels.Given as goal
+
+abbrev pub invariant-loop-panel : goal.invariant-loop-panel
+invariant-loop-panel l = Listed l.counts l.initial.out l.at l.out l.end l.panel × (length l.out ≡ length l.initial.out)
+
+abbrev pub decreases-loop-panel : goal.decreases-loop-panel
+decreases-loop-panel l = length l.counts - l.panel
