@@ -1,0 +1,11 @@
+-- `clear_table` meets its contract: the entries before entry n are 0.
+use Prim.Native.Nat.{◌-◌}
+use lib.ListN.{length}
+use Rattle.cells.proofs.Clearing.{Cleared}
+use Rattle.cells.proofs.clear_table.Given as goal
+
+abbrev pub invariant-loop-n : goal.invariant-loop-n
+invariant-loop-n l = Cleared l.initial.booked l.booked l.n
+
+abbrev pub decreases-loop-n : goal.decreases-loop-n
+decreases-loop-n l = length l.initial.booked - l.n

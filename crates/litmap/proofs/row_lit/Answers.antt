@@ -1,0 +1,9 @@
+-- `row_lit` meets its contract.
+use Rattle.litmap.proofs.Rows.{no_cells, cells_of}
+use Rattle.litmap.proofs.row_lit.Goals as goal
+
+pub returns-then-lit-row : goal.returns-then-lit-row
+returns-then-lit-row c = search (no_cells)
+
+pub returns : goal.returns
+returns c = search (cells_of)
