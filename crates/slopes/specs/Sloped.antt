@@ -4,7 +4,6 @@ use Rattle.geometry.specs.declared.EdgeFunction.{EdgeFunction}
 use Rattle.geometry.specs.Raster.{FunctionBounded}
 use Rattle.tables.specs.Stored.{Stored}
 use Rattle.tables.specs.Functions.{function_at}
-use Rattle.spans.specs.declared.Span.{Span}
 use Rattle.spans.specs.Span.{Shaped, Clipped}
 use Rattle.slopes.specs.declared.Sloped.{Sloped}
 

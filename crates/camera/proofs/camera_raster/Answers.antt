@@ -1,5 +1,4 @@
 -- `camera::camera_raster` meets its contract: the vectors are the first direction and its changes.
-use borrow.Author.Rules.{rules}
 use Rattle.camera.proofs.Rays.{first_column, row_fits, first_row, straight_on, rays_made}
 use Rattle.camera.proofs.camera_raster.Goals as goal
 

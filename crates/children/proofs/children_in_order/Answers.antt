@@ -1,10 +1,7 @@
 use mathlib.Core.Path.{ap, ◌∙◌}
-use Prim.Native.Nat.{ℕ, ◌-◌}
-use borrow.Author.Rules.{rules}
 use borrow.Author.Tests.{not-true, not-false}
-use Rattle.format.specs.Layout.{node_number}
 use Rattle.children.specs.Children.{proper_children}
-use Rattle.model.proofs.Loops.{Passed, none_passed, one_passed, refused, accepted}
+use Rattle.model.proofs.Loops.{none_passed, one_passed, refused, accepted}
 use Rattle.children.proofs.ChildOrder.{order_asked}
 use Rattle.children.proofs.children_in_order.Goals as goal
 

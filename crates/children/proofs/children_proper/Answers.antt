@@ -1,7 +1,6 @@
 use borrow.Author.Tests.{not-true, not-false}
 use Rattle.model.proofs.Loops.{first_no, second_decides}
 use Rattle.children.proofs.ChildOrder.{proper_both}
-use borrow.Author.Rules.{rules}
 use Rattle.children.proofs.children_proper.Goals as goal
 
 pub returns-then-not-children_in_order : goal.returns-then-not-children_in_order

@@ -1,6 +1,4 @@
-use Prim.Native.Nat.{◌-◌}
-use borrow.Author.Rules.{rules}
-use Rattle.children.proofs.Named.{OnceTo, none_once, one_once, not_once, all_once}
+use Rattle.children.proofs.Named.{none_once, one_once, not_once, all_once}
 use Rattle.children.proofs.each_once.Goals as goal
 
 pub loop-k-init : goal.loop-k-init

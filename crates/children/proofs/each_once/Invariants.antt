@@ -1,6 +1,5 @@
 use Prim.Native.Nat.{◌-◌}
-use borrow.Author.Rules.{rules}
-use Rattle.children.proofs.Named.{OnceTo, none_once, one_once, not_once, all_once}
+use Rattle.children.proofs.Named.{OnceTo}
 use Rattle.children.proofs.each_once.Given as goal
 
 abbrev pub invariant-loop-k : goal.invariant-loop-k

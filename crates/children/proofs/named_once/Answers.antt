@@ -1,6 +1,5 @@
 use mathlib.Core.Path.{◌∙◌}
 use Rattle.children.proofs.Named.{once_named}
-use borrow.Author.Rules.{rules}
 use Rattle.children.proofs.named_once.Goals as goal
 
 pub returns : goal.returns

@@ -2,7 +2,6 @@ use Rattle.format.specs.Machine.{node_of}
 use borrow.Author.Tests.{not-true, not-false}
 use Rattle.children.proofs.ChildOrder.{children_both}
 use Rattle.model.proofs.Loops.{first_no, second_decides}
-use borrow.Author.Rules.{rules}
 use Rattle.children.proofs.proper_children.Goals as goal
 
 pub returns-then-not-proper_child : goal.returns-then-not-proper_child

@@ -1,8 +1,6 @@
 use mathlib.Core.Path.{◌∙◌}
-use Prim.Native.Nat.{◌-◌}
-use borrow.Author.Rules.{rules}
 use Rattle.format.specs.Layout.{node_number}
-use Rattle.children.proofs.Named.{Counted, none_counted, room_first, room_second, one_counted, all_counted_lem}
+use Rattle.children.proofs.Named.{none_counted, room_first, room_second, one_counted, all_counted_lem}
 use Rattle.children.proofs.times_named.Goals as goal
 
 pub loop-k-init : goal.loop-k-init

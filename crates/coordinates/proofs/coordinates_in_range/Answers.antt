@@ -1,7 +1,6 @@
 use borrow.Author.Tests.{not-true, not-false}
 use Rattle.model.proofs.Loops.{first_no, second_decides}
 use Rattle.coordinates.proofs.InRange.{coordinates_both}
-use borrow.Author.Rules.{rules}
 use Rattle.coordinates.proofs.coordinates_in_range.Goals as goal
 
 pub returns-then-not-nodes_in_range : goal.returns-then-not-nodes_in_range

@@ -1,10 +1,7 @@
 use mathlib.Core.Path.{ap, ◌∙◌}
 use borrow.Author.Tests.{not-true, not-false}
-use Prim.Native.Nat.{ℕ, ◌-◌}
-use borrow.Author.Rules.{rules}
 use Rattle.model.specs.Questions.{point_in_range}
-use Rattle.format.specs.Layout.{corner_number}
-use Rattle.model.proofs.Loops.{Passed, none_passed, one_passed, refused, accepted}
+use Rattle.model.proofs.Loops.{none_passed, one_passed, refused, accepted}
 use Rattle.coordinates.proofs.InRange.{corners_asked}
 use Rattle.coordinates.proofs.corners_in_range.Goals as goal
 

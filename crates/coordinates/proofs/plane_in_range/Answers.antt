@@ -1,6 +1,5 @@
 use borrow.Author.Tests.{not-true, not-false}
 use Rattle.coordinates.proofs.InRange.{a_outside, b_outside, c_decides}
-use borrow.Author.Rules.{rules}
 use Rattle.coordinates.proofs.plane_in_range.Goals as goal
 
 pub returns-then-not-point_in_range : goal.returns-then-not-point_in_range

@@ -1,5 +1,4 @@
 -- `coordinates::point_in_range` meets its contract: the limit is the one that the definition names.
-use borrow.Author.Rules.{rules}
 use Rattle.coordinates.proofs.point_in_range.Goals as goal
 
 pub returns : goal.returns

@@ -1,6 +1,5 @@
 -- `room::patches_told` meets its contract: an accepted scene has a header, which tells its patches.
 use Prim.Native.Nat.{zero-le}
-use borrow.Author.Rules.{rules}
 use Rattle.room.proofs.Told.{none_told, all_told}
 use Rattle.room.proofs.patches_told.Goals as goal
 

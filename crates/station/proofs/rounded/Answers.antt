@@ -1,6 +1,5 @@
 -- `rounded` meets its contract: twice the remainder is compared with the divisor by comparing the remainder with its half.
 use mathlib.Core.Path.{refl}
-use borrow.Author.Rules.{rules}
 use native.Mathlib.Omega.{arith}
 use Rattle.station.proofs.Rounding.{back_le, whole_small, under_half, over_half, at_half}
 use Rattle.station.proofs.rounded.Goals as goal

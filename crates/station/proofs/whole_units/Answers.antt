@@ -5,7 +5,6 @@ use native.Mathlib.Omega.{arith}
 use lib.Dec.{T}
 use lib.Ieee.{binary64, fits}
 use borrow.Author.Tests.{le-leb, lt-leb}
-use borrow.Author.Rules.{rules}
 use Rattle.station.proofs.Doubles.{no_nan, refused, nan_out, beyond_out, within_is, word_is, word_opposite_fits, word_opposite}
 use Rattle.station.proofs.whole_units.Goals as goal
 

@@ -1,11 +1,7 @@
-use mathlib.Core.Path.{ap, ◌∙◌}
 use Prim.Native.Nat.{ℕ, ◌-◌}
-use borrow.Author.Rules.{rules}
-use borrow.Author.Tests.{not-true, not-false}
 use Rattle.format.specs.Layout.{patch_number}
 use Rattle.scene.specs.Tests.{panel_in_range}
-use Rattle.model.proofs.Loops.{Passed, none_passed, one_passed, refused, accepted}
-use Rattle.scene.proofs.NeverFalling.{panels_asked_lem}
+use Rattle.model.proofs.Loops.{Passed}
 use Rattle.scene.proofs.panels.panels_in_range.Given as goal
 
 abbrev pub invariant-loop-k : goal.invariant-loop-k

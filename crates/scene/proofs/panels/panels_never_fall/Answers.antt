@@ -1,11 +1,8 @@
 use mathlib.Core.Path.{ap, ◌∙◌}
-use Prim.Native.Nat.{ℕ, ◌-◌}
-use borrow.Author.Rules.{rules}
 use borrow.Author.Tests.{not-true, not-false}
 use Rattle.model.specs.Format.{NodeRecord, decode}
-use Rattle.format.specs.Layout.{node_number}
 use Rattle.scene.specs.Tests.{run_never_falls}
-use Rattle.model.proofs.Loops.{Passed, none_passed, one_passed, refused, accepted}
+use Rattle.model.proofs.Loops.{none_passed, one_passed, refused, accepted}
 use Rattle.scene.proofs.NeverFalling.{falls_asked, run_inside}
 use Rattle.scene.proofs.panels.panels_never_fall.Goals as goal
 

@@ -1,7 +1,6 @@
 use borrow.Author.Tests.{not-true, not-false}
 use Rattle.model.proofs.Loops.{first_no, second_decides}
 use Rattle.scene.proofs.NeverFalling.{panels_both}
-use borrow.Author.Rules.{rules}
 use Rattle.scene.proofs.panels.panels_proper.Goals as goal
 
 pub returns-then-not-panels_in_range : goal.returns-then-not-panels_in_range

@@ -1,9 +1,6 @@
-use mathlib.Core.Path.{ap, ◌∙◌}
 use Prim.Native.Nat.{ℕ, ◌-◌}
-use borrow.Author.Rules.{rules}
-use Rattle.model.specs.Format.{PatchRecord}
 use Rattle.format.specs.Layout.{patch_number}
-use Rattle.scene.proofs.NeverFalling.{RisingTo, none_rise, falls, one_rises, all_rise, run_panels}
+use Rattle.scene.proofs.NeverFalling.{RisingTo}
 use Rattle.scene.proofs.panels.run_never_falls.Given as goal
 
 abbrev pub invariant-loop-k : goal.invariant-loop-k

@@ -1,5 +1,4 @@
 use Rattle.scene.proofs.OffOneLine.{x_not_zero, y_not_zero, z_not_zero, all_zero}
-use borrow.Author.Rules.{rules}
 use Rattle.scene.proofs.planes.off_one_line.Goals as goal
 
 pub returns-then-v-ne0 : goal.returns-then-v-ne0

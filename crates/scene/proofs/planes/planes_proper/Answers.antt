@@ -1,11 +1,8 @@
 use mathlib.Core.Path.{ap, ◌∙◌}
-use Prim.Native.Nat.{ℕ, ◌-◌}
-use borrow.Author.Rules.{rules}
 use borrow.Author.Tests.{not-true, not-false}
 use Rattle.model.specs.Format.{NodeRecord}
 use Rattle.model.specs.Questions.{off_one_line}
-use Rattle.format.specs.Layout.{node_number}
-use Rattle.model.proofs.Loops.{Passed, none_passed, one_passed, refused, accepted}
+use Rattle.model.proofs.Loops.{none_passed, one_passed, refused, accepted}
 use Rattle.scene.proofs.OffOneLine.{planes_asked, node_bounded}
 use Rattle.scene.proofs.planes.planes_proper.Goals as goal
 

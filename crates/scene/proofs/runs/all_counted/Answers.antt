@@ -1,11 +1,8 @@
 use mathlib.Core.Path.{ap, ◌∙◌}
-use Prim.Native.Nat.{ℕ, ◌-◌}
-use borrow.Author.Rules.{rules}
 use borrow.Author.Tests.{not-true, not-false}
 use Rattle.model.specs.Format.{PatchRecord}
 use Rattle.model.specs.Questions.{within}
-use Rattle.format.specs.Layout.{patch_number}
-use Rattle.model.proofs.Loops.{Passed, none_passed, one_passed, refused, accepted}
+use Rattle.model.proofs.Loops.{none_passed, one_passed, refused, accepted}
 use Rattle.scene.proofs.RunTables.{counts_asked}
 use Rattle.scene.proofs.runs.all_counted.Goals as goal
 

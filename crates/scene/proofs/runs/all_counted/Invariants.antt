@@ -1,12 +1,7 @@
-use mathlib.Core.Path.{ap, ◌∙◌}
 use Prim.Native.Nat.{ℕ, ◌-◌}
-use borrow.Author.Rules.{rules}
-use borrow.Author.Tests.{not-true, not-false}
-use Rattle.model.specs.Format.{PatchRecord}
 use Rattle.model.specs.Questions.{within}
 use Rattle.format.specs.Layout.{patch_number}
-use Rattle.model.proofs.Loops.{Passed, none_passed, one_passed, refused, accepted}
-use Rattle.scene.proofs.RunTables.{counts_asked}
+use Rattle.model.proofs.Loops.{Passed}
 use Rattle.scene.proofs.runs.all_counted.Given as goal
 
 abbrev pub invariant-loop-k : goal.invariant-loop-k

@@ -2,7 +2,6 @@ use mathlib.Core.Path.{sym, ◌∙◌}
 use borrow.Author.Tests.{not-true, not-false}
 use Rattle.model.proofs.Loops.{first_no, second_decides}
 use Rattle.scene.proofs.RunTables.{corner_runs_both}
-use borrow.Author.Rules.{rules}
 use Rattle.scene.proofs.runs.corner_runs_follow.Goals as goal
 
 pub returns-then-not-corners_follow : goal.returns-then-not-corners_follow

@@ -2,7 +2,6 @@ use mathlib.Core.Path.{◌∙◌}
 use native.Mathlib.Omega.{arith}
 use Rattle.format.proofs.PatchRecords.{record_fits}
 use Rattle.scene.proofs.RunTables.{patch_runs_read}
-use borrow.Author.Rules.{rules}
 use Rattle.scene.proofs.runs.corners_follow.Goals as goal
 
 pub returns : goal.returns

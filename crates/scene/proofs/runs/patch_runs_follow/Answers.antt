@@ -1,6 +1,5 @@
 use mathlib.Core.Path.{◌∙◌}
 use Rattle.scene.proofs.RunTables.{node_runs_read}
-use borrow.Author.Rules.{rules}
 use Rattle.scene.proofs.runs.patch_runs_follow.Goals as goal
 
 pub returns : goal.returns

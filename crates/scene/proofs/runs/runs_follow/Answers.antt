@@ -1,9 +1,7 @@
-use Prim.Native.Nat.{ℕ, ◌+◌, ◌*◌, ◌-◌, ◌≤◌}
+use Prim.Native.Nat.{◌+◌, ◌*◌, ◌≤◌}
 use native.Mathlib.Omega.{arith}
 use lib.ListN.{length}
-use borrow.Author.Rules.{rules}
-use Rattle.scene.specs.Tests.{run_at}
-use Rattle.scene.proofs.Following.{FollowTo, none_follow, breaks, one_follows, all_follow}
+use Rattle.scene.proofs.Following.{none_follow, breaks, one_follows, all_follow}
 use Rattle.scene.proofs.runs.runs_follow.Goals as goal
 
 pub loop-k-init : goal.loop-k-init

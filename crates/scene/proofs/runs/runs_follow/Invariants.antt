@@ -1,9 +1,6 @@
-use Prim.Native.Nat.{ℕ, ◌+◌, ◌*◌, ◌-◌, ◌≤◌}
-use native.Mathlib.Omega.{arith}
-use lib.ListN.{length}
-use borrow.Author.Rules.{rules}
+use Prim.Native.Nat.{ℕ, ◌+◌, ◌*◌, ◌-◌}
 use Rattle.scene.specs.Tests.{run_at}
-use Rattle.scene.proofs.Following.{FollowTo, none_follow, breaks, one_follows, all_follow}
+use Rattle.scene.proofs.Following.{FollowTo}
 use Rattle.scene.proofs.runs.runs_follow.Given as goal
 
 abbrev pub invariant-loop-k : goal.invariant-loop-k

@@ -1,7 +1,6 @@
 use borrow.Author.Tests.{not-true, not-false}
 use Rattle.model.proofs.Loops.{first_no, second_decides}
 use Rattle.scene.proofs.RunTables.{runs_both}
-use borrow.Author.Rules.{rules}
 use Rattle.scene.proofs.runs.runs_proper.Goals as goal
 
 pub returns-then-not-patch_runs_follow : goal.returns-then-not-patch_runs_follow

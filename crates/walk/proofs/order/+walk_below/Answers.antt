@@ -1,5 +1,4 @@
 -- `walk_below` meets its contract: what is below the near child, the node's own run, and what is below the far child, one after the other.
-use mathlib.Core.Path.{◌∙◌}
 use native.Mathlib.Omega.{arith}
 use Rattle.model.proofs.Ranges.{range_length}
 use Rattle.checked.proofs.Nodes.{no_node}

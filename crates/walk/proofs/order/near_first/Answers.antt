@@ -1,5 +1,4 @@
 -- `walk::order::near_first` meets its contract.
-use borrow.Author.Rules.{rules}
 use Rattle.integer.proofs.Comparison.{comparisons}
 use Rattle.geometry.proofs.Results.{side_of_plane}
 use Rattle.walk.proofs.NearSide.{from_behind, from_before}

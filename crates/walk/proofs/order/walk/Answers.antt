@@ -1,6 +1,5 @@
 -- `walk::order::walk` meets its contract.
 use native.Mathlib.Omega.{arith}
-use borrow.Author.Rules.{rules}
 use Rattle.geometry.specs.Machine.{vec_of}
 use Rattle.walk.proofs.Descents.{whole_length, whole_walk}
 use Rattle.walk.proofs.order.walk.Goals as goal

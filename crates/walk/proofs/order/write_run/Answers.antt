@@ -1,7 +1,5 @@
 -- `walk::order::write_run` meets its contract: while the loop runs, the first i numbers of the run stand in the list.
-use Prim.Native.Nat.{◌-◌}
-use native.Mathlib.Omega.{arith}
-use Rattle.walk.proofs.Writes.{Writing, writing_none, writing_more, writing_all}
+use Rattle.walk.proofs.Writes.{writing_none, writing_more, writing_all}
 use Rattle.walk.proofs.order.write_run.Goals as goal
 
 pub loop-i-init : goal.loop-i-init

@@ -11,10 +11,10 @@ use mir.Val.{Fits, SFits, to_z, of_z}
 use mir.ValLaws.{to_z-of_z}
 use Rattle.integer.proofs.Order.{<→≤}
 use Rattle.integer.proofs.Magnitude.{within_signed}
-use Rattle.spans.proofs.past_quotient.Statement.{statement}
-use Rattle.spans.proofs.past_quotient.Tie as tie
+use Rattle.spans.proofs.past_quotient.Goals as goal
 
 -- a number not below 0 passes through a cast to an unsigned type
+
 as_unsigned : {z : ℤ} → SFits w64 z → pos 0 ≤ℤ z → T (non_neg (to_z w64 (of_z w64 z))) × Fits w64 (nat_abs (to_z w64 (of_z w64 z)))
 as_unsigned {z} f h = rw (to_z-of_z w64 z f) (yes_non_neg h, record { fits = omega (arith, (within_signed f).within) })
 
@@ -28,22 +28,19 @@ size_above {z} h = go z h.lt
 quotient : {n d : ℤ} → SFits w64 n → SFits w64 d → nat_abs (to_z w64 (of_z w64 n)) / nat_abs (to_z w64 (of_z w64 d)) ≡ nat_abs n / nat_abs d
 quotient {n} {d} f g = ap₂ (λ (x y : ℤ). nat_abs x / nat_abs y) (to_z-of_z w64 n f) (to_z-of_z w64 d g)
 
-cast-result : tie.Need-overflow-cast-result
-cast-result c = as_unsigned c.ranges.n c.requires.0
+pub overflow_cast-result : goal.overflow_cast-result
+overflow_cast-result c = as_unsigned c.ranges.n c.requires.0
 
-cast-result-2 : tie.Need-overflow-cast-result-2
-cast-result-2 c = as_unsigned c.ranges.d (<→≤ c.requires.1)
+pub overflow_cast-result-2 : goal.overflow_cast-result-2
+overflow_cast-result-2 c = as_unsigned c.ranges.d (<→≤ c.requires.1)
 
-div-result : tie.Need-nonzero-div-result
-div-result c = rw (to_z-of_z w64 c.args.d c.ranges.d) (size_above c.requires.1)
+pub nonzero_div-result : goal.nonzero_div-result
+nonzero_div-result c = rw (to_z-of_z w64 c.args.d c.ranges.d) (size_above c.requires.1)
 
-add-result : tie.Need-overflow-add-result
-add-result c =
+pub overflow_add-result : goal.overflow_add-result
+overflow_add-result c =
     rw (quotient c.ranges.n c.ranges.d)
     (record { fits = omega (arith, (within_signed c.ranges.n).within, div-le_self (nat_abs c.args.n) (nat_abs c.args.d)) })
 
-returns : tie.Need-returns
+pub returns : goal.returns
 returns c = rw (quotient c.ranges.n c.ranges.d)
-
-pub past_quotient_spec : {M : Type 1} → statement M
-past_quotient_spec = tie.close (tie.spec cast-result cast-result-2 div-result add-result returns)
