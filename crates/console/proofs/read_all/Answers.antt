@@ -13,8 +13,8 @@ take_split a b old new h front =
     ap (λ l. l ++ slice_range new a b) (sym front) ∙ sym (take-add a (b - a) new) ∙ ap (λ n. take n new) same
 
 -- a part that is put into a list stands there
-slice_range-put_mid : (a k n : ℕ) (xs ys : List ℕ) → a ≤ length xs → n ≤ length ys → slice_range (put_mid a k xs ys) a (a + n) ≡ take n ys
-slice_range-put_mid a k n xs ys within fits =
+slice_range_put_mid : (a k n : ℕ) (xs ys : List ℕ) → a ≤ length xs → n ≤ length ys → slice_range (put_mid a k xs ys) a (a + n) ≡ take n ys
+slice_range_put_mid a k n xs ys within fits =
     let same : (a + n) - a ≡ n = omega arith in
     let after = post_of a k xs in
     ap (take ((a + n) - a)) (drop_at (take a xs) (ys ++ after) a (length-take-le a xs within)) ∙ ap (λ m. take m (ys ++ after)) same ∙ take-append-le n ys after fits
@@ -25,7 +25,7 @@ loop-done-preserved g c =
     let from = c.loop-done.done in
     let room = length c.loop-done.buffer - from in
     let within = c.loop-done.invariant.0 in
-    let part = slice_range-put_mid from room c.in-Bytes.more c.loop-done.buffer c.read_some.new.part within c.in-Bytes.ensures.counted.0 in
+    let part = slice_range_put_mid from room c.in-Bytes.more c.loop-done.buffer c.read_some.new.part within c.in-Bytes.ensures.counted.0 in
     let joined = take_split from (from + c.in-Bytes.more) c.loop-done.buffer (put_mid from room c.loop-done.buffer c.read_some.new.part) (omega arith) (take-put_mid_below _ _ _ _ _ (le_refl _) within) in (
       search rules,
       search rules,
