@@ -11,7 +11,7 @@ pub loop-k-init : goal.loop-k-init
 loop-k-init c = added_starts c.args.totals.now c.requires.entries c.clear_table.ensures
 
 pub patch_record-panel-requires : goal.patch_record-panel-requires
-patch_record-panel-requires c = (c.requires.scene, (let in_table : c.loop-k.k < c.args.l.patches = omega (arith, c.loop-k-test.true, c.requires.patches) in in_table))
+patch_record-panel-requires c = (c.requires.scene, omega (arith, c.loop-k-test.true, c.requires.patches))
 
 pub overflow_cast-panel : goal.overflow_cast-panel
 overflow_cast-panel c = omega (arith, (let has_entry : c.patch_record-panel.result.panel < count_entries = rw c.patch_record-panel.ensures.panel_is (c.requires.numbered c.loop-k.k (let in_table : c.loop-k.k < c.args.l.patches = omega (arith, c.loop-k-test.true, c.requires.patches) in in_table)) in has_entry))
@@ -53,7 +53,7 @@ pub bounds-totals-0 : goal.bounds-totals-0
 bounds-totals-0 c = omega (arith, c.loop-k.invariant.entries)
 
 pub shape_of-totals : goal.shape_of-totals
-shape_of-totals c = length-set c.loop-k.totals 0 c.loop-k.rest ∙ c.loop-k.invariant.entries ∙ sym c.requires.entries
+shape_of-totals c = length-set c.loop-k.totals 0 _ ∙ c.loop-k.invariant.entries ∙ sym c.requires.entries
 
 pub returns : goal.returns
 returns c = added_ends c.loop-k.invariant c.loop-k-test.false
