@@ -82,7 +82,7 @@ module _ {o u v : Vec} {n : Planes} (h : PlanesOf o u v n) {α ω : ℤ} (steep 
       (λ (f g : Vec).
       dot (plus (plus (times α (plus (plus o (times (pos i) u)) (times (pos k) v))) (times ε u)) (times ω v))
       (plus (times α (times sign (plus f (times (pos k) g)))) (times (ω *ℤ sign) g)))
-      h.first_is_lem.value h.next_is.value
+      h.first_is.value h.next_is.value
       ∙ square o u v (pos i) (pos k) sign α ε ω
 
   plane_missed :

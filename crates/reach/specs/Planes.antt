@@ -14,7 +14,7 @@ use Rattle.reach.specs.declared.RasterPlanes.{RasterPlanes}
 -- Rows, or columns, whose rays go along one vector, and that follow each other by another. The normals are square to the rays: along × origin in the first, and along × next
 -- more from each to the next.
 pub record PlanesOf (origin along next : Vec) (n : Planes) : Type 0 where
-  pub first_is_lem : VectorIs 225200000 (cross along origin) n.first
+  pub first_is : VectorIs 225200000 (cross along origin) n.first
   pub next_is : VectorIs 225200000 (cross along next) n.next
 
 -- the rows go across and follow each other down, the columns the other way round
