@@ -1,6 +1,5 @@
 -- `call::axes_proper` meets its contract: each vector's parts are asked, and then the sign of the product.
 use native.Mathlib.Omega.{arith}
-use borrow.Author.Rules.{rules}
 use borrow.Author.Tests.{not-true, not-false}
 use Rattle.model.specs.Questions.{axes_proper}
 use Rattle.call.proofs.CallTests.{first_fails, second_fails, third_fails, fourth_decides}
@@ -20,18 +19,16 @@ unfolding axes_proper
 returns-then-not-parts_up_to-3 c = search (third_fails, not-true)
 
 pub cross_product-requires : goal.cross_product-requires
-cross_product-requires c =
-    (
-      short _ (omega arith) c.parts_up_to-2.ensures c.if-not-parts_up_to-2.false-raw,
-      short _ (omega arith) c.parts_up_to-3.ensures c.if-not-parts_up_to-3.false-raw,
-    )
+cross_product-requires c = (
+  short _ (omega arith) c.parts_up_to-2.ensures c.if-not-parts_up_to-2.false-raw,
+  short _ (omega arith) c.parts_up_to-3.ensures c.if-not-parts_up_to-3.false-raw,
+)
 
 pub dot_product-requires : goal.dot_product-requires
-dot_product-requires c =
-    (
-      short _ (omega arith) c.parts_up_to.ensures c.if-not-parts_up_to.false-raw,
-      c.cross_product.ensures.bounded,
-    )
+dot_product-requires c = (
+  short _ (omega arith) c.parts_up_to.ensures c.if-not-parts_up_to.false-raw,
+  c.cross_product.ensures.bounded,
+)
 
 pub returns : goal.returns
 unfolding axes_proper

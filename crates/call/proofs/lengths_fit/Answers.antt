@@ -1,4 +1,3 @@
-use borrow.Author.Rules.{rules}
 use Rattle.model.specs.Questions.{lengths_fit}
 use Rattle.call.proofs.CallTests.{picture_differs, counts_differ, patch_counts_differ, unlit_differs, lit_decides}
 use Rattle.call.proofs.lengths_fit.Goals as goal

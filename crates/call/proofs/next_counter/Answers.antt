@@ -1,7 +1,6 @@
 -- `call::next_counter` meets its contract: a tile inside the window holds the last cell exactly where it ends with the window.
 use mathlib.Core.Path.{sym}
 use native.Mathlib.Omega.{arith}
-use borrow.Author.Rules.{rules}
 use Rattle.model.proofs.CallLimits.{tile_inside}
 use Rattle.model.proofs.LastCell.{raised, kept_columns, kept_rows}
 use Rattle.camera.specs.Machine.{camera_of}

@@ -1,5 +1,4 @@
 -- `call::tile_in_window` meets its contract: the tests one after the other.
-use borrow.Author.Rules.{rules}
 use borrow.Author.Tests.{not-true, not-false}
 use Rattle.call.proofs.CallTests.{first_fails, second_fails, third_fails, fourth_decides}
 use Rattle.call.proofs.tile_in_window.Goals as goal

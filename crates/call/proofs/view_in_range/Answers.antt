@@ -1,5 +1,4 @@
 -- `call::view_in_range` meets its contract: the eye, the window and the tile are asked one after the other.
-use borrow.Author.Rules.{rules}
 use borrow.Author.Tests.{not-true, not-false}
 use Rattle.model.specs.Questions.{view_in_range}
 use Rattle.call.proofs.CallTests.{first_of_three, second_of_three, third_of_three}

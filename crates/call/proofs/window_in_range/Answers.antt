@@ -1,5 +1,4 @@
 -- `call::window_in_range` meets its contract: the tests one after the other.
-use borrow.Author.Rules.{rules}
 use borrow.Author.Tests.{not-true, not-false}
 use Rattle.call.proofs.CallTests.{first_of_three, second_of_three, third_of_three}
 use Rattle.call.proofs.window_in_range.Goals as goal

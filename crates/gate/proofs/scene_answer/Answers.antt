@@ -2,7 +2,6 @@
 use mathlib.Core.Path.{◌≡◌}
 use mathlib.Core.List.{List}
 use Prim.Native.Nat.{ℕ}
-use borrow.Author.Rules.{rules}
 use Rattle.model.specs.Questions.{scene_questions, scene_answer}
 use Rattle.model.proofs.FirstNo.{said_yes, said, RefusedAt, refused_at, AllYes, no_no}
 use Rattle.format.proofs.Sections.{header_inside}

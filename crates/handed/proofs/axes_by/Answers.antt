@@ -1,5 +1,4 @@
 -- `handed::axes_by` meets its contract: the parts pass through words unchanged.
-use borrow.Author.Rules.{rules}
 use Rattle.format.proofs.Words.{handed}
 use Rattle.handed.proofs.Handed.{same_axes}
 use Rattle.handed.proofs.axes_by.Goals as goal
