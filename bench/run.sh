@@ -4,8 +4,8 @@
 set -eu
 root=$(cd "$(dirname "$0")/.." && pwd)
 cd "$root"
-rt staticlib survey
-export SURVEY_LIB_DIR="$root/target/staticlib"
+export SURVEY_LIB_DIR="$root/target/library"
+python3 tests/library.py "$SURVEY_LIB_DIR"
 cargo build --release --offline --quiet --manifest-path bench/Cargo.toml
 commit=$(git rev-parse --short HEAD)
 [ -z "$(git status --porcelain crates)" ] || commit="$commit, with changes"

@@ -26,7 +26,7 @@ named - is standard output. Examples:
     1 1 1
     3 3 3
     255 255 30272
-    $ rows.py --bytes - 16 0-3 6-11 | target/bin/rows_laid
+    $ rows.py --bytes - 16 0-3 6-11 | crates/rows_laid/out/rows_laid
 
 It is worked out slowly: a row is the set of its unlit columns, and its segments are found anew from
 this set whenever they are asked for.

@@ -1,2 +1,3 @@
--- What is known of an input that was read.
+-- What is known of an input that was read, and of a text that was written.
 pub mod Bytes
+pub mod Written

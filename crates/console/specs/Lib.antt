@@ -1,2 +1,3 @@
 -- What the contracts of reading and writing cite.
 pub mod Reading
+pub mod Writing

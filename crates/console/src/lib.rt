@@ -1,8 +1,11 @@
 // Reading all of an input and writing all of an output. A failed read is told from the end of the input,
-// and a failed write is told on standard error.
+// and a failed write is told on another output, standard error in a program.
 #![tactic(auto)]
 
-ghost use Rattle.console.specs.Reading.{ReadInto};
+ghost use Rattle.console.specs.Reading.{ReadInto, TakesNext, EndsAtNone, EndsShort};
+ghost use Rattle.console.specs.Writing.{AppendsPart, Wrote, WroteOrTold};
+
+use std::io::{Read, Write};
 
 // What reading an input came to.
 #[derive(Clone, Copy)]
@@ -13,22 +16,26 @@ pub enum Got {
 }
 
 // One read: so many bytes, 0 at the end of the input.
-fn read_some(file: i32, part: &mut [u8]) -> Got
-    ensures { ReadInto result part.new }
+fn read_some<R: Read>(input: &mut R, part: &mut [u8]) -> Got
+    ensures counted { ReadInto result part.new }
+    ensures next { TakesNext (R.remaining input.old) (R.remaining input.new) result part.new }
+    ensures ended { EndsAtNone (R.remaining input.new) result part.new }
 {
-    let got = libc::read(file, part);
-    if got < 0 {
-        return Got::Failed;
+    match input.read(part) {
+        Ok(got) => Got::Bytes(got),
+        Err(_) => Got::Failed,
     }
-    Got::Bytes(io::count(got, part))
 }
 
-pub fn read_all(file: i32, buffer: &mut [u8]) -> Got
-    ensures { ReadInto result buffer.new }
+// Reads to the end of the input, or until the buffer is full.
+pub fn read_all<R: Read>(input: &mut R, buffer: &mut [u8]) -> Got
+    ensures counted { ReadInto result buffer.new }
+    ensures next { TakesNext (R.remaining input.old) (R.remaining input.new) result buffer.new }
+    ensures ended { EndsShort (R.remaining input.new) result buffer.new }
 {
     let mut done = 0;
     while done < buffer.len() {
-        let Got::Bytes(more) = read_some(file, &mut buffer[done..]) else {
+        let Got::Bytes(more) = read_some(input, &mut buffer[done..]) else {
             return Got::Failed;
         };
         if more == 0 {
@@ -39,14 +46,41 @@ pub fn read_all(file: i32, buffer: &mut [u8]) -> Got
     Got::Bytes(done)
 }
 
-// Writes the text to standard output. Where that fails, the message goes to standard error.
-pub fn write_or_tell(text: &[u8], message: &[u8]) {
-    if !io::write_all(libc::STDOUT_FILENO, text) {
-        tell(message);
+// Writes all of the text, or stops at the first write that takes nothing or fails, and then answers no.
+fn write_whole<W: Write>(output: &mut W, text: &[u8]) -> bool
+    ensures { Wrote (W.contents output.old) (W.contents output.new) text.now result }
+{
+    let mut done = 0;
+    while done < text.len() {
+        let Ok(more) = output.write(&text[done..]) else {
+            return false;
+        };
+        if more == 0 {
+            return false;
+        }
+        done += more;
+    }
+    true
+}
+
+// Writes the text to the output. Where that fails, the message goes to the other one, standard error in a program.
+pub fn write_or_tell<W: Write, E: Write>(
+    output: &mut W,
+    text: &[u8],
+    errors: &mut E,
+    message: &[u8],
+)
+    ensures { WroteOrTold (W.contents output.old) (W.contents output.new) text.now
+        (E.contents errors.old) (E.contents errors.new) message.now }
+{
+    if !write_whole(output, text) {
+        tell(errors, message);
     }
 }
 
-// a message, on standard error
-pub fn tell(message: &[u8]) {
-    io::write_all(libc::STDERR_FILENO, message);
+// a message, or as much of it as can be written
+pub fn tell<E: Write>(errors: &mut E, message: &[u8])
+    ensures { AppendsPart (E.contents errors.old) (E.contents errors.new) message.now }
+{
+    write_whole(errors, message);
 }

@@ -1,5 +1,5 @@
--- Cuttings that cover the same points show the same: along each generic line from one eye, and so in every cell of every accepted view.
-use mathlib.Core.Path.{◌≡◌, refl, subst, fun_ext}
+-- Cuttings that cover the same points show the same along each generic line from one eye.
+use mathlib.Core.Path.{◌≡◌, refl, subst}
 use mathlib.Core.Logic.{◌≢◌}
 use mathlib.Core.Bool.{not}
 use mathlib.Core.List.{List, Memᴰ}
@@ -11,19 +11,13 @@ use Rattle.model.specs.Vector.{Vec}
 use Rattle.model.specs.Bounds.{VecWithin}
 use Rattle.model.specs.Patch.{Patch}
 use Rattle.model.specs.Ray.{eye_product, met, distance, closest, IsClosest, none_met, shows}
-use Rattle.model.specs.View.{View}
-use Rattle.model.specs.Beside.{cell_line}
-use Rattle.model.specs.Picture.{cell_panel}
-use Rattle.model.specs.Questions.{view_in_range, axes_proper}
-use Rattle.model.proofs.CallLimits.{view_bounded}
-use Rattle.model.proofs.Sizes.{parts_within}
 use Rattle.model.proofs.Patches.{met_says}
 use Rattle.model.proofs.Precedes.{nearer, equal_not_below, not_nearer_trans}
 use Rattle.model.proofs.Closest.{closest_right, closest_only}
 use Rattle.model.proofs.Alike.{Sound}
-use Rattle.coverage.specs.Coverage.{covered, PanelCovers, SameCover}
+use Rattle.coverage.specs.Coverage.{covered, PanelCovers}
 use Rattle.coverage.proofs.Covered.{covered_says}
-use Rattle.coverage.proofs.Generic.{Generic, line_generic}
+use Rattle.coverage.proofs.Generic.{Generic}
 use Rattle.coverage.proofs.MetPoint.{met_numerators, met_denominator, denominator_positive, covers_met, one_point, met_covers}
 
 -- What one eye asks of two lists: a piece of the first whose plane does not hold the eye has, for each point that it covers, a piece of its panel in the second that
@@ -34,7 +28,7 @@ pub record Matched (eye : Vec) (ps qs : List Patch) : Type 0 where
       (q : Vec) (k : ℕ) → 0 < k → T (covered p q k) → PanelCovers qs p.panel q k
 
 -- a list that covers whatever another does matches it, from every eye
-covers_matched :
+pub covers_matched :
     {ps qs : List Patch} → ((n : ℕ) (q : Vec) (k : ℕ) → 0 < k → PanelCovers ps n q k → PanelCovers qs n q k) →
     (eye : Vec) → Matched eye ps qs
 covers_matched covers eye =
@@ -70,44 +64,33 @@ module _ {eye D : Vec} (eye_within : VecWithin 10000 eye) (generic : Generic D) 
   module _
       {ps qs : List Patch} (P : Sound ps) (Q : Sound qs) (forth : Matched eye ps qs) (back : Matched eye qs ps)
     where
-      carried : {n : ℕ} → IsClosest eye D ps n → IsClosest eye D qs n
-      carried (none_met f) = none_met (λ q m h. let c = counterpart Q P back q m h in f c.piece c.listed c.is_met)
-      carried (shows p m h least lowest) =
-          subst (IsClosest eye D qs) r.of_panel (shows r.piece r.listed r.is_met least' lowest')
-        where
-          r : Counterpart qs p
-          r = counterpart P Q forth p m h
-
-          least' : (q : Patch) → Memᴰ q qs → T (met eye D q) → T (not (nearer eye D q r.piece))
-          least' q k u =
-              let c = counterpart Q P back q k u in
-              not_T (nearer eye D q r.piece)
-              (not_nearer_trans eye D q c.piece r.piece c.is_met c.not_farther
-              (not_nearer_trans eye D c.piece p r.piece h
-              (T_not (nearer eye D c.piece p) (least c.piece c.listed c.is_met)) r.not_farther))
-
-          lowest' :
-              (q : Patch) → Memᴰ q qs → T (met eye D q) → T (not (nearer eye D r.piece q)) → r.piece.panel ≤ q.panel
-          lowest' q k u v =
-              let c = counterpart Q P back q k u in
-              let l : p.panel ≤ c.piece.panel =
-              lowest c.piece c.listed c.is_met
-              (not_T (nearer eye D p c.piece)
-              (not_nearer_trans eye D p r.piece c.piece r.is_met r.not_farther
-              (not_nearer_trans eye D r.piece q c.piece u (T_not (nearer eye D r.piece q) v) c.not_farther))) in
-              omega (arith, r.of_panel, c.of_panel)
-
       -- For one eye and two lists, each matched by the other: along a generic line their closest panels are one. Pieces may overlap, repeat and be turned round.
       pub cuttings_agree : closest eye D ps ≡ closest eye D qs
       cuttings_agree = closest_only eye D qs (carried (closest_right eye D ps))
+        where
+          carried : {n : ℕ} → IsClosest eye D ps n → IsClosest eye D qs n
+          carried (none_met f) = none_met (λ q m h. let c = counterpart Q P back q m h in f c.piece c.listed c.is_met)
+          carried (shows p m h least lowest) =
+              subst (IsClosest eye D qs) r.of_panel (shows r.piece r.listed r.is_met least' lowest')
+            where
+              r : Counterpart qs p
+              r = counterpart P Q forth p m h
 
--- "From every accepted view their pictures and panel counts must agree, by the joint rule of F-3": what the cells show is one function.
-pub same_cells :
-    (v : View) → T (view_in_range v) → T (axes_proper v.camera.axes) →
-    {ps qs : List Patch} → Sound ps → Sound qs → SameCover ps qs →
-    cell_panel v.eye (cell_line v.camera) ps ≡ cell_panel v.eye (cell_line v.camera) qs
-same_cells v view axes P Q same =
-    let forth = covers_matched (λ n q k h. (same n q k h).0) v.eye in
-    let back = covers_matched (λ n q k h. (same n q k h).1) v.eye in
-    let eye_within = parts_within 10000 v.eye (view_bounded v view).point in
-    fun_ext (λ i. fun_ext (λ j. cuttings_agree eye_within (line_generic v view axes i j) P Q forth back))
+              least' : (q : Patch) → Memᴰ q qs → T (met eye D q) → T (not (nearer eye D q r.piece))
+              least' q k u =
+                  let c = counterpart Q P back q k u in
+                  not_T (nearer eye D q r.piece)
+                  (not_nearer_trans eye D q c.piece r.piece c.is_met c.not_farther
+                  (not_nearer_trans eye D c.piece p r.piece h
+                  (T_not (nearer eye D c.piece p) (least c.piece c.listed c.is_met)) r.not_farther))
+
+              lowest' :
+                  (q : Patch) → Memᴰ q qs → T (met eye D q) → T (not (nearer eye D r.piece q)) → r.piece.panel ≤ q.panel
+              lowest' q k u v =
+                  let c = counterpart Q P back q k u in
+                  let l : p.panel ≤ c.piece.panel =
+                  lowest c.piece c.listed c.is_met
+                  (not_T (nearer eye D p c.piece)
+                  (not_nearer_trans eye D p r.piece c.piece r.is_met r.not_farther
+                  (not_nearer_trans eye D r.piece q c.piece u (T_not (nearer eye D r.piece q) v) c.not_farther))) in
+                  omega (arith, r.of_panel, c.of_panel)

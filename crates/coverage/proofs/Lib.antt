@@ -5,4 +5,5 @@ pub mod Hull
 pub mod Generic
 pub mod MetPoint
 pub mod Agreement
+pub mod SameCells
 pub mod Rectangles

@@ -46,7 +46,7 @@ use Rattle.contract.proofs.SameStation.{results_by_eye}
 use Rattle.model.proofs.PanelNumbers.{panel_bounded}
 use Rattle.contract.specs.Contract.{call_on, results, left_by, Surveyed}
 use Rattle.coverage.specs.Coverage.{SameCover}
-use Rattle.coverage.proofs.Agreement.{same_cells}
+use Rattle.coverage.proofs.SameCells.{same_cells}
 use Rattle.demands.specs.Demands.{cell, CellShows, patch_has, RefusesRightly, ClosestPanels, ClosestSurveyed, ChosenTakenAway, DemandThree, SameSurvey, TwoCuttings, PairSurveyed}
 
 -- an accepted call leaves the results

@@ -8,7 +8,7 @@ use lib.Seq.{length-take-le, take-suc, get_or-append-add, set_at}
 use Rattle.model.specs.Lists.{range}
 use Rattle.model.proofs.Ranges.{range_at}
 use Rattle.text.specs.Text.{digit}
-use Rattle.text.specs.Put.{Put}
+use Rattle.text.specs.Put.{Room, Put}
 use Rattle.numerals.specs.Listing.{hex_digit, hex_digits, word_digits}
 
 -- consecutive bytes: the digits below ten are such, and so are the letters after them
@@ -35,6 +35,10 @@ hexes_length (suc k) n = simp length-append (omega (arith, hexes_length k (n / 1
 
 pub word_length : (word : ℕ) → length (word_digits word) ≡ 16
 word_length word = hexes_length 16 word
+
+-- room for a word is room for sixteen digits
+pub word_room : (word : ℕ) {at : ℕ} {buffer : List ℕ} → Room (word_digits word) at buffer → at + 16 ≤ length buffer
+word_room word r = omega (arith, r.within, word_length word)
 
 -- the last digits are put, and i are still to be put before them: those of the rest
 pub record Ending (word : ℕ) (before : List ℕ) (at : ℕ) (after : List ℕ) (rest i : ℕ) : Type 0 where

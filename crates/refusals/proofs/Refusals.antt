@@ -8,7 +8,7 @@ use lib.IntN.{ℤ, pos, negsuc, neg_ℤ}
 use lib.ListN.{get_or, take, replicate}
 use lib.Ieee.{Float, nan, inf, binary64, of_bits}
 use Rattle.model.specs.Vector.{Vec, Plane, vec, origin}
-use Rattle.model.specs.View.{Window, Axes, Tile, level_axes, whole_tile}
+use Rattle.model.specs.View.{Window, Axes, level_axes, whole_tile}
 use Rattle.model.specs.Station.{units, metres}
 use Rattle.model.specs.Call.{Call}
 use Rattle.model.specs.Questions.{Question, answer, questions}

@@ -1,5 +1,7 @@
 -- What is told of a span that is laid.
 use Rattle.std.specs.Prelude.{Bool, cond, List, [], ◌∷◌, ℕ}
+use Rattle.std.specs.declared.option.Option.{Option}
+use Rattle.console.specs.Writing.{WroteOrTold}
 use Rattle.text.specs.Put.{Put}
 use Rattle.rows.specs.Span.{Reports}
 use Rattle.row_lines.specs.Line.{row_line}
@@ -16,3 +18,11 @@ pub record Told (unlit : ℕ → Bool) (first last width number : ℕ) (row' wor
   pub looked : ℕ
   pub reports : Reports unlit first last width full lit looked
   pub line : Put (row_line number (reported full lit looked) row' words' cells') 0 before after next
+
+-- The line of a span laid on the row of the set `unlit` is written, or a beginning of it, and then the message is told, or as much of it as can be.
+pub record WritesTold (unlit : ℕ → Bool) (first last width number : ℕ) (row' words' cells' : List ℕ) (held held' errors errors' : Option (List ℕ)) (message : List ℕ) : Type 0 where
+  pub full : Bool
+  pub lit : ℕ
+  pub looked : ℕ
+  pub reports : Reports unlit first last width full lit looked
+  pub line : WroteOrTold held held' (row_line number (reported full lit looked) row' words' cells') errors errors' message

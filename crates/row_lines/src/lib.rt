@@ -8,11 +8,13 @@ ghost use Rattle.model.specs.Map.{map_row};
 ghost use Rattle.laying.specs.Laid.{Lays};
 ghost use Rattle.rows.specs.Span.{UnderWork};
 ghost use Rattle.row_lines.specs.Line.{beginning, fields, row_line};
-ghost use Rattle.row_lines.specs.Told.{reported, Told};
+ghost use Rattle.row_lines.specs.Told.{reported, Told, WritesTold};
+ghost use Rattle.console.specs.Writing.{WroteOrTold};
 
 use console::write_or_tell;
 use numerals::{put_numbers, put_words};
 use rows::Laid;
+use std::io::Write;
 use text::{put_byte, put_number, put_text};
 
 // Room for every line: what laying a span reports, the 256 numbers of a row's pairs, its words, and as many cells.
@@ -81,8 +83,10 @@ fn put_row(
     )
 }
 
-// Writes a row's line, and nothing else: what the line is `put_row` promises.
-pub fn write_row(
+// Writes a row's line, and nothing else. Where that fails, the message goes to the other output.
+pub fn write_row<W: Write, E: Write>(
+    output: &mut W,
+    errors: &mut E,
     number: u32,
     reported: &[u16],
     row: &[u16; 256],
@@ -91,10 +95,12 @@ pub fn write_row(
     message: &[u8],
 )
     requires { (length reported.now ≤ 3) × (length cells.now ≤ 256) }
+    ensures { WroteOrTold (W.contents output.old) (W.contents output.new) (row_line number reported.now row.now words.now cells.now)
+        (E.contents errors.old) (E.contents errors.new) message.now }
 {
     let mut line = [0u8; ROOM];
     let end = put_row(&mut line, number, reported, row, words, cells);
-    write_or_tell(&line[..end], message);
+    write_or_tell(output, &line[..end], errors, message);
 }
 
 // Lays a span, and puts the line that tells of it: what laying it reported, the row, its words and its cells.
@@ -121,8 +127,10 @@ fn lay_and_put(
     put_row(line, number, &report(laid), row, words, cells)
 }
 
-// Lays a span, and writes after it the line that tells of it.
-pub fn lay_and_write(
+// Lays a span, and writes after it the line that tells of it. Where that fails, the message goes to the other output.
+pub fn lay_and_write<W: Write, E: Write>(
+    output: &mut W,
+    errors: &mut E,
     number: u32,
     row: &mut [u16; 256],
     words: &mut [u64; 4],
@@ -137,8 +145,11 @@ pub fn lay_and_write(
         Lays unlit first last panel cells.old row.new cells.new }
     ensures mapped { (unlit : ℕ → Bool) → row.old ≡ row_of (length cells.old) unlit →
         words.new ≡ map_row (length cells.old) (after_span unlit first last) }
+    ensures written { (unlit : ℕ → Bool) → row.old ≡ row_of (length cells.old) unlit →
+        WritesTold unlit first last (length cells.old) number row.new words.new cells.new
+        (W.contents output.old) (W.contents output.new) (E.contents errors.old) (E.contents errors.new) message.now }
 {
     let mut line = [0u8; ROOM];
     let end = lay_and_put(&mut line, number, row, words, cells, first, last, panel);
-    write_or_tell(&line[..end], message);
+    write_or_tell(output, &line[..end], errors, message);
 }

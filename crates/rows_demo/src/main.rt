@@ -22,6 +22,7 @@ fn two_segments(words: &mut [u64; 4], cells: &mut [u16]) -> [u16; 256]
 
 // A span of panel 2.
 fn lay_over(
+    rt: &HostRuntime,
     number: u32,
     row: &mut [u16; 256],
     words: &mut [u64; 4],
@@ -33,6 +34,8 @@ fn lay_over(
     ensures { UnderWork (length cells.new) row.new words.new }
 {
     lay_and_write(
+        &mut rt.stdout(),
+        &mut rt.stderr(),
         number,
         row,
         words,
@@ -44,31 +47,31 @@ fn lay_over(
     );
 }
 
-fn show(number: u32, first: u16, last: u16) {
+fn show(rt: &HostRuntime, number: u32, first: u16, last: u16) {
     let mut cells = [0u16; 16];
     let mut words = [0u64; 4];
     let mut row = two_segments(&mut words, &mut cells);
-    lay_over(number, &mut row, &mut words, &mut cells, first, last);
+    lay_over(rt, number, &mut row, &mut words, &mut cells, first, last);
 }
 
-fn main() {
-    show(1, 1, 2);
-    show(2, 2, 6);
-    show(3, 6, 8);
-    show(4, 2, 11);
-    show(5, 6, 11);
-    show(6, 2, 14);
-    show(7, 6, 14);
-    show(8, 12, 14);
-    show(9, 2, 12);
-    show(10, 12, 13);
-    show(11, 15, 15);
-    show(12, 14, 20);
-    show(13, 16, 65535);
-    show(14, 9, 8);
+fn main(rt: HostRuntime) {
+    show(&rt, 1, 1, 2);
+    show(&rt, 2, 2, 6);
+    show(&rt, 3, 6, 8);
+    show(&rt, 4, 2, 11);
+    show(&rt, 5, 6, 11);
+    show(&rt, 6, 2, 14);
+    show(&rt, 7, 6, 14);
+    show(&rt, 8, 12, 14);
+    show(&rt, 9, 2, 12);
+    show(&rt, 10, 12, 13);
+    show(&rt, 11, 15, 15);
+    show(&rt, 12, 14, 20);
+    show(&rt, 13, 16, 65535);
+    show(&rt, 14, 9, 8);
     let mut cells = [0u16; 16];
     let mut words = [0u64; 4];
     let mut row = two_segments(&mut words, &mut cells);
-    lay_over(15, &mut row, &mut words, &mut cells, 0, 15);
-    lay_over(16, &mut row, &mut words, &mut cells, 3, 5);
+    lay_over(&rt, 15, &mut row, &mut words, &mut cells, 0, 15);
+    lay_over(&rt, 16, &mut row, &mut words, &mut cells, 3, 5);
 }

@@ -6,14 +6,13 @@
 ghost use Rattle.std.specs.Prelude.{◌≤◌, length};
 
 use console::{Got, read_all, tell};
-use libc::STDIN_FILENO;
 use little_endian::u16_at;
 use row_lines::lay_and_write;
 
 // The width, and 4,096 spans of four bytes.
 const INPUT_ROOM: usize = 16386;
 
-fn lay_spans(spans: &[u8], cells: &mut [u16])
+fn lay_spans(rt: &HostRuntime, spans: &[u8], cells: &mut [u16])
     requires spans_len_bound { length spans.now ≤ 16384 }
     requires cells_len_bound { length cells.old ≤ 256 }
 {
@@ -26,6 +25,8 @@ fn lay_spans(spans: &[u8], cells: &mut [u16])
         let first = u16_at(spans, at) as u16;
         let last = u16_at(spans, at + 2) as u16;
         lay_and_write(
+            &mut rt.stdout(),
+            &mut rt.stderr(),
             number as u32,
             &mut row,
             &mut words,
@@ -39,10 +40,13 @@ fn lay_spans(spans: &[u8], cells: &mut [u16])
     }
 }
 
-fn main() {
+fn main(rt: HostRuntime) {
     let mut input = [0u8; INPUT_ROOM];
-    let Got::Bytes(n) = read_all(STDIN_FILENO, &mut input) else {
-        tell(b"rows_laid: standard input cannot be read\n");
+    let Got::Bytes(n) = read_all(&mut rt.stdin(), &mut input) else {
+        tell(
+            &mut rt.stderr(),
+            b"rows_laid: standard input cannot be read\n",
+        );
         return;
     };
     if n < 2 {
@@ -53,5 +57,5 @@ fn main() {
         return;
     }
     let mut cells = [0u16; 256];
-    lay_spans(&input[2..n], &mut cells[..width]);
+    lay_spans(&rt, &input[2..n], &mut cells[..width]);
 }

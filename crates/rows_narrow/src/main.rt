@@ -27,10 +27,12 @@ fn lay_every_fourth(
 }
 
 // The row after several spans: nothing is reported of it.
-fn show(step: u32, row: &[u16; 256], words: &[u64; 4], cells: &[u16])
+fn show(rt: &HostRuntime, step: u32, row: &[u16; 256], words: &[u64; 4], cells: &[u16])
     requires { UnderWork (length cells.now) row.now words.now }
 {
     write_row(
+        &mut rt.stdout(),
+        &mut rt.stderr(),
         step,
         &cells[..0],
         row,
@@ -42,6 +44,7 @@ fn show(step: u32, row: &[u16; 256], words: &[u64; 4], cells: &[u16])
 
 // A span of panel 3.
 fn lay_over(
+    rt: &HostRuntime,
     step: u32,
     row: &mut [u16; 256],
     words: &mut [u64; 4],
@@ -53,25 +56,65 @@ fn lay_over(
     ensures { UnderWork (length cells.new) row.new words.new }
 {
     rows::lay(row, words, cells, first, last, 3);
-    show(step, row, words, cells);
+    show(rt, step, row, words, cells);
 }
 
-fn main() {
+fn main(rt: HostRuntime) {
     let mut cells = [0u16; 256];
     let mut words = [0u64; 4];
     let mut row = rows::fresh(256);
     lay_every_fourth(&mut row, &mut words, &mut cells, 3, 1);
-    show(1, &row, &words, &cells);
+    show(&rt, 1, &row, &words, &cells);
     lay_every_fourth(&mut row, &mut words, &mut cells, 1, 2);
-    show(2, &row, &words, &cells);
+    show(&rt, 2, &row, &words, &cells);
     let mut other_cells = cells;
     let mut other_words = words;
     let mut other = row;
-    lay_over(3, &mut row, &mut words, &mut cells, 0, 255);
+    lay_over(&rt, 3, &mut row, &mut words, &mut cells, 0, 255);
     // the segments of columns 20, 40, 60 and 80: met alone, from both sides, from before, and from behind
-    lay_over(4, &mut other, &mut other_words, &mut other_cells, 20, 20);
-    lay_over(5, &mut other, &mut other_words, &mut other_cells, 39, 41);
-    lay_over(6, &mut other, &mut other_words, &mut other_cells, 59, 60);
-    lay_over(7, &mut other, &mut other_words, &mut other_cells, 80, 81);
-    lay_over(8, &mut other, &mut other_words, &mut other_cells, 0, 255);
+    lay_over(
+        &rt,
+        4,
+        &mut other,
+        &mut other_words,
+        &mut other_cells,
+        20,
+        20,
+    );
+    lay_over(
+        &rt,
+        5,
+        &mut other,
+        &mut other_words,
+        &mut other_cells,
+        39,
+        41,
+    );
+    lay_over(
+        &rt,
+        6,
+        &mut other,
+        &mut other_words,
+        &mut other_cells,
+        59,
+        60,
+    );
+    lay_over(
+        &rt,
+        7,
+        &mut other,
+        &mut other_words,
+        &mut other_cells,
+        80,
+        81,
+    );
+    lay_over(
+        &rt,
+        8,
+        &mut other,
+        &mut other_words,
+        &mut other_cells,
+        0,
+        255,
+    );
 }

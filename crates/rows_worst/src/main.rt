@@ -5,7 +5,6 @@
 ghost use Rattle.std.specs.Prelude.{◌+◌, ◌≤◌, length};
 
 use console::{Got, read_all, tell, write_or_tell};
-use libc::STDIN_FILENO;
 use little_endian::u32_at;
 use text::{put_byte, put_last, put_number, put_spaced};
 use worst_case::{worst_looks, worst_span};
@@ -24,30 +23,38 @@ fn put_looks(line: &mut [u8], at: usize, k: usize) -> usize
     put_byte(line, at, b'\n')
 }
 
-fn write_worst(k: usize) {
+fn write_worst(rt: &HostRuntime, k: usize) {
     let span = worst_span(k);
     let mut line = [0u8; 64];
     let first = put_number(&mut line, 0, span.first as u32);
     let last = put_spaced(&mut line, first, span.last as u32);
     let end = put_looks(&mut line, last, k);
-    write_or_tell(&line[..end], b"rows_worst: a line could not be written\n");
+    write_or_tell(
+        &mut rt.stdout(),
+        &line[..end],
+        &mut rt.stderr(),
+        b"rows_worst: a line could not be written\n",
+    );
 }
 
-fn write_each(numbers: &[u8]) {
+fn write_each(rt: &HostRuntime, numbers: &[u8]) {
     let mut at = 0;
     while 8 <= numbers.len() - at {
         let low = u32_at(numbers, at);
         let high = u32_at(numbers, at + 4);
-        write_worst(low + 4294967296 * high);
+        write_worst(rt, low + 4294967296 * high);
         at += 8;
     }
 }
 
-fn main() {
+fn main(rt: HostRuntime) {
     let mut input = [0u8; INPUT_ROOM];
-    let Got::Bytes(n) = read_all(STDIN_FILENO, &mut input) else {
-        tell(b"rows_worst: standard input cannot be read\n");
+    let Got::Bytes(n) = read_all(&mut rt.stdin(), &mut input) else {
+        tell(
+            &mut rt.stderr(),
+            b"rows_worst: standard input cannot be read\n",
+        );
         return;
     };
-    write_each(&input[..n]);
+    write_each(&rt, &input[..n]);
 }

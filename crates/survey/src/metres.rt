@@ -11,8 +11,7 @@ use handed::{axes_by, camera_by, in_metres};
 use surveying::survey_from;
 
 // `ring_gate` from a station in metres.
-#[unsafe(no_mangle)]
-pub extern "C" fn ring_gate_metres(
+pub fn ring_gate_metres(
     scene: &[u8],
     eye_x: f64,
     eye_y: f64,
@@ -72,8 +71,7 @@ pub extern "C" fn ring_gate_metres(
 }
 
 // `ring_survey` from a station in metres.
-#[unsafe(no_mangle)]
-pub extern "C" fn ring_survey_metres(
+pub fn ring_survey_metres(
     scene: &[u8],
     eye_x: f64,
     eye_y: f64,

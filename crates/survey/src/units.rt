@@ -12,8 +12,7 @@ use station::Station;
 use surveying::survey_from;
 
 // What the survey call answers on these numbers.
-#[unsafe(no_mangle)]
-pub extern "C" fn ring_gate(
+pub fn ring_gate(
     scene: &[u8],
     eye_x: i16,
     eye_y: i16,
@@ -73,8 +72,7 @@ pub extern "C" fn ring_gate(
 }
 
 // Checks the scene and paints one tile of its picture, or refuses and leaves all that is lent as it was. Width, height and lens are the window's; left and top place the tile in it, and what is lent has the tile's size.
-#[unsafe(no_mangle)]
-pub extern "C" fn ring_survey(
+pub fn ring_survey(
     scene: &[u8],
     eye_x: i16,
     eye_y: i16,

@@ -16,7 +16,7 @@ use Rattle.model.proofs.PatchTables.{kept_sound}
 use Rattle.model.proofs.Pictures.{picture_at}
 use Rattle.model.proofs.Removal.{chosen_counted, pictures_counted, cell_differs, cell_shows}
 use Rattle.coverage.specs.Coverage.{SameCover}
-use Rattle.coverage.proofs.Agreement.{same_cells}
+use Rattle.coverage.proofs.SameCells.{same_cells}
 use Rattle.windows.specs.Windows.{TileCall, Tiling, cell_from, whole_picture, added_count, WindowsTakenAway, SameWindow, WindowsCompare}
 use Rattle.windows.proofs.TileCalls.{tile_view, call, view_in_range_lem, sound, window_right}
 use Rattle.windows.proofs.WholeWindow.{held, cell_shown, whole_picture_lem, counts_add, all_told}

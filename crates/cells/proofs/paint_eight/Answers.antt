@@ -14,9 +14,7 @@ pub bounds-cells-at-in-loop-i : goal.bounds-cells-at-in-loop-i
 bounds-cells-at-in-loop-i c = omega (arith, eight_length c.loop-i.invariant)
 
 pub loop-i-preserved : goal.loop-i-preserved
-loop-i-preserved c =
-    let l = c in
-    eight_goes l.loop-i.invariant l.loop-i-test.true (omega arith) refl c.chosen.ensures
+loop-i-preserved c = eight_goes c.loop-i.invariant c.loop-i-test.true (omega arith) refl c.chosen.ensures
 
 pub shape_of-cells : goal.shape_of-cells
 shape_of-cells c = eight_length c.loop-i.invariant

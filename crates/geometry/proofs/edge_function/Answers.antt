@@ -1,5 +1,4 @@
 -- `geometry::edge_function` meets its contract: three dot products, each with its own bound, and one more where the edge counts in. Assumes nothing.
-use borrow.Author.Rules.{rules}
 use Rattle.geometry.proofs.EdgeNumbers.{sum_fits, function_is}
 use Rattle.geometry.proofs.edge_function.Goals as goal
 

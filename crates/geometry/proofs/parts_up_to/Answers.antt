@@ -1,6 +1,5 @@
 -- `geometry::parts_up_to` meets its contract: each part is asked, and the first beyond the limit decides.
 use borrow.Author.Tests.{not-true, not-false}
-use borrow.Author.Rules.{rules}
 use Rattle.geometry.proofs.Sizes.{word_up_to, x_beyond, y_beyond, z_decides}
 use Rattle.geometry.proofs.parts_up_to.Goals as goal
 

@@ -1,6 +1,5 @@
 -- `geometry::plane_normal` meets its contract: what it calls returns the differences and their cross product. Assumes nothing.
 use mathlib.Core.Path.{ap₂}
-use borrow.Author.Rules.{rules}
 use Rattle.model.specs.Vector.{cross}
 use Rattle.geometry.proofs.Results.{vector_by}
 use Rattle.geometry.proofs.plane_normal.Goals as goal

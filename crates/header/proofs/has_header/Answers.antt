@@ -1,6 +1,5 @@
 use native.Mathlib.Omega.{arith}
 use Rattle.header.proofs.HeaderTests.{too_short, too_long, other_version, not_reserved, header_whole}
-use borrow.Author.Rules.{rules}
 use Rattle.header.proofs.has_header.Goals as goal
 
 pub returns-then-n-lt-HEADER_SIZE : goal.returns-then-n-lt-HEADER_SIZE

@@ -1,6 +1,5 @@
 use borrow.Author.Tests.{not-true, not-false}
 use Rattle.header.proofs.HeaderTests.{no_nodes_lem, no_patches, no_corners, sections_whole}
-use borrow.Author.Rules.{rules}
 use Rattle.header.proofs.has_sections.Goals as goal
 
 pub returns-then-not-is_section : goal.returns-then-not-is_section

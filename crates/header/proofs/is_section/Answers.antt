@@ -1,5 +1,4 @@
 use Rattle.header.proofs.HeaderTests.{other_start, part_record, section_most}
-use borrow.Author.Rules.{rules}
 use Rattle.header.proofs.is_section.Goals as goal
 
 pub returns-then-s-start : goal.returns-then-s-start

@@ -1,5 +1,4 @@
 use Rattle.header.proofs.HeaderMade.{header_made}
-use borrow.Author.Rules.{rules}
 use Rattle.header.proofs.read_header.Goals as goal
 
 pub returns : goal.returns

@@ -1,5 +1,4 @@
 use Rattle.header.proofs.HeaderMade.{section_made}
-use borrow.Author.Rules.{rules}
 use Rattle.header.proofs.section_at.Goals as goal
 
 pub returns : goal.returns

@@ -7,8 +7,7 @@ use Rattle.laying.proofs.sweep.Goals as goal
 
 pub loop-looked-init : goal.loop-looked-init
 loop-looked-init c =
-    let b = c in
-    let h = b.requires in
+    let h = c.requires in
     passes _ _ _ h.0 h.1 c.segments_before-before.ensures
 
 pub shape_of-cells-then-p-eq0 : goal.shape_of-cells-then-p-eq0
@@ -16,41 +15,22 @@ shape_of-cells-then-p-eq0 c = c.loop-looked.invariant.on.width
 
 pub returns-then-p-eq0 : goal.returns-then-p-eq0
 returns-then-p-eq0 c =
-    let p = c in
-    let a = p in
-    let w = sweep_ends a.requires.0 p.pair_at-p.ensures a.loop-looked.invariant.on c.if-p-eq0.true in
+    let w = sweep_ends c.requires.0 c.pair_at-p.ensures c.loop-looked.invariant.on c.if-p-eq0.true in
     record { laid = w.0; counted = w.1.0; looked = w.1.1 }
 
 pub lay_on-s-requires : goal.lay_on-s-requires
-lay_on-s-requires c =
-    let e = c in
-    let p = e in
-    let i = p in
-    let a = i in
-    sweep_reached a.requires.0 p.pair_at-p.ensures a.loop-looked.invariant.on i.loop-looked-test.true e.if-p-eq0.false
+lay_on-s-requires c = sweep_reached c.requires.0 c.pair_at-p.ensures c.loop-looked.invariant.on c.loop-looked-test.true c.if-p-eq0.false
 
 pub loop-looked-preserved : goal.loop-looked-preserved
 loop-looked-preserved c =
-    let l = c in
-    let e = l in
-    let p = e in
-    let i = p in
-    let a = i in
-    sweep_goes a.requires.0 p.pair_at-p.ensures l.lay_on-s.ensures a.loop-looked.invariant.on i.loop-looked-test.true e.if-p-eq0.false c.if-s.true
+    sweep_goes c.requires.0 c.pair_at-p.ensures c.lay_on-s.ensures c.loop-looked.invariant.on c.loop-looked-test.true c.if-p-eq0.false c.if-s.true
 
 pub shape_of-cells-else-s : goal.shape_of-cells-else-s
-shape_of-cells-else-s c =
-    let l = c in
-    l.lay_on-s.auto.cells ∙ l.loop-looked.invariant.on.width
+shape_of-cells-else-s c = c.lay_on-s.auto.cells ∙ c.loop-looked.invariant.on.width
 
 pub returns-else-s : goal.returns-else-s
 returns-else-s c =
-    let l = c in
-    let e = l in
-    let p = e in
-    let i = p in
-    let a = i in
-    let w = sweep_stops a.requires.0 p.pair_at-p.ensures l.lay_on-s.ensures a.loop-looked.invariant.on i.loop-looked-test.true e.if-p-eq0.false c.if-s.false in
+    let w = sweep_stops c.requires.0 c.pair_at-p.ensures c.lay_on-s.ensures c.loop-looked.invariant.on c.loop-looked-test.true c.if-p-eq0.false c.if-s.false in
     record { laid = w.0; counted = w.1.0; looked = w.1.1 }
 
 pub shape_of-cells : goal.shape_of-cells
@@ -58,17 +38,13 @@ shape_of-cells c = c.loop-looked.invariant.on.width
 
 pub returns : goal.returns
 returns c =
-    let a = c in
-    let w = sweep_out a.requires.0 a.loop-looked.invariant.on c.loop-looked-test.false in
+    let w = sweep_out c.requires.0 c.loop-looked.invariant.on c.loop-looked-test.false in
     record { laid = w.0; counted = w.1.0; looked = w.1.1 }
 
 -- the counts of a turn
 
 pub overflow_add-lit : goal.overflow_add-lit
-overflow_add-lit c =
-    let l = c in
-    let a = l in
-    omega (arith, sweep_fits a.loop-looked.invariant.on l.lay_on-s.ensures)
+overflow_add-lit c = omega (arith, sweep_fits c.loop-looked.invariant.on c.lay_on-s.ensures)
 
 -- no more than 128 are looked at
 

@@ -6,19 +6,14 @@ use Rattle.lighting.proofs.Spans.{lights_none, lights_within}
 use Rattle.lighting.proofs.light.Goals as goal
 
 pub returns-then-last-first : goal.returns-then-last-first
-returns-then-last-first c =
-    let s = c in
-    lights_none s.args.width s.args.first s.args.last (λ i h. span_empty s.args.first s.args.last c.if-last-first.true i)
+returns-then-last-first c = lights_none c.args.width c.args.first c.args.last (λ i h. span_empty c.args.first c.args.last c.if-last-first.true i)
 
 pub returns-then-width-first : goal.returns-then-width-first
 returns-then-width-first c =
-    let s = c in
-    lights_none s.args.width s.args.first s.args.last (λ i h. span_ahead s.args.first s.args.last i (omega (arith, c.if-width-first.true)))
+    lights_none c.args.width c.args.first c.args.last (λ i h. span_ahead c.args.first c.args.last i (omega (arith, c.if-width-first.true)))
 
 pub returns-then-width-last : goal.returns-then-width-last
-returns-then-width-last c =
-    let s = c in
-    lights_within s.args.width s.args.first s.args.last (s.args.width - 1) (omega arith) (omega arith) c.light_words.ensures
+returns-then-width-last c = lights_within c.args.width c.args.first c.args.last (c.args.width - 1) (omega arith) (omega arith) c.light_words.ensures
 
 pub returns : goal.returns
-returns c = let s = c in λ unlit e. c.light_words-2.ensures s.args.width unlit (omega arith) e
+returns c = λ unlit e. c.light_words-2.ensures c.args.width unlit (omega arith) e

@@ -11,9 +11,7 @@ pub span_bits-requires : goal.span_bits-requires
 span_bits-requires c = omega (arith, c.loop-k.invariant.reached)
 
 pub loop-k-preserved : goal.loop-k-preserved
-loop-k-preserved c =
-    let l = c in
-    light_goes _ _ l.loop-k.k (omega arith) c.span_bits.ensures l.loop-k.invariant
+loop-k-preserved c = light_goes _ _ c.loop-k.k (omega arith) c.span_bits.ensures c.loop-k.invariant
 
 pub returns : goal.returns
 returns c = light_ends _ _ c.loop-k.k (omega arith) c.loop-k.invariant

@@ -1,9 +1,7 @@
 -- `put_row` meets its contract: the numbers below k are copied.
 use Prim.Native.Nat.{◌-◌}
-use native.Mathlib.Omega.{arith}
-use borrow.Author.Rules.{rules}
 use lib.ListN.{length}
-use Rattle.lists.proofs.Copying.{Copied, copy_starts, copy_length, copy_goes, copy_ends}
+use Rattle.lists.proofs.Copying.{Copied}
 use Rattle.lists.proofs.put_row.Given as goal
 
 abbrev pub invariant-loop-k : goal.invariant-loop-k

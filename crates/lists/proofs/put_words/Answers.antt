@@ -1,7 +1,6 @@
 -- `put_words` meets its contract.
-use borrow.Author.Rules.{rules}
 use Rattle.lists.proofs.Copying.{four_copied}
 use Rattle.lists.proofs.put_words.Goals as goal
 
 pub returns : goal.returns
-returns c = let b = c in four_copied b.args.place.now b.args.words.now b.requires.0 b.requires.1
+returns c = four_copied c.args.place.now c.args.words.now c.requires.0 c.requires.1

@@ -1,10 +1,8 @@
 -- `write_maps` meets its contract: the rows before row j are written.
 use mathlib.Core.Path.{sym, ◌∙◌}
-use Prim.Native.Nat.{◌-◌}
 use native.Mathlib.Omega.{arith}
 use lib.ListN.{length-take, length-drop}
-use Rattle.model.specs.Map.{row_words}
-use Rattle.lists.proofs.Written.{WrittenUpTo, writing_starts, row_fits, writing_goes, writing_ends}
+use Rattle.lists.proofs.Written.{writing_starts, row_fits, writing_goes, writing_ends}
 use Rattle.lists.proofs.write_maps.Goals as goal
 
 pub loop-j-init : goal.loop-j-init
@@ -41,9 +39,7 @@ pub loop-j-smaller : goal.loop-j-smaller
 loop-j-smaller c = omega (arith, c.loop-j-test.true)
 
 pub loop-j-preserved : goal.loop-j-preserved
-loop-j-preserved c =
-    let t = c in
-    writing_goes t.loop-j.invariant t.loop-j-test.true t.requires.each c.put_words.ensures
+loop-j-preserved c = writing_goes c.loop-j.invariant c.loop-j-test.true c.requires.each c.put_words.ensures
 
 pub shape_of-lit : goal.shape_of-lit
 shape_of-lit c = c.loop-j.invariant.long ∙ sym c.requires.room

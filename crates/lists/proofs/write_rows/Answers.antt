@@ -1,10 +1,8 @@
 -- `write_rows` meets its contract: the rows before row j are written.
 use mathlib.Core.Path.{sym, ◌∙◌}
-use Prim.Native.Nat.{◌-◌}
 use native.Mathlib.Omega.{arith}
 use lib.ListN.{length-take, length-drop}
-use Rattle.model.specs.Row.{row_length}
-use Rattle.lists.proofs.Written.{WrittenUpTo, as_the_row, writing_starts, row_fits, writing_goes, writing_ends}
+use Rattle.lists.proofs.Written.{as_the_row, writing_starts, row_fits, writing_goes, writing_ends}
 use Rattle.lists.proofs.write_rows.Goals as goal
 
 pub loop-j-init : goal.loop-j-init
@@ -41,9 +39,7 @@ pub loop-j-smaller : goal.loop-j-smaller
 loop-j-smaller c = omega (arith, c.loop-j-test.true)
 
 pub loop-j-preserved : goal.loop-j-preserved
-loop-j-preserved c =
-    let t = c in
-    writing_goes t.loop-j.invariant t.loop-j-test.true t.requires.each c.put_row.ensures
+loop-j-preserved c = writing_goes c.loop-j.invariant c.loop-j-test.true c.requires.each c.put_row.ensures
 
 pub shape_of-unlit : goal.shape_of-unlit
 shape_of-unlit c = c.loop-j.invariant.long ∙ sym c.requires.room

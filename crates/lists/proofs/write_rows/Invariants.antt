@@ -1,10 +1,7 @@
 -- `write_rows` meets its contract: the rows before row j are written.
-use mathlib.Core.Path.{sym, ◌∙◌}
 use Prim.Native.Nat.{◌-◌}
-use native.Mathlib.Omega.{arith}
-use lib.ListN.{length-take, length-drop}
 use Rattle.model.specs.Row.{row_length}
-use Rattle.lists.proofs.Written.{WrittenUpTo, as_the_row, writing_starts, row_fits, writing_goes, writing_ends}
+use Rattle.lists.proofs.Written.{WrittenUpTo}
 use Rattle.lists.proofs.write_rows.Given as goal
 
 abbrev pub invariant-loop-j : goal.invariant-loop-j

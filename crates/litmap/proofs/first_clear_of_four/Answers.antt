@@ -6,19 +6,12 @@ pub returns-then-i-lt64 : goal.returns-then-i-lt64
 returns-then-i-lt64 c = found_1 _ _ _ _ c.first_clear-i.ensures c.if-i-lt64.true
 
 pub returns-then-j-lt64 : goal.returns-then-j-lt64
-returns-then-j-lt64 c =
-    let e = c in
-    found_2 _ _ _ _ e.first_clear-i.ensures e.if-i-lt64.false c.first_clear-j.ensures c.if-j-lt64.true
+returns-then-j-lt64 c = found_2 _ _ _ _ c.first_clear-i.ensures c.if-i-lt64.false c.first_clear-j.ensures c.if-j-lt64.true
 
 pub returns-then-k-lt64 : goal.returns-then-k-lt64
 returns-then-k-lt64 c =
-    let f = c in
-    let e = f in
-    found_3 _ _ _ _ e.first_clear-i.ensures e.if-i-lt64.false f.first_clear-j.ensures f.if-j-lt64.false c.first_clear-k.ensures c.if-k-lt64.true
+    found_3 _ _ _ _ c.first_clear-i.ensures c.if-i-lt64.false c.first_clear-j.ensures c.if-j-lt64.false c.first_clear-k.ensures c.if-k-lt64.true
 
 pub returns : goal.returns
 returns c =
-    let g = c in
-    let f = g in
-    let e = f in
-    found_4 _ _ _ _ e.first_clear-i.ensures e.if-i-lt64.false f.first_clear-j.ensures f.if-j-lt64.false g.first_clear-k.ensures g.if-k-lt64.false c.first_clear-l.ensures
+    found_4 _ _ _ _ c.first_clear-i.ensures c.if-i-lt64.false c.first_clear-j.ensures c.if-j-lt64.false c.first_clear-k.ensures c.if-k-lt64.false c.first_clear-l.ensures

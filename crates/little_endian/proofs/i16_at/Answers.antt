@@ -1,6 +1,5 @@
 use mathlib.Core.Path.{◌∙◌, ap}
 use mir.Syntax.{w16}
-use borrow.Author.Rules.{rules}
 use Rattle.model.specs.Format.{signed16}
 use Rattle.little_endian.proofs.TwosComplement.{through}
 use Rattle.little_endian.proofs.i16_at.Goals as goal

@@ -1,4 +1,3 @@
-use borrow.Author.Rules.{rules}
 use Rattle.little_endian.proofs.TwosComplement.{low_fits, low, difference_fits, high_fits, high}
 use Rattle.little_endian.proofs.signed.Goals as goal
 

@@ -6,11 +6,7 @@ pub loop-i-init : goal.loop-i-init
 loop-i-init c = eight_starts _ _ _
 
 pub loop-i-preserved : goal.loop-i-preserved
-loop-i-preserved c =
-    let p = c in
-    let l = p in
-    let a = l in
-    eight_goes a.loop-i.invariant a.requires l.loop-i-test.true p.pair_at-p.ensures c.set_pair.ensures
+loop-i-preserved c = eight_goes c.loop-i.invariant c.requires c.loop-i-test.true c.pair_at-p.ensures c.set_pair.ensures
 
 pub returns : goal.returns
 returns c = eight_ends c.loop-i.invariant c.loop-i-test.false

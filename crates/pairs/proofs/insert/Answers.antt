@@ -6,14 +6,10 @@ pub loop-i-init : goal.loop-i-init
 loop-i-init c = insert_starts _ _ _
 
 pub returns-then-p-eq0 : goal.returns-then-p-eq0
-returns-then-p-eq0 c =
-    let e = c in
-    insert_ends e.loop-i.invariant e.carry_eight-p.ensures c.if-p-eq0.true
+returns-then-p-eq0 c = insert_ends c.loop-i.invariant c.carry_eight-p.ensures c.if-p-eq0.true
 
 pub loop-i-preserved : goal.loop-i-preserved
-loop-i-preserved c =
-    let e = c in
-    insert_goes e.loop-i.invariant e.carry_eight-p.ensures
+loop-i-preserved c = insert_goes c.loop-i.invariant c.carry_eight-p.ensures
 
 pub returns : goal.returns
 returns c = insert_settles c.loop-i.invariant c.carry_rest.ensures

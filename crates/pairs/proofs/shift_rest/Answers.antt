@@ -6,10 +6,7 @@ pub loop-i-init : goal.loop-i-init
 loop-i-init c = rest_starts _ _
 
 pub loop-i-preserved : goal.loop-i-preserved
-loop-i-preserved c =
-    let p = c in
-    let l = p in
-    rest_goes l.loop-i.invariant l.loop-i-test.true p.pair_at-p.ensures c.set_pair.ensures
+loop-i-preserved c = rest_goes c.loop-i.invariant c.loop-i-test.true c.pair_at-p.ensures c.set_pair.ensures
 
 pub returns : goal.returns
 returns c = rest_ends c.loop-i.invariant c.loop-i-test.false c.set_pair-2.ensures

@@ -11,15 +11,10 @@ pub slice_bounds-result-end : goal.slice_bounds-result-end
 slice_bounds-result-end c = simp length-take (omega arith)
 
 pub returns-then-count-eq0 : goal.returns-then-count-eq0
-returns-then-count-eq0 c =
-    let t = c in
-    let i = t in
-    used_ends i.requires i.loop-i.invariant i.loop-i-test.true t.if-count-eq0.true
+returns-then-count-eq0 c = used_ends c.requires c.loop-i.invariant c.loop-i-test.true c.if-count-eq0.true
 
 pub loop-i-preserved : goal.loop-i-preserved
-loop-i-preserved c =
-    let i = c in
-    used_goes i.requires i.loop-i.invariant i.loop-i-test.true c.if-count-eq0.false
+loop-i-preserved c = used_goes c.requires c.loop-i.invariant c.loop-i-test.true c.if-count-eq0.false
 
 pub returns : goal.returns
 returns c = used_over c.requires c.loop-i.invariant c.loop-i-test.false

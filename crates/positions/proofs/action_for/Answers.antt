@@ -6,31 +6,28 @@ use Rattle.positions.proofs.action_for.Goals as goal
 
 pub returns-then-max-first : goal.returns-then-max-first
 returns-then-max-first c =
-    let s = c in
     let h = c.if-max-first.true in
     record {
-      paint_is = rw (lt-leb s.args.first s.args.max h);
-      before_is = rw (lt-ltb s.args.min s.args.first (omega (arith, s.requires)));
-      after_is = rw (le-ltb s.args.last s.args.max (omega (arith, s.requires)));
-      next_is = rw (lt-ltb s.args.max s.args.last (omega (arith, s.requires)));
+      paint_is = rw (lt-leb c.args.first c.args.max h);
+      before_is = rw (lt-ltb c.args.min c.args.first (omega (arith, c.requires)));
+      after_is = rw (le-ltb c.args.last c.args.max (omega (arith, c.requires)));
+      next_is = rw (lt-ltb c.args.max c.args.last (omega (arith, c.requires)));
     }
 
 pub returns-then-last-min : goal.returns-then-last-min
 returns-then-last-min c =
-    let s = c in
     let h = c.if-last-min.true in
     record {
-      paint_is = rw (le-leb s.args.first s.args.max c.if-max-first.false, lt-leb s.args.min s.args.last h);
-      before_is = rw (le-ltb s.args.min s.args.first (omega (arith, s.requires)));
-      after_is = rw (lt-ltb s.args.last s.args.max (omega (arith, s.requires)));
-      next_is = rw (le-ltb s.args.max s.args.last (omega (arith, s.requires)));
+      paint_is = rw (le-leb c.args.first c.args.max c.if-max-first.false, lt-leb c.args.min c.args.last h);
+      before_is = rw (le-ltb c.args.min c.args.first (omega (arith, c.requires)));
+      after_is = rw (lt-ltb c.args.last c.args.max (omega (arith, c.requires)));
+      next_is = rw (le-ltb c.args.max c.args.last (omega (arith, c.requires)));
     }
 
 pub returns : goal.returns
 returns c =
-    let s = c in
     record {
-      paint_is = rw (le-leb s.args.first s.args.max c.if-max-first.false, le-leb s.args.min s.args.last c.if-last-min.false);
+      paint_is = rw (le-leb c.args.first c.args.max c.if-max-first.false, le-leb c.args.min c.args.last c.if-last-min.false);
       before_is = refl;
       after_is = refl;
       next_is = refl;

@@ -1,7 +1,6 @@
 -- `sheet::put_panel` meets its contract: a panel without cells has no line.
 use mathlib.Core.Path.{sym}
 use mathlib.Core.List.{[], ◌∷◌, ◌++◌}
-use borrow.Author.Rules.{rules}
 use Rattle.text.specs.Text.{decimal, numbers}
 use Rattle.text.specs.Put.{Room}
 use Rattle.text.proofs.Puts.{room_same, put_same, put_then, room_first, room_then}

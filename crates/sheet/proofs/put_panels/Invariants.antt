@@ -1,10 +1,8 @@
 -- `sheet::put_panels` meets its contract: the lines of the panels passed are put.
-use mathlib.Core.Path.{◌≡◌, refl, ◌∙◌}
+use mathlib.Core.Path.{◌≡◌}
 use Prim.Native.Nat.{◌-◌}
-use native.Mathlib.Omega.{arith}
-use borrow.Author.Rules.{rules}
 use lib.ListN.{length}
-use Rattle.sheet.proofs.Panels.{Listed, listed_none, panel_room, listed_more, listed_all}
+use Rattle.sheet.proofs.Panels.{Listed}
 use Rattle.sheet.proofs.put_panels.Given as goal
 
 abbrev pub invariant-loop-panel : goal.invariant-loop-panel

@@ -1,6 +1,5 @@
 -- `sheet::put_sheet` meets its contract: the buffer has room for every bill, and its parts are put one after the other.
 use native.Mathlib.Omega.{arith}
-use borrow.Author.Rules.{rules}
 use Rattle.text.specs.Put.{Room}
 use Rattle.sheet.specs.Sheet.{sheet}
 use Rattle.sheet.proofs.Rooms.{product_fits, sheet_room}

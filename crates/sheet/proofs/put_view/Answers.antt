@@ -1,6 +1,5 @@
 -- `sheet::put_view` meets its contract: the name, and the numbers after it.
 use mathlib.Core.List.{[], ◌∷◌}
-use borrow.Author.Rules.{rules}
 use Rattle.text.specs.Text.{ascii, spaced, numbers, line}
 use Rattle.text.specs.Put.{Room}
 use Rattle.text.proofs.Puts.{put_then, room_first, room_then}
@@ -32,7 +31,7 @@ put_last-requires c =
     room_then (spaced a.height) (numbers (a.lens ∷ [])) (let after_width : let a = c.args in Room (numbers (a.height ∷ a.lens ∷ [])) c.put_spaced-wide.result c.put_spaced-wide.new.out = let a = c.args in room_then (spaced a.width) (numbers (a.height ∷ a.lens ∷ [])) (let after_name : let a = c.args in Room (numbers (a.width ∷ a.height ∷ a.lens ∷ [])) c.put_text-named.result c.put_text-named.new.out = room_then (ascii "view") (numbers (c.args.width ∷ c.args.height ∷ c.args.lens ∷ [])) c.requires c.put_text-named.ensures in after_name) c.put_spaced-wide.ensures in after_width) c.put_spaced-high.ensures
 
 pub returns : goal.returns
-unfolding line numbers 
+unfolding line numbers
 returns c =
     put_then c.requires c.put_text-named.ensures
     (put_then (let after_name : let a = c.args in Room (numbers (a.width ∷ a.height ∷ a.lens ∷ [])) c.put_text-named.result c.put_text-named.new.out = room_then (ascii "view") (numbers (c.args.width ∷ c.args.height ∷ c.args.lens ∷ [])) c.requires c.put_text-named.ensures in after_name) c.put_spaced-wide.ensures

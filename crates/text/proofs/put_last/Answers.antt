@@ -1,5 +1,4 @@
 -- `text::put_last` meets its contract: the number after a space, and a newline.
-use borrow.Author.Rules.{rules}
 use Rattle.text.specs.Text.{ascii, spaced, numbers}
 use Rattle.text.proofs.Puts.{put_then, room_first, room_then}
 use Rattle.text.proofs.put_last.Goals as goal

@@ -1,6 +1,5 @@
 -- `text::put_line` meets its contract: the name, and the rest of the line.
 use mathlib.Core.List.{[], ◌∷◌}
-use borrow.Author.Rules.{rules}
 use Rattle.text.specs.Text.{numbers, line}
 use Rattle.text.proofs.Puts.{put_then, room_first, room_then}
 use Rattle.text.proofs.put_line.Goals as goal

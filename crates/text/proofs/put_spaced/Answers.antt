@@ -1,5 +1,4 @@
 -- `text::put_spaced` meets its contract: a space, and the number after it.
-use borrow.Author.Rules.{rules}
 use Rattle.text.specs.Text.{ascii, decimal, spaced}
 use Rattle.text.proofs.Puts.{put_then, room_first, room_then}
 use Rattle.text.proofs.put_spaced.Goals as goal

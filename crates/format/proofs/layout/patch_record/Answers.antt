@@ -1,6 +1,5 @@
 -- `format::layout::patch_record` meets its contract: the place of the record is a product, of which two laws are cited.
 use native.Mathlib.Omega.{arith}
-use borrow.Author.Rules.{rules}
 use Rattle.format.proofs.PatchRecords.{record_fits, records_few}
 use Rattle.format.proofs.layout.patch_record.Goals as goal
 

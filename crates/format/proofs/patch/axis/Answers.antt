@@ -1,9 +1,7 @@
-use borrow.Author.Rules.{rules}
-use Prim.Native.Nat.{◌-◌}
 use mathlib.Core.Path.{refl}
 use mir.Syntax.{w16}
 use Rattle.little_endian.proofs.TwosComplement.{through}
-use Rattle.format.proofs.Places.{Filled, none_filled, one_filled, all_filled}
+use Rattle.format.proofs.Places.{none_filled, one_filled, all_filled}
 use Rattle.format.proofs.patch.axis.Goals as goal
 
 pub loop-k-init : goal.loop-k-init

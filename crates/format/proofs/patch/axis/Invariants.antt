@@ -1,9 +1,5 @@
-use borrow.Author.Rules.{rules}
 use Prim.Native.Nat.{◌-◌}
-use mathlib.Core.Path.{refl}
-use mir.Syntax.{w16}
-use Rattle.little_endian.proofs.TwosComplement.{through}
-use Rattle.format.proofs.Places.{Filled, none_filled, one_filled, all_filled}
+use Rattle.format.proofs.Places.{Filled}
 use Rattle.format.proofs.patch.axis.Given as goal
 
 abbrev pub invariant-loop-k : goal.invariant-loop-k

@@ -2,7 +2,6 @@ use mathlib.Core.Path.{refl, ◌∙◌}
 use mir.Syntax.{w16}
 use Rattle.little_endian.proofs.TwosComplement.{through}
 use Rattle.format.proofs.Made.{vec_made}
-use borrow.Author.Rules.{rules}
 use Rattle.format.proofs.patch.corner_of.Goals as goal
 
 pub returns : goal.returns

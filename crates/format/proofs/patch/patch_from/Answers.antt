@@ -1,5 +1,4 @@
 use Rattle.format.proofs.Places.{patch_placed}
-use borrow.Author.Rules.{rules}
 use Rattle.format.proofs.patch.patch_from.Goals as goal
 
 pub returns : goal.returns

@@ -1,5 +1,4 @@
 use Rattle.format.proofs.Made.{node_made}
-use borrow.Author.Rules.{rules}
 use Rattle.format.proofs.records.node_at.Goals as goal
 
 pub returns : goal.returns

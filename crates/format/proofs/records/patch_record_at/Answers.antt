@@ -1,5 +1,4 @@
 use Rattle.format.proofs.Made.{patch_made}
-use borrow.Author.Rules.{rules}
 use Rattle.format.proofs.records.patch_record_at.Goals as goal
 
 pub returns : goal.returns

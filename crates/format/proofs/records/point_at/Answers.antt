@@ -1,7 +1,6 @@
 use mir.Syntax.{w16}
 use Rattle.little_endian.proofs.TwosComplement.{through}
 use Rattle.format.proofs.Made.{point_made}
-use borrow.Author.Rules.{rules}
 use Rattle.format.proofs.records.point_at.Goals as goal
 
 pub returns : goal.returns

@@ -1,0 +1,21 @@
+use mathlib.Core.Path.{ap, ◌∙◌}
+use native.Mathlib.Omega.{arith}
+use Rattle.format.proofs.InRange.{corner_within, bounded}
+use Rattle.polygons.specs.Tests.{patch_proper}
+use Rattle.convexity.proofs.TableCorners.{three_in}
+use Rattle.convexity.proofs.three_from.Goals as goal
+
+pub three_proper-requires : goal.three_proper-requires
+three_proper-requires c =
+    let within = corner_within c.requires.0.laid c.requires.0.coordinates in
+    record {
+      a_bounded = bounded c.corner-a.ensures (within _ (omega arith));
+      b_bounded = bounded c.corner-b.ensures (within _ (omega arith));
+      c_bounded = bounded c.corner-c.ensures (within _ (omega arith));
+    }
+
+pub returns : goal.returns
+returns c =
+    c.three_proper.ensures
+    ∙ ap patch_proper
+    (three_in c.args.bytes.now c.args.l c.args.first c.corner-a.ensures c.corner-b.ensures c.corner-c.ensures)
