@@ -1,0 +1,44 @@
+-- `surveying::survey_from` meets its contract: it refuses before it writes, or paints, counts and raises the counter.
+use Rattle.model.specs.Lent.{Lent}
+use Rattle.contract.specs.Contract.{lent_of}
+use Rattle.surveying.proofs.Calls.{refused, paintable, rendered_from, counter_asked, accepted}
+use Rattle.surveying.proofs.survey_from.Goals as goal
+
+pub returns-then-verdict-ne0 : goal.returns-then-verdict-ne0
+returns-then-verdict-ne0 c = refused _ _ _ _ c.survey_answer-verdict.ensures c.if-verdict-ne0.true
+
+-- It stands before the answers on the way, so that an edit of what the call leaves is refused for what it leaves.
+pub returns : goal.returns
+returns c =
+    let a = c.args in
+    let lent : Lent = lent_of a.picture.now a.counts.now a.patch_counts.now a.unlit.now a.lit.now a.counter.now in
+    accepted _ _ _ lent c.survey_answer-verdict.ensures c.if-verdict-ne0.false
+    (rendered_from _ _ _ lent c.survey_answer-verdict.ensures c.if-verdict-ne0.false c.locate-located.ensures c.paint.ensures)
+    c.next_counter.ensures
+
+pub paint-requires : goal.paint-requires
+paint-requires c =
+    let a = c.args in
+    let lent : Lent = lent_of a.picture.now a.counts.now a.patch_counts.now a.unlit.now a.lit.now a.counter.now in
+    paintable _ _ _ lent c.survey_answer-verdict.ensures c.if-verdict-ne0.false c.locate-located.ensures
+
+pub next_counter-requires : goal.next_counter-requires
+next_counter-requires c =
+    let a = c.args in
+    let lent : Lent = lent_of a.picture.now a.counts.now a.patch_counts.now a.unlit.now a.lit.now a.counter.now in
+    counter_asked _ _ _ lent c.survey_answer-verdict.ensures c.if-verdict-ne0.false
+
+pub shape_of-picture : goal.shape_of-picture
+shape_of-picture c = c.paint.auto.picture
+
+pub shape_of-counts : goal.shape_of-counts
+shape_of-counts c = c.paint.auto.counts
+
+pub shape_of-patch_counts : goal.shape_of-patch_counts
+shape_of-patch_counts c = c.paint.auto.booked
+
+pub shape_of-unlit : goal.shape_of-unlit
+shape_of-unlit c = c.paint.auto.unlit
+
+pub shape_of-lit : goal.shape_of-lit
+shape_of-lit c = c.paint.auto.lit
