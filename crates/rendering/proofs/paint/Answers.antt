@@ -1,7 +1,6 @@
 -- `rendering::paint` meets its contract: the walk of an accepted scene, painted along the camera's rays and counted, gives the results.
 use native.Mathlib.Nat.{mul-le-mul}
 use native.Mathlib.Omega.{arith}
-use borrow.Author.Rules.{rules}
 use mathlib.Core.Path.{◌∙◌}
 use Rattle.camera.specs.Machine.{view_of}
 use Rattle.rendering.specs.Painted.{Painted}
