@@ -1,5 +1,5 @@
 -- What writing a text came to. Of a writer whose bytes are not known nothing is said, as of a file.
-use Rattle.std.specs.Prelude.{Bool, true, false, List, ℕ, take, ◌⊎◌}
+use Rattle.std.specs.Prelude.{Bool, true, false, List, ℕ, take}
 use Rattle.std.specs.declared.option.Option.{Option}
 use Rattle.std.specs.Io.KnownBytes.{Appends, Keeps}
 
@@ -12,7 +12,7 @@ abbrev pub Wrote : Option (List ℕ) → Option (List ℕ) → List ℕ → Bool
 Wrote held held' text true = Appends held held' text
 Wrote held held' text false = AppendsPart held held' text
 
--- all of the text was written and nothing told, or a beginning of it was written and the message told, or as much of it as could be
-abbrev pub WroteOrTold : Option (List ℕ) → Option (List ℕ) → List ℕ → Option (List ℕ) → Option (List ℕ) → List ℕ → Type 0
-WroteOrTold held held' text errors errors' message =
-    (Appends held held' text × Keeps errors errors') ⊎ (AppendsPart held held' text × AppendsPart errors errors' message)
+-- all of the text was written and nothing told; or a beginning of it was written, and then the message told, or as much of it as could be
+abbrev pub WroteOrTold : Option (List ℕ) → Option (List ℕ) → List ℕ → Option (List ℕ) → Option (List ℕ) → List ℕ → Bool → Type 0
+WroteOrTold held held' text errors errors' message true = Appends held held' text × Keeps errors errors'
+WroteOrTold held held' text errors errors' message false = AppendsPart held held' text × AppendsPart errors errors' message

@@ -3,7 +3,7 @@
 #![tactic(auto)]
 
 ghost use Rattle.console.specs.Reading.{ReadInto, TakesNext, EndsAtNone, EndsShort};
-ghost use Rattle.console.specs.Writing.{AppendsPart, Wrote, WroteOrTold};
+ghost use Rattle.console.specs.Writing.{Wrote, WroteOrTold};
 
 use std::io::{Read, Write};
 
@@ -63,24 +63,26 @@ fn write_whole<W: Write>(output: &mut W, text: &[u8]) -> bool
     true
 }
 
-// Writes the text to the output. Where that fails, the message goes to the other one, standard error in a program.
+// Writes the text to the output. Where that fails, the message goes to the other one, standard error in a program. Answers whether all of the text was written.
 pub fn write_or_tell<W: Write, E: Write>(
     output: &mut W,
     text: &[u8],
     errors: &mut E,
     message: &[u8],
-)
+) -> bool
     ensures { WroteOrTold (W.contents output.old) (W.contents output.new) text.now
-        (E.contents errors.old) (E.contents errors.new) message.now }
+        (E.contents errors.old) (E.contents errors.new) message.now result }
 {
-    if !write_whole(output, text) {
+    let whole = write_whole(output, text);
+    if !whole {
         tell(errors, message);
     }
+    whole
 }
 
 // a message, or as much of it as can be written
-pub fn tell<E: Write>(errors: &mut E, message: &[u8])
-    ensures { AppendsPart (E.contents errors.old) (E.contents errors.new) message.now }
+pub fn tell<E: Write>(errors: &mut E, message: &[u8]) -> bool
+    ensures { Wrote (E.contents errors.old) (E.contents errors.new) message.now result }
 {
-    write_whole(errors, message);
+    write_whole(errors, message)
 }

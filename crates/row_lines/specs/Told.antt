@@ -19,10 +19,10 @@ pub record Told (unlit : ℕ → Bool) (first last width number : ℕ) (row' wor
   pub reports : Reports unlit first last width full lit looked
   pub line : Put (row_line number (reported full lit looked) row' words' cells') 0 before after next
 
--- The line of a span laid on the row of the set `unlit` is written, or a beginning of it, and then the message is told, or as much of it as can be.
-pub record WritesTold (unlit : ℕ → Bool) (first last width number : ℕ) (row' words' cells' : List ℕ) (held held' errors errors' : Option (List ℕ)) (message : List ℕ) : Type 0 where
+-- The line of a span laid on the row of the set `unlit` is written whole, or a beginning of it, and then the message is told, or as much of it as can be.
+pub record WritesTold (unlit : ℕ → Bool) (first last width number : ℕ) (row' words' cells' : List ℕ) (held held' errors errors' : Option (List ℕ)) (message : List ℕ) (whole : Bool) : Type 0 where
   pub full : Bool
   pub lit : ℕ
   pub looked : ℕ
   pub reports : Reports unlit first last width full lit looked
-  pub line : WroteOrTold held held' (row_line number (reported full lit looked) row' words' cells') errors errors' message
+  pub line : WroteOrTold held held' (row_line number (reported full lit looked) row' words' cells') errors errors' message whole

@@ -83,7 +83,7 @@ fn put_row(
     )
 }
 
-// Writes a row's line, and nothing else. Where that fails, the message goes to the other output.
+// Writes a row's line, and nothing else. Where that fails, the message goes to the other output. Answers whether all of the line was written.
 pub fn write_row<W: Write, E: Write>(
     output: &mut W,
     errors: &mut E,
@@ -93,14 +93,14 @@ pub fn write_row<W: Write, E: Write>(
     words: &[u64; 4],
     cells: &[u16],
     message: &[u8],
-)
+) -> bool
     requires { (length reported.now ≤ 3) × (length cells.now ≤ 256) }
     ensures { WroteOrTold (W.contents output.old) (W.contents output.new) (row_line number reported.now row.now words.now cells.now)
-        (E.contents errors.old) (E.contents errors.new) message.now }
+        (E.contents errors.old) (E.contents errors.new) message.now result }
 {
     let mut line = [0u8; ROOM];
     let end = put_row(&mut line, number, reported, row, words, cells);
-    write_or_tell(output, &line[..end], errors, message);
+    write_or_tell(output, &line[..end], errors, message)
 }
 
 // Lays a span, and puts the line that tells of it: what laying it reported, the row, its words and its cells.
@@ -127,7 +127,7 @@ fn lay_and_put(
     put_row(line, number, &report(laid), row, words, cells)
 }
 
-// Lays a span, and writes after it the line that tells of it. Where that fails, the message goes to the other output.
+// Lays a span, and writes after it the line that tells of it. Where that fails, the message goes to the other output. Answers whether all of the line was written.
 pub fn lay_and_write<W: Write, E: Write>(
     output: &mut W,
     errors: &mut E,
@@ -139,7 +139,7 @@ pub fn lay_and_write<W: Write, E: Write>(
     last: u16,
     panel: u16,
     message: &[u8],
-)
+) -> bool
     requires { UnderWork (length cells.old) row.old words.old }
     ensures laid { (unlit : ℕ → Bool) → row.old ≡ row_of (length cells.old) unlit →
         Lays unlit first last panel cells.old row.new cells.new }
@@ -147,9 +147,9 @@ pub fn lay_and_write<W: Write, E: Write>(
         words.new ≡ map_row (length cells.old) (after_span unlit first last) }
     ensures written { (unlit : ℕ → Bool) → row.old ≡ row_of (length cells.old) unlit →
         WritesTold unlit first last (length cells.old) number row.new words.new cells.new
-        (W.contents output.old) (W.contents output.new) (E.contents errors.old) (E.contents errors.new) message.now }
+        (W.contents output.old) (W.contents output.new) (E.contents errors.old) (E.contents errors.new) message.now result }
 {
     let mut line = [0u8; ROOM];
     let end = lay_and_put(&mut line, number, row, words, cells, first, last, panel);
-    write_or_tell(output, &line[..end], errors, message);
+    write_or_tell(output, &line[..end], errors, message)
 }
