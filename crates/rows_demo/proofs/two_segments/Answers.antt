@@ -1,0 +1,26 @@
+-- `two_segments` is safe: a fresh row is a row, and it and its words stay such as spans are laid.
+use native.Mathlib.Omega.{arith}
+use Rattle.rows.proofs.Laws.{work_fresh, work_laid}
+use Rattle.rows_demo.proofs.two_segments.Goals as goal
+
+pub lay-requires : goal.lay-requires
+lay-requires c = rw c.requires.words_value (work_fresh c.requires.cells_len (omega arith) c.fresh-row.ensures.fresh)
+
+pub lay-requires-2 : goal.lay-requires-2
+lay-requires-2 c =
+    work_laid
+    {words = c.args.words.now}
+    (rw c.requires.words_value (work_fresh c.requires.cells_len (omega arith) c.fresh-row.ensures.fresh))
+    c.lay.ensures.laid
+    c.lay.ensures.mapped
+
+pub returns : goal.returns
+returns c =
+    work_laid
+    (work_laid
+    {words = c.args.words.now}
+    (rw c.requires.words_value (work_fresh c.requires.cells_len (omega arith) c.fresh-row.ensures.fresh))
+    c.lay.ensures.laid
+    c.lay.ensures.mapped)
+    c.lay-2.ensures.laid
+    c.lay-2.ensures.mapped
