@@ -11,7 +11,7 @@ use Rattle.model.specs.Station.{Station, eye_of, view_at}
 use Rattle.model.specs.Lent.{Lent, lengths_of}
 use Rattle.model.specs.Call.{Call}
 use Rattle.model.specs.Format.{decode}
-use Rattle.model.specs.Picture.{counts, next_counter}
+use Rattle.model.specs.Picture.{next_counter}
 use Rattle.model.specs.Questions.{point_in_range, tile_in_window, counter_below_end, survey_answer}
 use Rattle.model.specs.Survey.{call_picture, call_counts, call_patch_cells, call_unlit, call_lit, call_counter}
 use Rattle.model.proofs.Answers.{AcceptedCall, accepted_call}

@@ -1,5 +1,4 @@
 -- `answering::survey_answer` meets its contract: each question is asked after those before it said yes.
-use borrow.Author.Rules.{rules}
 use Rattle.model.specs.Questions.{call_questions}
 use Rattle.model.proofs.Tests.{true_of}
 use Rattle.model.proofs.Answers.{accepted_scene}

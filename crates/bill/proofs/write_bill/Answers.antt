@@ -1,7 +1,6 @@
 -- `bill::write_bill` meets its contract: each return puts the bill's text.
 use Prim.Native.Nat.{ℕ}
 use native.Mathlib.Omega.{arith}
-use borrow.Author.Rules.{rules}
 use lib.ListN.{replicate, length-replicate}
 use Rattle.text.proofs.Puts.{put_same}
 use Rattle.bill.proofs.Bills.{bill_short, bill_long, bill_refused, bill_accepted}

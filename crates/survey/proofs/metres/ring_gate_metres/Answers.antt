@@ -1,6 +1,5 @@
 -- `survey::metres::ring_gate_metres` meets its contract: the doubles are the station's, and the camera's numbers pass through words unchanged.
 use mathlib.Core.Path.{◌∙◌}
-use borrow.Author.Rules.{rules}
 use Rattle.contract.proofs.SameStation.{answered_from}
 use Rattle.handed.proofs.Handed.{same_camera}
 use Rattle.survey.proofs.metres.ring_gate_metres.Goals as goal

@@ -1,6 +1,5 @@
 -- `survey::units::ring_gate` meets its contract: the numbers of the station and of the camera pass through words unchanged.
 use mathlib.Core.Path.{◌∙◌}
-use borrow.Author.Rules.{rules}
 use Rattle.contract.proofs.SameStation.{answered_from}
 use Rattle.handed.proofs.Handed.{same_units, same_camera}
 use Rattle.survey.proofs.units.ring_gate.Goals as goal
