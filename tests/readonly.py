@@ -8,7 +8,8 @@ where code can reckon from, and each of these forms is looked for, in the whole 
     data      a section of numbers, other than constants that instructions name one by one
     address   code that names numbers otherwise than as an operand of a vector instruction, or that names some within the code
     copy      a constant, or a number of more than two bytes in an instruction, that goes to memory as it is, where it can be
-              read byte by byte: that is what the compiler had made of the table that went
+              read byte by byte: that is what the compiler had made of the table that went. A vector register that is put on the
+              stack and only read back whole, as around a call, is none
     codes     the entries of that table, wherever they stand
 
 That all this can fail: small objects, each with a table of one form, are held to the same, and just that form is found; in those
@@ -24,6 +25,8 @@ import tempfile
 SECTION = re.compile(r"\s*\d+ (.+?)\s+([0-9a-f]{8})  .* 2\*\*\d+  (.*)$")
 CONSTANTS = re.compile(r"\.rodata\.cst\d+$")
 COMMAS = re.compile(r",(?![^(]*\))")
+PLACE = re.compile(r"(-?0x[0-9a-f]+|)\(%rsp(\)|,)")
+WHOLE_VECTOR = re.compile(r"mov(dqa|dqu|aps|ups|apd|upd)$|p(add|sub|cmpeq|cmpgt|min[su]|max[su]|and|andn|or|xor|mull?)")
 REGISTERS = [["r" + n, "e" + n, n, n[0] + "l"] for n in ("ax", "bx", "cx", "dx")]
 REGISTERS += [["r" + n, "e" + n, n, n + "l"] for n in ("si", "di", "bp", "sp")]
 REGISTERS += [[f"r{n}", f"r{n}d", f"r{n}w", f"r{n}b"] for n in range(8, 16)]
@@ -34,6 +37,7 @@ CODES = bytes([4, 5, 1, 9]), bytes([0, 7, 3, 11])
 
 CONSTANT = '.section .rodata.cst16,"aM",@progbits,16\nt: .quad 0x0807060504030201, 9\n.text\nf: '
 FROM_STACK = "\n movzbl -24(%rsp,%rdi), %eax\n ret\n"
+SAVED = CONSTANT + "sub $40, %rsp\n movdqa t(%rip), %xmm0\n movdqa %xmm0, 16(%rsp)\n "
 
 # Objects in C or assembly, and the forms that each of them has.
 PLANTED = (
@@ -57,6 +61,17 @@ PLANTED = (
     ("eight numbers put on the stack", "copy", "assembler",
      ".text\nf: movabs $0x0807060504030201, %r10\n mov %r10, -24(%rsp)" + FROM_STACK),
     ("four numbers put on the stack", "copy", "assembler", ".text\nf: movl $0x04030201, -24(%rsp)" + FROM_STACK),
+    ("a constant put on the stack, and its address", "copy", "assembler",
+     SAVED + "lea 8(%rsp), %rdi\n call g@PLT\n movdqa 16(%rsp), %xmm0\n add $40, %rsp\n ret\n"),
+    ("one that is read at a place reckoned from below it", "copy", "assembler",
+     SAVED + "call g@PLT\n movdqa 16(%rsp), %xmm0\n movzwl 8(%rsp,%rbx), %eax\n add $40, %rsp\n ret\n"),
+    ("one that is read back in part", "copy", "assembler",
+     SAVED + "call g@PLT\n movdqa 16(%rsp), %xmm0\n movzwl 20(%rsp), %eax\n add $40, %rsp\n ret\n"),
+    ("one that is handed on there", "copy", "assembler", SAVED + "call g@PLT\n add $40, %rsp\n ret\n"),
+    ("one that is put elsewhere when it is back", "copy", "assembler",
+     SAVED + "call g@PLT\n movdqa 16(%rsp), %xmm1\n movdqu %xmm1, (%rdi)\n add $40, %rsp\n ret\n"),
+    ("a constant kept on the stack around a call", "", "assembler",
+     SAVED + "lea 32(%rsp), %rdi\n call g@PLT\n incw 32(%rsp,%rbx,2)\n movdqa 16(%rsp), %xmm1\n paddd 16(%rsp), %xmm1\n add $40, %rsp\n ret\n"),
     ("the old table put on the stack", "copy codes", "assembler",
      ".text\nf: movabs $0x0b03070009010504, %rax\n mov %rax, -24(%rsp)" + FROM_STACK),
     ("the old table's first entries", "codes", "assembler", ".text\nf: mov $0x09010504, %eax\n ret\n"),
@@ -115,21 +130,56 @@ def is_constant(operand):
     return number > 0xffff and len(set(number.to_bytes(8, "little").rstrip(b"\0"))) > 1
 
 
+def place(operand, is_reckoned=False):
+    """How far above the stack's end an operand is that names a place there, by itself or from which on it is reckoned; None of any other."""
+    found = PLACE.match(operand)
+    return int(found[1] or "0", 16) if found and is_reckoned == (found[2] == ",") else None
+
+
+def is_saved(target, at, function):
+    """Is what the instruction of this number puts at this place of the stack only read back whole, into a vector register, at least once?"""
+    start, is_read = place(target), False
+    if start is None or not function[at][1][0].startswith("%xmm"):
+        return False
+    for number, (name, operands, _) in enumerate(function):
+        is_moved = name.startswith("push") or operands[-1] == "%rsp" and not name.startswith(("add", "pop"))
+        if is_moved and number > at:
+            return False
+        for operand in operands:
+            if "%rsp" not in operand or operand == "%rsp" and operands[-1] == operand:
+                continue
+            other, of_many = place(operand), place(operand, True)
+            # An address, and a place that is reckoned, lead from where they are named upward.
+            if name.startswith("lea") or other is None:
+                other = of_many if other is None else other
+                if other is None or other < start + 16:
+                    return False
+                continue
+            is_vector = any(each.startswith("%xmm") for each in operands)
+            if other >= start + 16 or other + (16 if is_vector else 8) <= start:
+                continue
+            if other != start or not is_vector or name.startswith(("mov", "p")) and not WHOLE_VECTOR.match(name):
+                return False
+            is_read = is_read or operands[-1].startswith("%xmm")
+    return is_read
+
+
 def copies(listed):
-    """The instructions by which a constant goes to memory as it is; registers are followed from one line to the next."""
-    held = set()
+    """The instructions by which a constant goes to memory as it is; registers, and what is kept on the stack, are followed from one line to the next."""
+    functions = [[]]
     for each in listed:
-        if each is None:
-            held.clear()
-            continue
-        name, operands, _ = each
-        source, target = operands[0], operands[-1]
-        is_raw = name.startswith("mov") and (source in held or is_constant(source))
-        if is_raw and "(" in target:
-            yield each
-        held.discard(target)
-        if is_raw and target.startswith("%"):
-            held.add(target)
+        functions += [[]] if each is None else []
+        functions[-1] += [each] if each else []
+    for function in functions:
+        held = set()
+        for at, (name, operands, relocation) in enumerate(function):
+            source, target = operands[0], operands[-1]
+            is_raw = name.startswith("mov") and (source in held or is_constant(source))
+            if is_raw and "(" in target and not is_saved(target, at, function):
+                yield name, operands, relocation
+            held.discard(target)
+            if is_raw and (target.startswith("%") or place(target) is not None):
+                held.add(target)
 
 
 def faults(path):
