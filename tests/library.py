@@ -1,10 +1,11 @@
 """Builds the library for C from crates/survey_c, and puts it into a folder as libsurvey.a, the name under which C programs link it.
 
-    library.py FOLDER
+    library.py [--gate] FOLDER
 
 `rt lib` does this, and first proves each library below that no check has kept in this checkout. `rt ci` proves and builds these too, but leaves them without
-the mark by which `rt lib` knows them. So where all of them stand as `rt ci` left them, the kit's compiler is called over them, as `rt ci` calls it for a
-program: it proves survey_c and compiles. Where that fails, or one is missing or marked, `rt lib` is called.
+the mark by which `rt lib` knows them. So with --gate, right after `rt ci` in the same checkout, where all of them stand as it left them, the kit's compiler is
+called over them, as `rt ci` calls it for a program: it proves survey_c and compiles. Where that fails, or one is missing or marked, and always without
+--gate, `rt lib` is called.
 """
 
 import os
@@ -59,19 +60,22 @@ def over_the_gate(archive):
 
 
 def main():
-    if len(sys.argv) != 2:
+    words = sys.argv[1:]
+    of_gate = "--gate" in words[:1]
+    if len(words) != 1 + of_gate:
         sys.exit(__doc__)
+    folder = words[-1]
     archive = os.path.join(CRATE, "out", f"lib{NAME}.a")
     if os.path.exists(archive):
         os.remove(archive)
-    if not over_the_gate(archive):
+    if not (of_gate and over_the_gate(archive)):
         ran = subprocess.run(["rt", "lib"], cwd=CRATE, stdin=subprocess.DEVNULL, stdout=subprocess.PIPE, stderr=subprocess.STDOUT, text=True)
         if ran.returncode or not os.path.isfile(archive):
             print(ran.stdout, end="")
             sys.exit("library: crates/survey_c did not build")
         print(ran.stdout.splitlines()[-1])
-    os.makedirs(sys.argv[1], exist_ok=True)
-    shutil.copyfile(archive, os.path.join(sys.argv[1], "libsurvey.a"))
+    os.makedirs(folder, exist_ok=True)
+    shutil.copyfile(archive, os.path.join(folder, "libsurvey.a"))
 
 
 if __name__ == "__main__":

@@ -17,7 +17,7 @@ programs=$PWD/target/programs
 export SURVEY_LIB_DIR=$PWD/target/library
 rm -rf "$programs" "$SURVEY_LIB_DIR"
 mkdir -p "$programs"
-python3 tests/library.py "$SURVEY_LIB_DIR"
+python3 tests/library.py ${of_gate:+--gate} "$SURVEY_LIB_DIR"
 for program in ringbill rows_laid rows_worst; do
     [ "$of_gate" ] || (cd "crates/$program" && rt run </dev/null >"$log" 2>&1) || { cat "$log" && exit 1; }
     cp "crates/$program/out/$program" "$programs/"
