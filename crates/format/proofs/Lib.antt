@@ -6,3 +6,4 @@ pub mod PatchRecords
 mod Places
 pub mod InRange
 pub mod Words
+pub mod Ranges

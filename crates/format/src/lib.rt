@@ -4,3 +4,4 @@
 pub mod layout;
 pub mod patch;
 pub mod records;
+pub mod scene;

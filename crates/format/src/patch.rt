@@ -3,12 +3,12 @@ ghost use Rattle.std.specs.Prelude.{◌≡◌, ◌+◌, ◌*◌, ◌≤◌, ◌<
 ghost use Rattle.geometry.specs.Machine.{vec_of};
 ghost use Rattle.model.specs.Format.{decode, patch_numbered};
 ghost use Rattle.format.specs.Patch.{CoordinatesFrom, PatchIs, patch_from, corner_of};
-ghost use Rattle.format.specs.Layout.{LaidOut, RunsInside};
+ghost use Rattle.format.specs.Layout.{RunsInside};
 
-use crate::layout::{Layout, patch_record};
 use crate::records::vector;
+use crate::scene::Scene;
 use geometry::Vector;
-use header::sizes::{CORNER_SIZE, HEADER_SIZE, NODE_SIZE};
+use header::sizes::CORNER_SIZE;
 use little_endian::i16_at;
 
 // "A patch in hand is a panel number, a corner count and eight corner places, of which the first ones are used": the places' coordinates by axis
@@ -27,10 +27,8 @@ fn axis(bytes: &[u8], at: usize, count: usize) -> [i16; 8]
     ensures { CoordinatesFrom bytes.now at count result }
 {
     let mut places = [0i16; 8];
-    let mut k = 0;
-    while k < count {
+    for k in 0..count {
         places[k] = i16_at(bytes, at + CORNER_SIZE * k);
-        k += 1;
     }
     places
 }
@@ -50,14 +48,18 @@ fn patch_from(bytes: &[u8], at: usize, count: usize, panel: u16) -> Patch
 }
 
 // the patch by its number
-pub fn read_patch(bytes: &[u8], l: Layout, k: usize) -> Patch
-    requires { LaidOut bytes.now l × RunsInside bytes.now l × (k < l.patches) }
-    ensures { PatchIs (patch_numbered (decode bytes.now) k) result }
+pub fn read_patch(scene: &Scene, k: usize) -> Patch
+    requires { RunsInside scene.now.bytes.now scene.now.layout × (k < scene.now.layout.patches) }
+    ensures { PatchIs (patch_numbered (decode scene.now.bytes.now) k) result }
 {
-    let p = patch_record(bytes, l, k);
+    let p = scene.patch_record(k);
     let run = p.corners;
-    let at = HEADER_SIZE + NODE_SIZE * l.nodes + l.patch_size * l.patches + CORNER_SIZE * run.first;
-    patch_from(bytes, at, run.count, p.panel)
+    patch_from(
+        scene.bytes,
+        scene.corner_offset(run.first),
+        run.count,
+        p.panel,
+    )
 }
 
 // the corner at a place

@@ -1,24 +1,17 @@
-use mathlib.Core.Path.{ap, ◌∙◌}
-use borrow.Author.Tests.{not-true, not-false}
+use mathlib.Core.Path.{refl, ap}
+use native.Mathlib.Omega.{arith}
+use Rattle.std.proofs.Common.{rules, tests}
+use Rattle.std.proofs.lemmas.Iterator.{YieldsList-from_range}
+use Rattle.std.proofs.lemmas.Iterator.Search.{all_from_yields_List}
+use Rattle.model.specs.Lists.{every}
 use Rattle.model.specs.Questions.{point_in_range}
-use Rattle.model.proofs.Loops.{none_passed, one_passed, refused, accepted}
-use Rattle.coordinates.proofs.InRange.{corners_asked}
+use Rattle.format.specs.Layout.{corner_number}
+use Rattle.format.proofs.Ranges.{all_numbered}
 use Rattle.coordinates.proofs.corners_in_range.Goals as goal
 
-pub loop-k-init : goal.loop-k-init
-loop-k-init c = none_passed _ _
-
-pub returns-then-not-point_in_range : goal.returns-then-not-point_in_range
-returns-then-not-point_in_range c =
-    refused (corners_asked c.requires) c.loop-k-test.true
-    (c.point_in_range.ensures ∙ ap point_in_range c.corner.ensures)
-    (not-true _ c.if-not-point_in_range.true-raw)
-
-pub loop-k-preserved : goal.loop-k-preserved
-loop-k-preserved c =
-    one_passed c.loop-k.invariant c.loop-k-test.true
-    (c.point_in_range.ensures ∙ ap point_in_range c.corner.ensures)
-    (not-false _ c.if-not-point_in_range.false-raw)
-
 pub returns : goal.returns
-returns c = accepted (corners_asked c.requires) c.loop-k.invariant c.loop-k-test.false
+returns c =
+    let s = c.args.scene.now in
+    all_numbered point_in_range (corner_number s.bytes.now s.layout) 0 s.layout.corners
+    (all_from_yields_List _ _ _ _ c.all.ensures.ran (YieldsList-from_range 0 s.layout.corners s.layout.corners refl (omega arith)) (λ x b q k. search (rules, tests)))
+    (ap (every point_in_range) s.laid_out.corners)

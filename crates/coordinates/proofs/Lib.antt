@@ -1,2 +1,0 @@
--- Laws of question 3.
-mod InRange
