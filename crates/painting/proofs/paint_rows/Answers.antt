@@ -9,11 +9,11 @@ pub paint_walk-requires : goal.paint_walk-requires
 paint_walk-requires c =
     record {
       paintable = c.requires.paintable;
-      cells = c.clear.auto.cells ∙ c.requires.framed.cells;
-      entries = c.clear_table.auto.booked ∙ c.requires.entries;
+      cells = c.fill-2.auto.self ∙ c.requires.framed.cells;
+      entries = c.fill.auto.self ∙ c.requires.entries;
       fresh =
           walk_fresh c.args.bytes.now c.args.sight c.args.order.now (length c.args.picture.now) (length c.args.booked.now)
-          c.requires.framed.low c.fresh-row.ensures.fresh c.requires.framed.cells c.clear.ensures c.clear_table.ensures;
+          c.requires.framed.low c.fresh-row.ensures.fresh c.requires.framed.cells (c.fill-2.ensures.after (λ y h. h)) (c.fill.ensures.after (λ y h. h));
     }
 
 pub write_rows-requires : goal.write_rows-requires
@@ -26,4 +26,4 @@ write_maps-requires c =
 
 pub returns : goal.returns
 returns c =
-    let whole = c.paint_walk.ensures in record { painted = rows_painted whole (c.paint_walk.auto.picture ∙ c.clear.auto.cells ∙ c.requires.framed.cells) c.write_rows.ensures c.write_maps.ensures; counted = whole.booked_are }
+    let whole = c.paint_walk.ensures in record { painted = rows_painted whole (c.paint_walk.auto.picture ∙ c.fill-2.auto.self ∙ c.requires.framed.cells) c.write_rows.ensures c.write_maps.ensures; counted = whole.booked_are }
