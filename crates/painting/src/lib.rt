@@ -10,7 +10,7 @@ ghost use Rattle.painting.specs.Picture.{PictureAsked, RowsPainted};
 
 use edges::Sight;
 use format::layout::Layout;
-use lists::{write_maps, write_rows};
+use lists::write_rows;
 use traversal::paint_walk;
 
 // Paints the walk on fresh rows and writes them to the lent lists when it is done.
@@ -41,5 +41,5 @@ pub fn paint_rows(
     );
     let height = sight.raster.height;
     write_rows(&rows, height, unlit);
-    write_maps(&words, height, lit);
+    write_rows(&words, height, lit);
 }

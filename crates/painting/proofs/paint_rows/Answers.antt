@@ -20,10 +20,10 @@ pub write_rows-requires : goal.write_rows-requires
 write_rows-requires c =
     rows_writable c.paint_walk.ensures c.requires.framed.low c.requires.framed.rows
 
-pub write_maps-requires : goal.write_maps-requires
-write_maps-requires c =
+pub write_rows-requires-2 : goal.write_rows-requires-2
+write_rows-requires-2 c =
     maps_writable c.paint_walk.ensures c.requires.framed.low c.requires.framed.words
 
 pub returns : goal.returns
 returns c =
-    let whole = c.paint_walk.ensures in record { painted = rows_painted whole (c.paint_walk.auto.picture ∙ c.fill-2.auto.self ∙ c.requires.framed.cells) c.write_rows.ensures c.write_maps.ensures; counted = whole.booked_are }
+    let whole = c.paint_walk.ensures in record { painted = rows_painted whole (c.paint_walk.auto.picture ∙ c.fill-2.auto.self ∙ c.requires.framed.cells) c.write_rows.ensures c.write_rows-2.ensures; counted = whole.booked_are }
