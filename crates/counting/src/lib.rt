@@ -5,7 +5,6 @@
 ghost use Rattle.model.specs.Format.{decode, patch_numbered};
 ghost use Rattle.counting.specs.Counting.{Countable, Counted};
 
-use cells::clear_table;
 use checked::patch_record;
 use format::layout::Layout;
 
@@ -14,7 +13,7 @@ pub fn count_panels(bytes: &[u8], l: Layout, booked: &[u32], cells: u32, totals:
     requires { Countable bytes.now l booked.now cells totals.old }
     ensures { Counted (λ k. (patch_numbered (decode bytes.now) k).panel) booked.now cells totals.new }
 {
-    clear_table(totals);
+    totals.fill(0);
     let mut rest = cells;
     let mut k = 0;
     while k < booked.len() {

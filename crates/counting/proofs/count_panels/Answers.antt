@@ -8,7 +8,7 @@ use Rattle.counting.proofs.Adding.{added_starts, own_left, count_within, added_g
 use Rattle.counting.proofs.count_panels.Goals as goal
 
 pub loop-k-init : goal.loop-k-init
-loop-k-init c = added_starts c.args.totals.now c.requires.entries c.clear_table.ensures
+loop-k-init c = added_starts c.args.totals.now c.requires.entries (c.fill.ensures.after (λ y h. h))
 
 pub patch_record-panel-requires : goal.patch_record-panel-requires
 patch_record-panel-requires c = (c.requires.scene, omega (arith, c.loop-k-test.true, c.requires.patches))
