@@ -5,84 +5,63 @@
 ghost use Rattle.console.specs.Reading.{ReadInto, TakesNext, EndsAtNone, EndsShort};
 ghost use Rattle.console.specs.Writing.{Wrote, WroteOrTold};
 
-use std::io::{Read, Write};
-
-// What reading an input came to.
-#[derive(Clone, Copy)]
-pub enum Got {
-    // All of it, or as much as the buffer holds: so many bytes at the buffer's start.
-    Bytes(usize),
-    Failed,
-}
+use std::io::{ErrorKind, Read, Result, Write};
 
 // One read: so many bytes, 0 at the end of the input.
-fn read_some<R: Read>(input: &mut R, part: &mut [u8]) -> Got
+fn read_some<R: Read>(input: &mut R, part: &mut [u8]) -> Result<usize>
     ensures counted { ReadInto result part.new }
     ensures next { TakesNext (R.remaining input.old) (R.remaining input.new) result part.new }
     ensures ended { EndsAtNone (R.remaining input.new) result part.new }
 {
-    match input.read(part) {
-        Ok(got) => Got::Bytes(got),
-        Err(_) => Got::Failed,
-    }
+    input.read(part)
 }
 
-// Reads to the end of the input, or until the buffer is full.
-pub fn read_all<R: Read>(input: &mut R, buffer: &mut [u8]) -> Got
+// Reads to the end of the input, or until the buffer is full: so many bytes at the buffer's start.
+pub fn read_all<R: Read>(input: &mut R, buffer: &mut [u8]) -> Result<usize>
     ensures counted { ReadInto result buffer.new }
     ensures next { TakesNext (R.remaining input.old) (R.remaining input.new) result buffer.new }
     ensures ended { EndsShort (R.remaining input.new) result buffer.new }
 {
     let mut done = 0;
     while done < buffer.len() {
-        let Got::Bytes(more) = read_some(input, &mut buffer[done..]) else {
-            return Got::Failed;
-        };
+        let more = read_some(input, &mut buffer[done..])?;
         if more == 0 {
-            return Got::Bytes(done);
+            return Ok(done);
         }
         done += more;
     }
-    Got::Bytes(done)
+    Ok(done)
 }
 
-// Writes all of the text, or stops at the first write that takes nothing or fails, and then answers no.
-fn write_whole<W: Write>(output: &mut W, text: &[u8]) -> bool
+// Writes all of the text, or stops at the first write that takes nothing or fails.
+fn write_whole<W: Write>(output: &mut W, text: &[u8]) -> Result<()>
     ensures { Wrote (W.contents output.old) (W.contents output.new) text.now result }
 {
     let mut done = 0;
     while done < text.len() {
-        let Ok(more) = output.write(&text[done..]) else {
-            return false;
-        };
+        let more = output.write(&text[done..])?;
         if more == 0 {
-            return false;
+            return Err(ErrorKind::WriteZero.into());
         }
         done += more;
     }
-    true
+    Ok(())
 }
 
-// Writes the text to the output. Where that fails, the message goes to the other one, standard error in a program. Answers whether all of the text was written.
+// Writes the text to the output. Where that fails, the message goes to the other one, standard error in a program, or as much of it as can be written.
+#[tactic(auto, using(crate::proofs::Written::in_part))]
 pub fn write_or_tell<W: Write, E: Write>(
     output: &mut W,
     text: &[u8],
     errors: &mut E,
     message: &[u8],
-) -> bool
+) -> Result<()>
     ensures { WroteOrTold (W.contents output.old) (W.contents output.new) text.now
         (E.contents errors.old) (E.contents errors.new) message.now result }
 {
-    let whole = write_whole(output, text);
-    if !whole {
-        tell(errors, message);
+    if let Err(error) = write_whole(output, text) {
+        let _told = write_whole(errors, message);
+        return Err(error);
     }
-    whole
-}
-
-// a message, or as much of it as can be written
-pub fn tell<E: Write>(errors: &mut E, message: &[u8]) -> bool
-    ensures { Wrote (E.contents errors.old) (E.contents errors.new) message.now result }
-{
-    write_whole(errors, message)
+    Ok(())
 }

@@ -1,32 +1,10 @@
--- Hexadecimal digits, and a word put from its last digit to its first.
-use mathlib.Core.Path.{◌≡◌, refl, sym, ◌∙◌, ap}
-use mathlib.Core.List.{List, [], ◌∷◌, ◌++◌, map, append_assoc, append-nil}
-use Prim.Native.Nat.{ℕ, zero, suc, ◌+◌, ◌-◌, ◌/◌, ◌%◌, ◌≤◌, ◌<◌}
-use native.Mathlib.Omega.{arith}
-use lib.ListN.{length, take, drop, get_or, set, length-append, take-append-drop, get_or-append}
-use lib.Seq.{length-take-le, take-suc, get_or-append-add, set_at}
-use Rattle.model.specs.Lists.{range}
-use Rattle.model.proofs.Ranges.{range_at}
-use Rattle.text.specs.Text.{digit}
-use Rattle.text.specs.Put.{Room, Put}
+-- Hexadecimal digits, as the crate `hex` gives those of a word's bytes.
+use Rattle.std.proofs.Common.{◌≡◌, ℕ, zero, suc, ◌^◌, ◌/◌, ◌%◌, List, [], ◌∷◌, ◌++◌, length, slice_index, refl, sym, ◌∙◌, ap, ap₂, arith, length-append}
+use mathlib.Core.List.{append_assoc}
+use native.Mathlib.Nat.{pow-succ', div-div-eq-div-mul}
+use Rattle.std.specs.Int.{w64, to_be_bytes, bytes_high_first, byte_at}
+use Rattle.hex.specs.Hex.{encode_with, encode_lower, lower_digits}
 use Rattle.numerals.specs.Listing.{hex_digit, hex_digits, word_digits}
-
--- consecutive bytes: the digits below ten are such, and so are the letters after them
-abbrev run : ℕ → ℕ → List ℕ
-run first count = map (λ (i : ℕ). i) (range first count)
-
-pub hex_low : (d : ℕ) → d < 10 → digit d ≡ hex_digit d
-unfolding hex_digit
-hex_low d h = sym (get_or-append (run 48 10) (run 97 6) 0 d h ∙ range_at (λ (i : ℕ). i) 48 10 d 0 h)
-
-pub hex_high : (d : ℕ) → 10 ≤ d → d < 16 → 97 + (d - 10) ≡ hex_digit d
-unfolding hex_digit
-hex_high d l h =
-    let past : d ≡ 10 + (d - 10) = omega arith in
-    sym
-    (ap hex_digit past
-    ∙ get_or-append-add (run 48 10) (run 97 6) (d - 10) 0
-    ∙ range_at (λ (i : ℕ). i) 97 6 (d - 10) 0 (omega arith))
 
 hexes_length : (k n : ℕ) → length (hex_digits k n) ≡ k
 unfolding hex_digits
@@ -36,68 +14,34 @@ hexes_length (suc k) n = simp length-append (omega (arith, hexes_length k (n / 1
 pub word_length : (word : ℕ) → length (word_digits word) ≡ 16
 word_length word = hexes_length 16 word
 
--- room for a word is room for sixteen digits
-pub word_room : (word : ℕ) {at : ℕ} {buffer : List ℕ} → Room (word_digits word) at buffer → at + 16 ≤ length buffer
-word_room word r = omega (arith, r.within, word_length word)
+-- a number's bytes are those of a 256th of it, and its last
+byte_above : (k n : ℕ) → byte_at (suc k) n ≡ byte_at k (n / 256)
+byte_above zero n = refl
+byte_above (suc k) n = ap (λ m. m % 256) (ap (λ m. n / m) (pow-succ' 256 (suc k)) ∙ sym (div-div-eq-div-mul n 256 (256 ^ suc k)))
 
--- the last digits are put, and i are still to be put before them: those of the rest
-pub record Ending (word : ℕ) (before : List ℕ) (at : ℕ) (after : List ℕ) (rest i : ℕ) : Type 0 where
-  pub done : List ℕ
-  pub parted : word_digits word ≡ hex_digits i rest ++ done
-  pub written : after ≡ take (at + i) before ++ done ++ drop (at + 16) before
+bytes_last : (k n : ℕ) → bytes_high_first (suc k) n ≡ bytes_high_first k (n / 256) ++ (n % 256 ∷ [])
+bytes_last zero n = refl
+bytes_last (suc k) n = ap₂ ◌∷◌ (byte_above k n) (bytes_last k n)
 
-pub ending_none : (word : ℕ) (before : List ℕ) (at : ℕ) → Ending word before at before word 16
-ending_none word before at =
-    record {
-      done = [];
-      parted = sym (append-nil (word_digits word));
-      written = sym (rw append-nil (take-append-drop (at + 16) before));
-    }
+encoded_last : (bytes : List ℕ) (b : ℕ) → encode_lower (bytes ++ (b ∷ [])) ≡ encode_lower bytes ++ (hex_digit (b / 16) ∷ hex_digit (b % 16) ∷ [])
+unfolding encode_with hex_digit
+encoded_last [] b = refl
+encoded_last (a ∷ bytes) b = ap (λ rest. slice_index lower_digits (a / 16) ∷ slice_index lower_digits (a % 16) ∷ rest) (encoded_last bytes b)
 
--- one digit more, before those put: the last one of the rest
-pub ending_more :
-    {word : ℕ} {before : List ℕ} {at : ℕ} {after : List ℕ} {rest k i d : ℕ} →
-    at + 16 ≤ length before →
-    k ≡ suc i →
-    k ≤ 16 →
-    d ≡ hex_digit (rest % 16) →
-    Ending word before at after rest k →
-    Ending word before at (set after (at + i) d) (rest / 16) i
-unfolding hex_digits
-ending_more {before = before} {at} {after} {rest} {k} {i} {d} fits next within is e =
-    let front : List ℕ = take (at + i) before in
-    let back : List ℕ = drop (at + 16) before in
-    let place : at + k ≡ suc (at + i) = omega arith in
-    let opened : after ≡ front ++ get_or before (at + i) 0 ∷ (e.done ++ back) =
-    e.written
-    ∙ ap (λ (n : ℕ). take n before ++ e.done ++ back) place
-    ∙ ap (λ (xs : List ℕ). xs ++ e.done ++ back) (take-suc before (at + i) 0 (omega arith))
-    ∙ simp append_assoc in
-    record {
-      done = d ∷ e.done;
-      parted =
-          e.parted
-          ∙ ap (λ (n : ℕ). hex_digits n rest ++ e.done) next
-          ∙ append_assoc (hex_digits i (rest / 16)) (hex_digit (rest % 16) ∷ []) e.done
-          ∙ ap (λ (n : ℕ). hex_digits i (rest / 16) ++ n ∷ e.done) (sym is);
-      written =
-          ap (λ (xs : List ℕ). set xs (at + i) d) opened
-          ∙ set_at front (get_or before (at + i) 0) (e.done ++ back) d (at + i) (length-take-le (at + i) before (omega arith))
-          ∙ sym (append_assoc front (d ∷ e.done) back);
-    }
+abbrev twice : ℕ → ℕ
+twice zero = zero
+twice (suc k) = suc (suc (twice k))
 
--- no digit is left: the word is put
-pub ending_all :
-    {word : ℕ} {before : List ℕ} {at : ℕ} {after : List ℕ} {rest i : ℕ} →
-    i ≡ 0 →
-    Ending word before at after rest i →
-    Put (word_digits word) at before after (at + 16)
-unfolding hex_digits
-ending_all {word} {before} {at} {rest = rest} {i} none e =
-    let place : at + i ≡ at = omega arith in
-    let whole : e.done ≡ word_digits word = sym (e.parted ∙ ap (λ (n : ℕ). hex_digits n rest ++ e.done) none) in
-    let long : 16 ≡ length (word_digits word) = sym (word_length word) in
-    record {
-      written = e.written ∙ (λ j. take (place j) before ++ whole j ++ drop (at + long j) before);
-      end = ap (λ (n : ℕ). at + n) long;
-    }
+encoded : (k n : ℕ) → encode_lower (bytes_high_first k n) ≡ hex_digits (twice k) n
+unfolding encode_with hex_digits
+encoded zero n = refl
+encoded (suc k) n =
+    let high : n % 256 / 16 ≡ n / 16 % 16 = omega arith in
+    let low : n % 256 % 16 ≡ n % 16 = omega arith in
+    let front : n / 256 ≡ n / 16 / 16 = omega arith in
+    ap encode_lower (bytes_last k n) ∙ encoded_last (bytes_high_first k (n / 256)) (n % 256)
+    ∙ ap₂ ◌++◌ (encoded k (n / 256) ∙ ap (hex_digits (twice k)) front) (ap₂ (λ h l. hex_digit h ∷ hex_digit l ∷ []) high low)
+    ∙ sym (append_assoc (hex_digits (twice k) (n / 16 / 16)) (hex_digit (n / 16 % 16) ∷ []) (hex_digit (n % 16) ∷ []))
+
+pub encoded_word : (word : ℕ) → encode_lower (to_be_bytes w64 word) ≡ word_digits word
+encoded_word word = encoded 8 word

@@ -1,3 +1,3 @@
--- Laws on texts one after the other.
+-- Laws on hexadecimal digits, and on texts one after the other.
 pub mod Digits
 mod Lists

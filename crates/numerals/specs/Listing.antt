@@ -2,10 +2,10 @@
 use Rattle.std.specs.Prelude.{List, [], ◌∷◌, ◌++◌, ℕ, zero, suc, ◌/◌, ◌%◌, get_or}
 use Rattle.text.specs.Text.{ascii}
 
--- the texts of numbers, one after the other
-unfoldable pub each : (ℕ → List ℕ) → List ℕ → List ℕ
+-- the texts of items, one after the other
+unfoldable pub each : {A : Type 0} → (A → List ℕ) → List A → List ℕ
 each text [] = []
-each text (n ∷ ns) = text n ++ each text ns
+each text (x ∷ xs) = text x ++ each text xs
 
 -- the byte of a hexadecimal digit from 0 to 15
 unfoldable pub hex_digit : ℕ → ℕ

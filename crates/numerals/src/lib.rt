@@ -1,63 +1,61 @@
 // Numbers and words put one after the other, each after a space: a number in decimal digits, a word in sixteen hexadecimal ones.
 #![tactic(auto)]
 
-ghost use Rattle.std.specs.Prelude.{◌≡◌, ◌<◌};
-ghost use Rattle.text.specs.Text.{spaced};
+ghost use Rattle.std.specs.Prelude.{◌≡◌, ℕ, List};
+ghost use Rattle.text.specs.Text.{spaced as spaced_number};
 ghost use Rattle.text.specs.Put.{Room, Put};
-ghost use Rattle.numerals.specs.Listing.{each, hex_digit, word_digits, spaced_word};
+ghost use Rattle.numerals.specs.Listing.{each, word_digits, spaced_word};
 
-use text::{put_byte, put_spaced};
+use arrayvec::ArrayVec;
+use text::put_text;
 
-// Each number after a space.
-pub fn put_numbers(out: &mut [u8], at: usize, numbers: &[u16]) -> usize
-    requires { Room (each spaced numbers.now) at out.old }
-    ensures { Put (each spaced numbers.now) at out.old out.new result }
-{
-    let mut end = at;
-    let mut i = 0;
-    while i < numbers.len() {
-        end = put_spaced(out, end, numbers[i] as u32);
-        i += 1;
-    }
-    end
+// What has a text after a space, of at most 17 bytes.
+pub trait Spaced: Copy {
+    ghost spaced: { Self → List ℕ };
+
+    fn spaced(self) -> ArrayVec<u8, 17>
+        ensures { result.items ≡ spaced self };
 }
 
-fn hex_digit(d: u8) -> u8
-    requires { d < 16 }
-    ensures { result ≡ hex_digit d }
-{
-    if d < 10 {
-        return b'0' + d;
+impl Spaced for u16 {
+    ghost spaced = { spaced_number };
+
+    #[tactic(auto, using(text::proofs::Lengths::spaced_length))]
+    fn spaced(self) -> ArrayVec<u8, 17> {
+        let mut out = ArrayVec::new();
+        text::put_spaced(&mut out, self as u32);
+        out
     }
-    b'a' + (d - 10)
 }
 
-// A word as sixteen hexadecimal digits, written from the last, the least significant, to the first.
-fn put_word(out: &mut [u8], at: usize, word: u64) -> usize
-    requires { Room (word_digits word) at out.old }
-    ensures { Put (word_digits word) at out.old out.new result }
-{
-    let mut rest = word;
-    let mut i = 16;
-    while 0 < i {
-        i -= 1;
-        out[at + i] = hex_digit((rest % 16) as u8);
-        rest /= 16;
+impl Spaced for u64 {
+    ghost spaced = { spaced_word };
+
+    #[tactic(auto, using(crate::proofs::Digits::word_length), unfolding(crate::specs::Listing::spaced_word))]
+    fn spaced(self) -> ArrayVec<u8, 17> {
+        let mut out = ArrayVec::new();
+        out.push(b' ');
+        put_text(&mut out, &hex_word(self));
+        out
     }
-    at + 16
 }
 
-// Each word after a space.
-pub fn put_words(out: &mut [u8], at: usize, words: &[u64]) -> usize
-    requires { Room (each spaced_word words.now) at out.old }
-    ensures { Put (each spaced_word words.now) at out.old out.new result }
+// A word as sixteen hexadecimal digits.
+#[tactic(auto, using(crate::proofs::Digits::encoded_word))]
+fn hex_word(word: u64) -> [u8; 16]
+    ensures { result ≡ word_digits word }
 {
-    let mut end = at;
-    let mut k = 0;
-    while k < words.len() {
-        let first = put_byte(out, end, b' ');
-        end = put_word(out, first, words[k]);
-        k += 1;
+    let mut digits = [0; 16];
+    let _fits = hex::encode_to_slice(word.to_be_bytes(), &mut digits);
+    digits
+}
+
+// Each of the items after a space.
+pub fn put_each<T: Spaced, const N: usize>(out: &mut ArrayVec<u8, N>, items: &[T])
+    requires { Room (each T.spaced items.now) N out.old }
+    ensures { Put (each T.spaced items.now) out.old out.new }
+{
+    for item in items {
+        put_text(out, item.spaced().as_slice());
     }
-    end
 }

@@ -9,7 +9,6 @@ use lib.Seq.{get_or-drop}
 use mir.Syntax.{w16, w32}
 use mir.Val.{Fits}
 use Rattle.text.specs.Text.{ascii, decimal, numbers, line}
-use Rattle.text.specs.Put.{Room}
 use Rattle.text.proofs.Lengths.{decimal_length, newline_length, numbers_length, line_length}
 use Rattle.sheet.specs.Sheet.{view_line, panel_line, panel_lines, sheet, refusal}
 
@@ -54,30 +53,26 @@ view_length w h l p q r =
       numbers_length l [] (omega (arith, r.fits)),
     )
 
-pub sheet_room :
-    {w h l : ℕ} (counts : List ℕ) {buffer : List ℕ} →
+pub sheet_length :
+    {w h l : ℕ} (counts : List ℕ) →
     Fits w16 w →
     Fits w16 h →
     Fits w16 l →
     length counts ≡ 1025 →
     ((i : ℕ) → Fits w32 (get_or counts i 0)) →
-    length buffer ≡ 32768 →
-    Room (sheet w h l counts) 0 buffer
+    length (sheet w h l counts) ≤ 32768
 unfolding sheet
-sheet_room {w} {h} {l} counts p q r many few long =
+sheet_length {w} {h} {l} counts p q r many few =
     let left : length (drop 1 counts) ≡ length counts - 1 = length-drop 1 counts in
-    record {
-      within =
-          simp length-append
-          (omega (
-            arith,
-            view_length w h l p q r,
-            line_length (ascii "nothing") (get_or counts 0 0) (few 0).fits,
-            line_length (ascii "total") (w * h) (product_fits p q).fits,
-            panels_length 1 (drop 1 counts) (omega arith) (λ (i : ℕ). rw get_or-drop (few (1 + i))),
-          ));
-    }
+    simp length-append
+    (omega (
+      arith,
+      view_length w h l p q r,
+      line_length (ascii "nothing") (get_or counts 0 0) (few 0).fits,
+      line_length (ascii "total") (w * h) (product_fits p q).fits,
+      panels_length 1 (drop 1 counts) (omega arith) (λ (i : ℕ). rw get_or-drop (few (1 + i))),
+    ))
 
-pub refusal_room : {n : ℕ} {buffer : List ℕ} → Fits w32 n → length buffer ≡ 32768 → Room (refusal n) 0 buffer
+pub refusal_length : {n : ℕ} → Fits w32 n → length (refusal n) ≤ 32768
 unfolding refusal
-refusal_room {n} f long = record { within = omega (arith, line_length (ascii "refused") n f.fits) }
+refusal_length {n} f = omega (arith, line_length (ascii "refused") n f.fits)

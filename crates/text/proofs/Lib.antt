@@ -1,6 +1,4 @@
--- Laws on text and on what is put into a buffer.
+-- Laws on text.
 mod Decimals
 pub mod Readings
 pub mod Lengths
-pub mod Puts
-mod Numbers

@@ -1,11 +1,11 @@
--- What a function that writes text into a lent buffer promises.
-use Rattle.std.specs.Prelude.{◌≡◌, List, ◌++◌, ℕ, ◌+◌, ◌≤◌, length, take, drop}
+-- What a function that writes text behind what a buffer holds promises.
+use Rattle.std.specs.Prelude.{◌≡◌, List, ◌++◌, ℕ, ◌+◌, ◌≤◌, length}
+use Rattle.arrayvec.specs.ArrayVec.{ArrayVec}
 
--- the buffer has room for the text from a place on
-pub record Room (text : List ℕ) (at : ℕ) (buffer : List ℕ) : Type 0 where
-  pub within : at + length text ≤ length buffer
+-- a buffer for so many bytes has room for the text behind what it holds
+abbrev pub Room : List ℕ → ℕ → ArrayVec ℕ → Type 0
+Room text most buffer = length buffer.items + length text ≤ most
 
--- The text stands in the buffer from a place on, all else is as it was, and the result is the place after the text.
-pub record Put (text : List ℕ) (at : ℕ) (before after : List ℕ) (next : ℕ) : Type 0 where
-  pub written : after ≡ take at before ++ text ++ drop (at + length text) before
-  pub end : next ≡ at + length text
+-- the text stands behind what the buffer held, and nothing behind it
+abbrev pub Put : List ℕ → ArrayVec ℕ → ArrayVec ℕ → Type 0
+Put text before after = after.items ≡ before.items ++ text

@@ -25,9 +25,9 @@ loop-done-preserved g c =
     let from = c.loop-done.done in
     let room = length c.loop-done.buffer - from in
     let within = c.loop-done.invariant.0 in
-    let part = slice_range_put_mid from room c.in-Bytes.more c.loop-done.buffer c.read_some.new.part within c.in-Bytes.ensures.counted.0 in
-    let joined = take_split from (from + c.in-Bytes.more) c.loop-done.buffer (put_mid from room c.loop-done.buffer c.read_some.new.part) (omega arith) (take-put_mid_below _ _ _ _ _ (le_refl _) within) in (
+    let part = slice_range_put_mid from room c.in_ok-more.more c.loop-done.buffer c.read_some.new.part within c.in_ok-more.ensures.counted.0 in
+    let joined = take_split from (from + c.in_ok-more.more) c.loop-done.buffer (put_mid from room c.loop-done.buffer c.read_some.new.part) (omega arith) (take-put_mid_below _ _ _ _ _ (le_refl _) within) in (
       search rules,
       search rules,
-      subst (Consumes _ _) (ap (λ l. take from c.loop-done.buffer ++ l) (sym part) ∙ joined) (Consumes-trans _ _ _ _ _ c.loop-done.invariant.2 c.in-Bytes.ensures.next),
+      subst (Consumes _ _) (ap (λ l. take from c.loop-done.buffer ++ l) (sym part) ∙ joined) (Consumes-trans _ _ _ _ _ c.loop-done.invariant.2 c.in_ok-more.ensures.next),
     )

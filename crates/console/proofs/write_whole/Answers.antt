@@ -12,4 +12,4 @@ longer text done more = ap (λ l. take done text ++ take more l) (take_rest text
 -- what was written before and what was written now are together the text's beginning
 pub loop-done-preserved : goal.loop-done-preserved
 loop-done-preserved g c =
-    (search rules, subst (Appends _ _) (longer c.args.text.now c.loop-done.done c.in-Ok.more) (Appends-trans _ _ _ _ _ c.loop-done.invariant.1 c.in-Ok.ensures.bytes))
+    (search rules, subst (Appends _ _) (longer c.args.text.now c.loop-done.done c.in_ok-more.more) (Appends-trans _ _ _ _ _ c.loop-done.invariant.1 c.in_ok-more.ensures.bytes))

@@ -1,26 +1,17 @@
--- `sheet::put_panel` meets its contract: a panel without cells has no line.
-use mathlib.Core.Path.{sym}
-use mathlib.Core.List.{[], ◌∷◌, ◌++◌}
-use Rattle.text.specs.Text.{decimal, numbers}
-use Rattle.text.specs.Put.{Room}
-use Rattle.text.proofs.Puts.{room_same, put_same, put_then, room_first, room_then}
+-- A panel without cells has no line.
+use Rattle.std.proofs.Common.{arith, length, ap}
+use Rattle.std.proofs.lemmas.Grind.{common_steps}
 use Rattle.sheet.proofs.Panels.{no_cells, some_cells}
 use Rattle.sheet.proofs.put_panel.Goals as goal
 
-pub returns-then-cells-eq0 : goal.returns-then-cells-eq0
-returns-then-cells-eq0 c = no_cells c.args.panel c.if-cells-eq0.true
-
--- there is room for the number of a panel with cells, and for its cells
-
-pub put_number-named-requires : goal.put_number-named-requires
-put_number-named-requires c =
-    room_first (decimal c.args.panel) (numbers (c.args.cells ∷ [])) (let line_room : Room (decimal c.args.panel ++ numbers (c.args.cells ∷ [])) c.args.at c.args.out.now = room_same (some_cells c.args.panel c.args.cells c.if-cells-eq0.false) c.requires in line_room)
+pub put_number-requires : goal.put_number-requires
+put_number-requires g c = let line = ap length (some_cells c.args.panel c.args.cells c.if-cells-ne0.true) in grind (arith, common_steps)
 
 pub put_last-requires : goal.put_last-requires
-put_last-requires c =
-    room_then (decimal c.args.panel) (numbers (c.args.cells ∷ [])) (let line_room : Room (decimal c.args.panel ++ numbers (c.args.cells ∷ [])) c.args.at c.args.out.now = room_same (some_cells c.args.panel c.args.cells c.if-cells-eq0.false) c.requires in line_room) c.put_number-named.ensures
+put_last-requires g c = let line = ap length (some_cells c.args.panel c.args.cells c.if-cells-ne0.true) in grind (arith, common_steps)
 
-pub returns : goal.returns
-returns c =
-    put_same (sym (some_cells c.args.panel c.args.cells c.if-cells-eq0.false))
-    (put_then c.requires c.put_number-named.ensures c.put_last.ensures)
+pub returns-then-cells-ne0 : goal.returns-then-cells-ne0
+returns-then-cells-ne0 g c = let line = some_cells c.args.panel c.args.cells c.if-cells-ne0.true in grind (arith, common_steps)
+
+pub returns-else-cells-ne0 : goal.returns-else-cells-ne0
+returns-else-cells-ne0 g c = let line = no_cells c.args.panel c.if-cells-ne0.false in grind (arith, common_steps)

@@ -1,22 +1,21 @@
--- `sheet::put_panels` meets its contract: the lines of the panels passed are put.
-use mathlib.Core.Path.{refl, ◌∙◌}
-use Rattle.sheet.proofs.Panels.{listed_none, panel_room, listed_more, listed_all}
+-- What was put, and the lines of the panels that are left, are together all of it.
+use Rattle.std.proofs.Common.{arith, length, ap}
+use Rattle.std.proofs.lemmas.Grind.{common_steps}
+use Rattle.sheet.proofs.Panels.{lines_from, lines_none}
 use Rattle.sheet.proofs.put_panels.Goals as goal
 
-pub loop-panel-init : goal.loop-panel-init
-loop-panel-init c = (listed_none c.requires.room, refl)
-
-pub put_panel-end-requires : goal.put_panel-end-requires
-put_panel-end-requires c = panel_room c.loop-panel.invariant.0 c.loop-panel-test.true
+pub put_panel-requires : goal.put_panel-requires
+put_panel-requires g c =
+    let from = ap length (lines_from c.args.counts.now c.loop-panel.panel c.loop-panel-test.true) in
+    let all = ap length c.loop-panel.invariant in
+    grind (arith, common_steps)
 
 pub loop-panel-preserved : goal.loop-panel-preserved
-loop-panel-preserved c = (
-  listed_more c.loop-panel.invariant.0 c.loop-panel-test.true c.requires.room c.put_panel-end.ensures,
-  c.put_panel-end.auto.out ∙ c.loop-panel.invariant.1,
-)
-
-pub shape_of-out : goal.shape_of-out
-shape_of-out c = c.loop-panel.invariant.1
+loop-panel-preserved g c =
+    let from = lines_from c.args.counts.now c.loop-panel.panel c.loop-panel-test.true in
+    grind (arith, common_steps)
 
 pub returns : goal.returns
-returns c = listed_all c.loop-panel.invariant.0 c.loop-panel-test.false
+returns g c =
+    let none = lines_none c.args.counts.now c.loop-panel.panel c.loop-panel-test.false in
+    grind (arith, common_steps)

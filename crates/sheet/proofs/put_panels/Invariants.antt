@@ -1,12 +1,7 @@
--- `sheet::put_panels` meets its contract: the lines of the panels passed are put.
-use mathlib.Core.Path.{◌≡◌}
-use Prim.Native.Nat.{◌-◌}
-use lib.ListN.{length}
-use Rattle.sheet.proofs.Panels.{Listed}
+-- What was put, and the lines of the panels that are left, are together all of it.
+use Rattle.std.proofs.Common.{◌≡◌, ◌++◌, drop}
+use Rattle.sheet.specs.Sheet.{panel_lines, panel_list}
 use Rattle.sheet.proofs.put_panels.Given as goal
 
 abbrev pub invariant-loop-panel : goal.invariant-loop-panel
-invariant-loop-panel l = Listed l.counts l.initial.out l.at l.out l.end l.panel × (length l.out ≡ length l.initial.out)
-
-abbrev pub decreases-loop-panel : goal.decreases-loop-panel
-decreases-loop-panel l = length l.counts - l.panel
+invariant-loop-panel g l = l.out.items ++ panel_lines l.panel (drop l.panel l.counts) ≡ l.initial.out.items ++ panel_list l.counts
