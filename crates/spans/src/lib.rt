@@ -4,11 +4,9 @@
 ghost use Rattle.std.specs.Prelude.{◌≡◌, true, ◌+◌, ◌/◌, ◌≤◌, pos, nat_abs, ◌<ℤ◌, ◌≤ℤ◌};
 ghost use Rattle.geometry.specs.Raster.{FunctionBounded};
 ghost use Rattle.spans.specs.Span.{Occupied, Shaped, number_at, Linear, Clipped, BesideLit, ClippedBut};
-ghost use Rattle.tables.specs.Functions.{functions_in, FunctionRun};
-ghost use Rattle.spans.specs.Row.{RowSpan};
+ghost use Rattle.spans.specs.Row.{FunctionRun, RowSpan};
 
 use geometry::EdgeFunction;
-use tables::function_at;
 
 // The columns first .. end − 1. A span with no column is written 0 and 0.
 #[derive(Clone, Copy)]
@@ -136,20 +134,18 @@ fn clip_function(span: Span, lit: Span, f: EdgeFunction, j: usize) -> Span
     clip(left, f.slope, start)
 }
 
-// The columns of the span `within` where each of the first `count` functions of a table is above 0 in row j. One product for each function gives its number at
-// column 0. Of the columns of the span `lit` it may have any.
-pub fn row_span(table: &[i64], count: usize, j: usize, within: Span, lit: Span) -> Span
-    requires { FunctionRun table.now count × (j ≤ 1024) × (within.end ≤ 1024) }
-    ensures { RowSpan (functions_in table.now count) j within lit result }
+// The columns of the span `within` where each of some functions is above 0 in row j. One product for each function gives its number at column 0. Of the columns of the
+// span `lit` it may have any.
+pub fn row_span(functions: &[EdgeFunction], j: usize, within: Span, lit: Span) -> Span
+    requires { FunctionRun functions.now × (j ≤ 1024) × (within.end ≤ 1024) }
+    ensures { RowSpan functions.now j within lit result }
 {
     let mut span = within;
-    let mut k = 0;
-    while k < count {
+    for f in functions {
         if span.end <= span.first {
             return span;
         }
-        span = clip_function(span, lit, function_at(table, k), j);
-        k += 1;
+        span = clip_function(span, lit, *f, j);
     }
     span
 }
