@@ -5,32 +5,19 @@ use mathlib.Core.List.{List, map}
 use Prim.Native.Nat.{ℕ, suc, ◌+◌, ◌*◌, ◌-◌, ◌≤◌, ◌<◌}
 use native.Mathlib.Nat.{zero-add, add-zero, sub-zero}
 use native.Mathlib.Numerals.{add-one}
-use native.Mathlib.Decide.{ℕ_discrete, dec_lt}
+use native.Mathlib.Decide.{dec_lt}
 use native.Mathlib.Omega.{arith}
 use lib.Dec.{eqb}
-use lib.ListN.{length, get_or, set, replicate, length-set, length-replicate, get_or-eq_default}
-use lib.Seq.{get_or-set_same, get_or-set_other}
-use borrow.Author.Tests.{eq-eqb, ne_eqb}
+use lib.ListN.{length, get_or, replicate, length-replicate, get_or-eq_default}
 use Rattle.model.specs.Lists.{every, range, add_if, occurrences}
 use Rattle.model.specs.Format.{NodeRecord, decode}
 use Rattle.model.specs.Questions.{children}
 use Rattle.model.proofs.Tables.{zero_at}
-use Rattle.model.proofs.Loops.{range_passes, range_fails, range_same}
+use Rattle.model.proofs.Loops.{range_same}
 use Rattle.format.specs.declared.layout.Layout.{Layout}
 use Rattle.format.specs.Layout.{LaidOut, node_number}
 use Rattle.format.proofs.Decoded.{node_count_lem}
 use Rattle.children.specs.Children.{each_once, named_once, OneMore, TimesNamed}
-
--- ---- one more naming
-pub counted_once : {child : ℕ} {times : List ℕ} → child < length times → OneMore child times (set times child (get_or times child 0 + 1))
-counted_once {child} {times} h = record { long = length-set times child (get_or times child 0 + 1); counted = λ j b. at j (ℕ_discrete j child) }
-  where
-    at : (j : ℕ) → Dec (j ≡ child) → get_or (set times child (get_or times child 0 + 1)) j 0 ≡ add_if (eqb child j) (get_or times j 0)
-    at j (yes e) = rw (e, get_or-set_same times child (get_or times child 0 + 1) 0 h, eq-eqb child child refl) (omega arith)
-    at j (no n) = rw (get_or-set_other times child j (get_or times child 0 + 1) 0 n, ne_eqb child j (λ e. n (sym e)))
-
-pub not_counted : {child : ℕ} {times : List ℕ} → 1024 ≤ child → OneMore child times times
-not_counted {child} {times} h = record { long = refl; counted = λ j b. rw (ne_eqb child j (λ e. absurd (omega arith))) }
 
 -- ---- the counts while the nodes are read
 pub record Counted (f : ℕ → NodeRecord) (n : ℕ) (times : List ℕ) (k : ℕ) : Type 0 where
@@ -73,13 +60,6 @@ low_after {child} {m} {before} {after} o e low j = go (dec_lt j 1024)
     go : Dec (j < 1024) → get_or after j 0 ≤ suc m
     go (yes b) = omega (arith, o.counted j b, add_if_low (eqb child j) (get_or before j 0), low j)
     go (no n) = omega (arith, get_or-eq_default after 0 {n = j} (omega (arith, o.long)))
-
-module _ {f : ℕ → NodeRecord} {n k : ℕ} {times : List ℕ} (c : Counted f n times k) where
-  pub room_first : (child : ℕ) → n ≤ 1024 → get_or times child 0 < 65535
-  room_first child few = omega (arith, c.low child)
-
-  pub room_second : {first : ℕ} {more : List ℕ} → OneMore first times more → (child : ℕ) → n ≤ 1024 → get_or more child 0 < 65535
-  room_second p child few = omega (arith, low_after p c.long c.low child)
 
 -- the first node of those left, by its children
 module _ (f : ℕ → NodeRecord) {n k : ℕ} (h : k < n) where
@@ -128,31 +108,6 @@ all_counted_lem {bytes} {l} {times} {k} laid c h =
     }
 
 -- ---- each node but 0 is named once
-pub record OnceTo (times : List ℕ) (k : ℕ) : Type 0 where
-  pub from_one : 1 ≤ k
-  pub once : (j : ℕ) → 1 ≤ j → j < k → eqb (get_or times j 0) 1 ≡ true
-
-pub none_once : (times : List ℕ) → OnceTo times 1
-none_once times = record { from_one = omega arith; once = λ j a b. absurd (omega arith) }
-
-module _ {times : List ℕ} {k : ℕ} (o : OnceTo times k) where
-  pub one_once : get_or times k 0 ≡ 1 → OnceTo times (k + 1)
-  one_once e = record { from_one = omega arith; once = λ j a b. go j a (ℕ_discrete j k) b }
-    where
-      go : (j : ℕ) → 1 ≤ j → Dec (j ≡ k) → j < k + 1 → eqb (get_or times j 0) 1 ≡ true
-      go j a (yes p) b = rw p (eq-eqb (get_or times k 0) 1 e)
-      go j a (no p) b = o.once j a (omega arith)
-
-  pub not_once : (nodes : ℕ) → k < nodes → (get_or times k 0 ≡ 1 → ⊥) → false ≡ each_once times nodes
-  not_once nodes h n =
-      sym
-      (range_fails (λ (j : ℕ). eqb (get_or times j 0) 1) 1 (nodes - 1) k o.from_one (omega (arith, o.from_one)) (ne_eqb (get_or times k 0) 1 n))
-
-  pub all_once : (nodes : ℕ) → nodes ≤ k → true ≡ each_once times nodes
-  all_once nodes h =
-      sym
-      (range_passes (λ (j : ℕ). eqb (get_or times j 0) 1) 1 (nodes - 1) (λ j a b. o.once j a (omega (arith, o.from_one))))
-
 pub once_named :
     {bytes : List ℕ} {l : Layout} {times : List ℕ} →
     LaidOut bytes l →

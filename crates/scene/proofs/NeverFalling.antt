@@ -7,23 +7,13 @@ use native.Mathlib.Numerals.{add-one}
 use native.Mathlib.Omega.{arith}
 use lib.Dec.{leb}
 use borrow.Author.Tests.{le-leb, lt-leb}
-use Rattle.model.specs.Lists.{range, every}
-use Rattle.model.specs.Format.{NodeRecord, PatchRecord, Scene, decode}
-use Rattle.model.specs.Questions.{within, never_falling, panels_in_range, panels_never_fall, panels_proper}
+use Rattle.model.specs.Lists.{range}
+use Rattle.model.specs.Format.{PatchRecord, decode}
+use Rattle.model.specs.Questions.{never_falling}
 use Rattle.format.specs.declared.layout.Layout.{Layout}
-use Rattle.format.specs.declared.records.Node.{Node}
-use Rattle.format.specs.Machine.{node_of}
-use Rattle.format.specs.Layout.{LaidOut, RunsInside, Inside, node_number, patch_number}
+use Rattle.format.specs.Layout.{LaidOut, patch_number}
 use Rattle.format.proofs.Decoded.{patches_in_lem}
-use Rattle.scene.specs.Tests.{panel_in_range, run_never_falls}
-use Rattle.model.proofs.Loops.{IsBoth, IsEvery, every_entry}
-
--- ---- one panel
-pub panel_zero : {n : ℕ} → n < 1 → false ≡ within 1 1024 n
-panel_zero {n} h = rw (lt-leb 1 n h)
-
-pub panel_high : {n : ℕ} → 1 ≤ n → leb n 1024 ≡ within 1 1024 n
-panel_high {n} h = rw (le-leb 1 n h)
+use Rattle.scene.specs.Tests.{run_never_falls}
 
 -- ---- one run
 module _ (panel : ℕ → ℕ) (first end : ℕ) where
@@ -64,18 +54,6 @@ module _ (panel : ℕ → ℕ) (first end : ℕ) where
 
 -- ---- the tables
 module _ {bytes : List ℕ} {l : Layout} (laid : LaidOut bytes l) where
-  pub panels_asked_lem : IsEvery l.patches (λ (k : ℕ). panel_in_range (patch_number bytes l k)) (panels_in_range (decode bytes))
-  unfolding panels_in_range
-  panels_asked_lem = every_entry panel_in_range (patch_number bytes l) l.patches (ap (every panel_in_range) laid.patches)
-
-  pub falls_asked :
-      IsEvery l.nodes (λ (k : ℕ). run_never_falls (decode bytes).patches (node_number bytes k).patch_run)
-      (panels_never_fall (decode bytes))
-  unfolding panels_never_fall
-  falls_asked =
-      every_entry (λ (n : NodeRecord). run_never_falls (decode bytes).patches n.patch_run) (node_number bytes) l.nodes
-      (ap (every (λ (n : NodeRecord). run_never_falls (decode bytes).patches n.patch_run)) laid.nodes)
-
   -- a run's panels, as they are read
   pub run_panels : (a b : ℕ) → a + b ≤ l.patches →
       never_falling (map (λ (k : ℕ). (patch_number bytes l k).panel) (range a (a + b - a))) ≡ run_never_falls (decode bytes).patches (record { first = a; count = b })
@@ -85,15 +63,3 @@ module _ {bytes : List ℕ} {l : Layout} (laid : LaidOut bytes l) where
       (ap (λ (m : ℕ). map (λ (k : ℕ). (patch_number bytes l k).panel) (range a m)) e
       ∙ sym
       (ap (map (λ (p : PatchRecord). p.panel)) (patches_in_lem laid a b h) ∙ map-map (λ (p : PatchRecord). p.panel) (patch_number bytes l) (range a b)))
-
-  pub run_inside :
-      {k : ℕ} {n : Node} →
-      RunsInside bytes l →
-      k < l.nodes →
-      node_of n ≡ node_number bytes k →
-      n.patches.first + n.patches.count ≤ l.patches
-  run_inside {k} runs h e = (subst (λ (r : NodeRecord). Inside l.patches r.patch_run) (sym e) (runs.patches k h)).inside
-
-pub panels_both : (s : Scene) → IsBoth (panels_in_range s) (panels_never_fall s) (panels_proper s)
-unfolding panels_proper
-panels_both s = record { both_tests = refl }

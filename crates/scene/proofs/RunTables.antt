@@ -1,13 +1,13 @@
 -- Question 6 over the tables, and what it tells: the runs are inside, and each patch has 3 to 8 corners.
 use mathlib.Core.Path.{◌≡◌, refl, sym, ap, ap₂, ◌∙◌}
-use mathlib.Core.Bool.{true, false}
+use mathlib.Core.Bool.{true}
 use mathlib.Core.List.Memᴰ
 use mathlib.Core.List.{List, map, map-map}
-use Prim.Native.Nat.{ℕ, ◌+◌, ◌*◌, ◌≤◌, ◌<◌}
+use Prim.Native.Nat.{ℕ, ◌+◌, ◌*◌, ◌<◌}
 use native.Mathlib.Omega.{arith}
 use lib.Dec.{leb}
 use lib.ListN.{length}
-use borrow.Author.Tests.{leb-true, lt-leb, le-leb}
+use borrow.Author.Tests.{leb-true}
 use Rattle.model.specs.Lists.{range, every}
 use Rattle.model.specs.Patch.{Patch, corners_counted}
 use Rattle.model.specs.Format.{Run, NodeRecord, PatchRecord, Scene, u16_at, node_at, patch_at, decode, patch_of}
@@ -20,14 +20,8 @@ use Rattle.scene.specs.Tests.{run_at, corners_follow, all_counted}
 use Rattle.model.proofs.Tests.{is_true, both_true}
 use Rattle.model.proofs.Ranges.{in_range}
 use Rattle.model.proofs.Runs.{runs_between}
-use Rattle.model.proofs.Loops.{IsBoth, both_yes, IsEvery, every_entry, each}
-
--- ---- one corner count
-pub below_three : {n : ℕ} → n < 3 → false ≡ within 3 8 n
-below_three {n} h = rw (lt-leb 3 n h)
-
-pub at_most_eight : {n : ℕ} → 3 ≤ n → leb n 8 ≡ within 3 8 n
-at_most_eight {n} h = rw (le-leb 3 n h)
+use Rattle.model.proofs.Loops.{range_same, every_number, each}
+use Rattle.format.proofs.Ranges.{every_of_range, all_numbered}
 
 -- ---- runs that follow each other end where the table ends
 runs_end : (run : ℕ → Run) (end n : ℕ) → runs_follow 0 end (map run (range 0 n)) ≡ true → (k : ℕ) → k < n → Inside end (run k)
@@ -107,23 +101,23 @@ module _ {bytes : List ℕ} {l : Layout} (laid : LaidOut bytes l) where
 
   pub counts_asked :
       corners_follow (decode bytes) ≡ true →
-      IsEvery l.patches (λ (k : ℕ). within 3 8 (patch_number bytes l k).corner_run.count) (all_counted (decode bytes))
+      every (λ (k : ℕ). within 3 8 (patch_number bytes l k).corner_run.count) (range 0 l.patches) ≡ all_counted (decode bytes)
   counts_asked t =
-      let whole = every_entry corners_counted (λ (k : ℕ). patch_of (decode bytes).corners (patch_number bytes l k)) l.patches (ap (every corners_counted) (patch_table_lem laid)) in
-      record {
-        one_no = λ k h e. whole.one_no k h (ap (within 3 8) (patch_length k (corners_inside t k h)) ∙ e);
-        all_yes = λ g. whole.all_yes (λ k h. ap (within 3 8) (patch_length k (corners_inside t k h)) ∙ g k h);
-      }
-
-pub corner_runs_both : (s : Scene) → IsBoth (corners_follow s) (all_counted s) (corner_runs_follow s)
-unfolding corner_runs_follow
-corner_runs_both s = record { both_tests = refl }
-
-pub runs_both : (s : Scene) → IsBoth (patch_runs_follow s) (corner_runs_follow s) (runs_proper s)
-unfolding runs_proper
-runs_both s = record { both_tests = refl }
+      let patch : ℕ → Patch = λ k. patch_of (decode bytes).corners (patch_number bytes l k) in
+      range_same (λ (k : ℕ). within 3 8 (patch_number bytes l k).corner_run.count) (λ (k : ℕ). corners_counted (patch k)) 0 l.patches
+      (λ k a b. ap (within 3 8) (sym (patch_length k (corners_inside t k (omega arith)))))
+      ∙ sym (every_of_range (λ (k : ℕ). corners_counted (patch k)) 0 l.patches)
+      ∙ all_numbered corners_counted patch 0 l.patches refl (ap (every corners_counted) (patch_table_lem laid))
 
 -- ---- what a yes tells
+follow_yes : (s : Scene) → corner_runs_follow s ≡ true → (corners_follow s ≡ true) × (all_counted s ≡ true)
+unfolding corner_runs_follow
+follow_yes s t = both_true (corners_follow s) (all_counted s) t
+
+proper_yes : (s : Scene) → runs_proper s ≡ true → (patch_runs_follow s ≡ true) × (corner_runs_follow s ≡ true)
+unfolding runs_proper
+proper_yes s t = both_true (patch_runs_follow s) (corner_runs_follow s) t
+
 module _ {bytes : List ℕ} {l : Layout} (laid : LaidOut bytes l) where
   abbrev corners_of : ℕ → ℕ
   corners_of k = (patch_number bytes l k).corner_run.count
@@ -134,16 +128,17 @@ module _ {bytes : List ℕ} {l : Layout} (laid : LaidOut bytes l) where
       k < l.patches →
       (leb 3 (corners_of k) ≡ true) × (leb (corners_of k) 8 ≡ true)
   count_within t k h =
-      let corners = both_yes (corner_runs_both (decode bytes)) t in
-      both_true (leb 3 (corners_of k)) (leb (corners_of k) 8) (each (counts_asked laid corners.0) corners.1 k h)
+      let corners = follow_yes (decode bytes) t in
+      both_true (leb 3 (corners_of k)) (leb (corners_of k) 8)
+      (each (every_number (λ (k : ℕ). within 3 8 (corners_of k)) l.patches) (counts_asked laid corners.0 ∙ corners.1) k h)
 
   pub runs_inside : runs_proper (decode bytes) ≡ true → RunsInside bytes l
   runs_inside t =
-      let runs = both_yes (runs_both (decode bytes)) t in
+      let runs = proper_yes (decode bytes) t in
       record {
         patches =
             runs_end (λ (k : ℕ). (node_number bytes k).patch_run) l.patches l.nodes (sym (node_runs laid) ∙ runs.0);
-        corners = corners_inside laid (both_yes (corner_runs_both (decode bytes)) runs.1).0;
+        corners = corners_inside laid (follow_yes (decode bytes) runs.1).0;
         three = λ k h. leb-true 3 (corners_of k) (count_within runs.1 k h).0;
         eight = λ k h. leb-true (corners_of k) 8 (count_within runs.1 k h).1;
       }

@@ -1,22 +1,18 @@
-use mathlib.Core.Path.{ap, ◌∙◌}
-use borrow.Author.Tests.{not-true, not-false}
+use mathlib.Core.Path.{◌≡◌, refl, ◌∙◌}
+use Prim.Native.Nat.{ℕ}
+use native.Mathlib.Omega.{arith}
+use Rattle.std.proofs.Common.{rules, tests}
+use Rattle.std.proofs.lemmas.Iterator.{YieldsList-from_range}
+use Rattle.std.proofs.lemmas.Iterator.Search.{all_from_yields_List}
+use Rattle.std.specs.List.{list_all, range_with_len}
+use Rattle.format.specs.Layout.{node_number}
 use Rattle.children.specs.Children.{proper_children}
-use Rattle.model.proofs.Loops.{none_passed, one_passed, refused, accepted}
-use Rattle.children.proofs.ChildOrder.{order_asked}
+use Rattle.children.proofs.ChildOrder.{ordered}
 use Rattle.children.proofs.children_in_order.Goals as goal
 
-pub loop-k-init : goal.loop-k-init
-loop-k-init c = none_passed _ _
-
-pub returns-then-not-proper_children : goal.returns-then-not-proper_children
-returns-then-not-proper_children c =
-    refused (order_asked c.requires) c.loop-k-test.true
-    (c.proper_children.ensures ∙ ap (proper_children _ _) c.node.ensures) (not-true _ c.if-not-proper_children.true-raw)
-
-pub loop-k-preserved : goal.loop-k-preserved
-loop-k-preserved c =
-    one_passed c.loop-k.invariant c.loop-k-test.true
-    (c.proper_children.ensures ∙ ap (proper_children _ _) c.node.ensures) (not-false _ c.if-not-proper_children.false-raw)
-
 pub returns : goal.returns
-returns c = accepted (order_asked c.requires) c.loop-k.invariant c.loop-k-test.false
+returns c =
+    let s = c.args.scene.now in
+    let asked : c.all.result ≡ list_all (λ (k : ℕ). proper_children s.layout.nodes k (node_number s.bytes.now k)) (range_with_len 0 s.layout.nodes) =
+    all_from_yields_List _ _ _ _ c.all.ensures.ran (YieldsList-from_range 0 s.layout.nodes s.layout.nodes refl (omega arith)) (λ x b q k. search (rules, tests)) in
+    asked ∙ ordered s.laid_out

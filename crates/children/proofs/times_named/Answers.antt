@@ -1,19 +1,9 @@
-use mathlib.Core.Path.{◌∙◌}
 use Rattle.format.specs.Layout.{node_number}
-use Rattle.children.proofs.Named.{none_counted, room_first, room_second, one_counted, all_counted_lem}
+use Rattle.children.proofs.Named.{none_counted, one_counted, all_counted_lem}
 use Rattle.children.proofs.times_named.Goals as goal
 
 pub loop-k-init : goal.loop-k-init
 loop-k-init c = none_counted _ _
-
-pub count_child-requires : goal.count_child-requires
-count_child-requires c =
-    (c.loop-k.invariant.long, room_first c.loop-k.invariant _ c.requires.few_nodes)
-
-pub count_child-requires-in-loop-k : goal.count_child-requires-in-loop-k
-count_child-requires-in-loop-k c =
-    let o = c.count_child.ensures in
-    (o.long ∙ c.loop-k.invariant.long, room_second c.loop-k.invariant o _ c.requires.few_nodes)
 
 pub loop-k-preserved : goal.loop-k-preserved
 loop-k-preserved c =
@@ -21,4 +11,4 @@ loop-k-preserved c =
     c.count_child.ensures c.count_child-in-loop-k.ensures
 
 pub returns : goal.returns
-returns c = all_counted_lem c.requires c.loop-k.invariant c.loop-k-test.false
+returns c = all_counted_lem c.args.scene.now.laid_out c.loop-k.invariant c.loop-k-test.false

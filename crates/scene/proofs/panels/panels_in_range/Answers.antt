@@ -1,22 +1,19 @@
-use mathlib.Core.Path.{ap, ◌∙◌}
-use borrow.Author.Tests.{not-true, not-false}
+use mathlib.Core.Path.{refl, ap}
+use native.Mathlib.Omega.{arith}
+use Rattle.std.proofs.Common.{rules, tests}
+use Rattle.std.proofs.lemmas.Iterator.{YieldsList-from_range}
+use Rattle.std.proofs.lemmas.Iterator.Search.{all_from_yields_List}
+use Rattle.model.specs.Lists.{every}
+use Rattle.model.specs.Questions.{panels_in_range}
+use Rattle.format.specs.Layout.{patch_number}
+use Rattle.format.proofs.Ranges.{all_numbered}
 use Rattle.scene.specs.Tests.{panel_in_range}
-use Rattle.model.proofs.Loops.{none_passed, one_passed, refused, accepted}
-use Rattle.scene.proofs.NeverFalling.{panels_asked_lem}
 use Rattle.scene.proofs.panels.panels_in_range.Goals as goal
 
-pub loop-k-init : goal.loop-k-init
-loop-k-init c = none_passed _ _
-
-pub returns-then-not-panel_in_range : goal.returns-then-not-panel_in_range
-returns-then-not-panel_in_range c =
-    refused (panels_asked_lem c.requires) c.loop-k-test.true
-    (c.panel_in_range.ensures ∙ ap panel_in_range c.patch_record.ensures) (not-true _ c.if-not-panel_in_range.true-raw)
-
-pub loop-k-preserved : goal.loop-k-preserved
-loop-k-preserved c =
-    one_passed c.loop-k.invariant c.loop-k-test.true
-    (c.panel_in_range.ensures ∙ ap panel_in_range c.patch_record.ensures) (not-false _ c.if-not-panel_in_range.false-raw)
-
 pub returns : goal.returns
-returns c = accepted (panels_asked_lem c.requires) c.loop-k.invariant c.loop-k-test.false
+unfolding panels_in_range
+returns c =
+    let s = c.args.scene.now in
+    all_numbered panel_in_range (patch_number s.bytes.now s.layout) 0 s.layout.patches
+    (all_from_yields_List _ _ _ _ c.all.ensures.ran (YieldsList-from_range 0 s.layout.patches s.layout.patches refl (omega arith)) (λ x b q k. search (rules, tests)))
+    (ap (every panel_in_range) s.laid_out.patches)

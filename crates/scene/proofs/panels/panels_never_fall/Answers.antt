@@ -1,32 +1,22 @@
-use mathlib.Core.Path.{ap, ◌∙◌}
-use borrow.Author.Tests.{not-true, not-false}
+use mathlib.Core.Path.{refl, ap}
+use mathlib.Core.Bool.{Bool}
+use native.Mathlib.Omega.{arith}
+use Rattle.std.proofs.Common.{rules, tests}
+use Rattle.std.proofs.lemmas.Iterator.{YieldsList-from_range}
+use Rattle.std.proofs.lemmas.Iterator.Search.{all_from_yields_List}
+use Rattle.model.specs.Lists.{every}
 use Rattle.model.specs.Format.{NodeRecord, decode}
+use Rattle.model.specs.Questions.{panels_never_fall}
+use Rattle.format.specs.Layout.{node_number}
+use Rattle.format.proofs.Ranges.{all_numbered}
 use Rattle.scene.specs.Tests.{run_never_falls}
-use Rattle.model.proofs.Loops.{none_passed, one_passed, refused, accepted}
-use Rattle.scene.proofs.NeverFalling.{falls_asked, run_inside}
 use Rattle.scene.proofs.panels.panels_never_fall.Goals as goal
 
-pub loop-k-init : goal.loop-k-init
-loop-k-init c = none_passed _ _
-
-pub run_never_falls-requires : goal.run_never_falls-requires
-run_never_falls-requires c =
-    let p = c.requires in
-    (p.0, run_inside p.0 p.1 c.loop-k-test.true c.node-m.ensures)
-
-pub returns-then-not-run_never_falls : goal.returns-then-not-run_never_falls
-returns-then-not-run_never_falls c =
-    let s = decode c.args.bytes.now in
-    refused (falls_asked c.requires.0) c.loop-k-test.true
-    (c.run_never_falls.ensures ∙ ap (λ (n : NodeRecord). run_never_falls s.patches n.patch_run) c.node-m.ensures)
-    (not-true _ c.if-not-run_never_falls.true-raw)
-
-pub loop-k-preserved : goal.loop-k-preserved
-loop-k-preserved c =
-    let s = decode c.args.bytes.now in
-    one_passed c.loop-k.invariant c.loop-k-test.true
-    (c.run_never_falls.ensures ∙ ap (λ (n : NodeRecord). run_never_falls s.patches n.patch_run) c.node-m.ensures)
-    (not-false _ c.if-not-run_never_falls.false-raw)
-
 pub returns : goal.returns
-returns c = accepted (falls_asked c.requires.0) c.loop-k.invariant c.loop-k-test.false
+unfolding panels_never_fall
+returns c =
+    let s = c.args.scene.now in
+    let asked : NodeRecord → Bool = λ n. run_never_falls (decode s.bytes.now).patches n.patch_run in
+    all_numbered asked (node_number s.bytes.now) 0 s.layout.nodes
+    (all_from_yields_List _ _ _ _ c.all.ensures.ran (YieldsList-from_range 0 s.layout.nodes s.layout.nodes refl (omega arith)) (λ x b q k. search (rules, tests)))
+    (ap (every asked) s.laid_out.nodes)

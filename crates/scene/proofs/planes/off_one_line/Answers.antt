@@ -1,14 +1,10 @@
-use Rattle.scene.proofs.OffOneLine.{x_not_zero, y_not_zero, z_not_zero, all_zero}
+use mathlib.Core.Path.{◌∙◌}
+use Rattle.std.proofs.Common.{rules}
+use Rattle.scene.proofs.OffOneLine.{not_both_zero, third_decides}
 use Rattle.scene.proofs.planes.off_one_line.Goals as goal
 
-pub returns-then-v-ne0 : goal.returns-then-v-ne0
-returns-then-v-ne0 c = search x_not_zero
-
 pub returns-then-v-ne0-2 : goal.returns-then-v-ne0-2
-returns-then-v-ne0-2 c = search y_not_zero
+returns-then-v-ne0-2 c = search rules ∙ not_both_zero _ c.plane_normal-v.ensures c.if-v-ne0-2.either
 
-pub returns-then-v-ne0-3 : goal.returns-then-v-ne0-3
-returns-then-v-ne0-3 c = search z_not_zero
-
-pub returns : goal.returns
-returns c = search all_zero
+pub returns-else-v-ne0-2 : goal.returns-else-v-ne0-2
+returns-else-v-ne0-2 c = third_decides _ c.plane_normal-v.ensures c.if-v-ne0-2.false.0 c.if-v-ne0-2.false.1

@@ -1,28 +1,24 @@
-use mathlib.Core.Path.{ap, ◌∙◌}
-use borrow.Author.Tests.{not-true, not-false}
+use mathlib.Core.Path.{refl, ap}
+use native.Mathlib.Omega.{arith}
+use Rattle.std.proofs.Common.{rules, tests}
+use Rattle.std.proofs.lemmas.Iterator.{YieldsList-from_range, serves_from_Range}
+use Rattle.std.proofs.lemmas.Iterator.Search.{all_from_yields_List}
+use Rattle.model.specs.Lists.{every}
 use Rattle.model.specs.Format.{NodeRecord}
-use Rattle.model.specs.Questions.{off_one_line}
-use Rattle.model.proofs.Loops.{none_passed, one_passed, refused, accepted}
-use Rattle.scene.proofs.OffOneLine.{planes_asked, node_bounded}
+use Rattle.model.specs.Questions.{off_one_line, planes_proper}
+use Rattle.format.specs.Layout.{node_number}
+use Rattle.format.proofs.Ranges.{all_numbered}
+use Rattle.scene.proofs.OffOneLine.{node_bounded}
 use Rattle.scene.proofs.planes.planes_proper.Goals as goal
 
-pub loop-k-init : goal.loop-k-init
-loop-k-init c = none_passed _ _
-
-pub off_one_line-requires : goal.off_one_line-requires
-off_one_line-requires c =
-    let p = c.requires in
-    node_bounded p.0 p.1 c.loop-k-test.true c.node.ensures
-
-pub returns-then-not-off_one_line : goal.returns-then-not-off_one_line
-returns-then-not-off_one_line c =
-    refused (planes_asked c.requires.0) c.loop-k-test.true
-    (c.off_one_line.ensures ∙ ap (λ (n : NodeRecord). off_one_line n.plane) c.node.ensures) (not-true _ c.if-not-off_one_line.true-raw)
-
-pub loop-k-preserved : goal.loop-k-preserved
-loop-k-preserved c =
-    one_passed c.loop-k.invariant c.loop-k-test.true
-    (c.off_one_line.ensures ∙ ap (λ (n : NodeRecord). off_one_line n.plane) c.node.ensures) (not-false _ c.if-not-off_one_line.false-raw)
+pub all-requires-clause-callable : goal.all-requires-clause-callable
+all-requires-clause-callable c = serves_from_Range (λ x q r. search rules) (λ x a b.
+    (λ κs p g e r v. b, λ κs p g e r n v. node_bounded c.args.scene.now.laid_out c.requires b n.ensures))
 
 pub returns : goal.returns
-returns c = accepted (planes_asked c.requires.0) c.loop-k.invariant c.loop-k-test.false
+unfolding planes_proper
+returns c =
+    let s = c.args.scene.now in
+    all_numbered (λ (n : NodeRecord). off_one_line n.plane) (node_number s.bytes.now) 0 s.layout.nodes
+    (all_from_yields_List _ _ _ _ c.all.ensures.ran (YieldsList-from_range 0 s.layout.nodes s.layout.nodes refl (omega arith)) (λ x b q k. search (rules, tests)))
+    (ap (every (λ (n : NodeRecord). off_one_line n.plane)) s.laid_out.nodes)

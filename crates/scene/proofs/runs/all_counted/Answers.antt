@@ -1,28 +1,21 @@
-use mathlib.Core.Path.{ap, ◌∙◌}
-use borrow.Author.Tests.{not-true, not-false}
-use Rattle.model.specs.Format.{PatchRecord}
+use mathlib.Core.Path.{◌≡◌, refl, ◌∙◌}
+use mathlib.Core.Bool.{Bool}
+use Prim.Native.Nat.{ℕ}
+use native.Mathlib.Omega.{arith}
+use Rattle.std.proofs.Common.{rules, tests}
+use Rattle.std.specs.List.{list_all, range_with_len}
+use Rattle.std.proofs.lemmas.Iterator.{YieldsList-from_range}
+use Rattle.std.proofs.lemmas.Iterator.Search.{all_from_yields_List}
 use Rattle.model.specs.Questions.{within}
-use Rattle.model.proofs.Loops.{none_passed, one_passed, refused, accepted}
+use Rattle.format.specs.Layout.{patch_number}
+use Rattle.format.proofs.Ranges.{every_of_range}
 use Rattle.scene.proofs.RunTables.{counts_asked}
 use Rattle.scene.proofs.runs.all_counted.Goals as goal
 
-pub loop-k-init : goal.loop-k-init
-loop-k-init c = none_passed _ _
-
-pub returns-then-not-three_to_eight : goal.returns-then-not-three_to_eight
-returns-then-not-three_to_eight c =
-    refused (counts_asked c.requires.0 c.requires.1)
-    c.loop-k-test.true
-    (c.three_to_eight.ensures ∙ ap (λ (p : PatchRecord). within 3 8 p.corner_run.count) c.patch_record-p.ensures)
-    (not-true _ c.if-not-three_to_eight.true-raw)
-
-pub loop-k-preserved : goal.loop-k-preserved
-loop-k-preserved c =
-    one_passed c.loop-k.invariant c.loop-k-test.true
-    (c.three_to_eight.ensures ∙ ap (λ (p : PatchRecord). within 3 8 p.corner_run.count) c.patch_record-p.ensures)
-    (not-false _ c.if-not-three_to_eight.false-raw)
-
 pub returns : goal.returns
 returns c =
-    accepted (counts_asked c.requires.0 c.requires.1) c.loop-k.invariant
-    c.loop-k-test.false
+    let s = c.args.scene.now in
+    let counted : ℕ → Bool = λ k. within 3 8 (patch_number s.bytes.now s.layout k).corner_run.count in
+    let asked : c.all.result ≡ list_all counted (range_with_len 0 s.layout.patches) =
+    all_from_yields_List _ _ _ _ c.all.ensures.ran (YieldsList-from_range 0 s.layout.patches s.layout.patches refl (omega arith)) (λ x b q k. search (rules, tests)) in
+    asked ∙ every_of_range counted 0 s.layout.patches ∙ counts_asked s.laid_out c.requires

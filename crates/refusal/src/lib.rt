@@ -1,0 +1,49 @@
+// What a call is refused for: the question that said no first. C is told its number.
+#![tactic(auto)]
+
+ghost use Rattle.std.specs.Prelude.{◌≡◌, true, false, MatchResult};
+ghost use Rattle.refusal.specs.Refusal.{refusal_number, answer_of};
+
+#[derive(Clone, Copy, PartialEq, Eq, Debug)]
+pub enum Refusal {
+    Header = 1,
+    Sections = 2,
+    Coordinates = 3,
+    Planes = 4,
+    Children = 5,
+    Runs = 6,
+    Panels = 7,
+    Patches = 8,
+    Division = 9,
+    View = 10,
+    Lengths = 11,
+    Counter = 12,
+    // 13 is of a question that is struck
+    Axes = 14,
+    Station = 15,
+}
+
+impl Refusal {
+    pub fn number(self) -> u32
+        ensures { result ≡ refusal_number self }
+    {
+        self as u32
+    }
+}
+
+// a question's answer, where no is a refusal
+pub fn ask(yes: bool, refusal: Refusal) -> Result<(), Refusal>
+    ensures { MatchResult result (λ _. yes ≡ true) (λ e. (yes ≡ false) × (e ≡ refusal)) }
+{
+    if yes { Ok(()) } else { Err(refusal) }
+}
+
+// what C is answered: 0, or the number of the question that said no
+pub fn answer<T>(outcome: &Result<T, Refusal>) -> u32
+    ensures { result ≡ answer_of outcome.now }
+{
+    match outcome {
+        Ok(_) => 0,
+        Err(refusal) => refusal.number(),
+    }
+}
