@@ -1,5 +1,4 @@
 -- Laws on the lines of rows.
-mod Fields
 mod Rooms
 mod Used
 pub mod Examples

@@ -1,20 +1,13 @@
 -- The used pairs of a row that is lent whole: they are no more than the row.
 use mathlib.Core.Path.{◌≡◌, ◌∙◌, ap}
 use mathlib.Core.Bool.{cond}
-use mathlib.Core.List.{List, [], ◌∷◌}
-use Prim.Native.Nat.{ℕ, zero, suc, ◌≤◌}
+use mathlib.Core.List.{List, []}
+use Prim.Native.Nat.{ℕ}
 use native.Mathlib.Omega.{arith}
 use lib.Dec.{leb}
 use lib.ListN.{length, take}
 use lib.Seq.{take_all}
 use Rattle.model.specs.Row.{used_pairs, used_part}
-
-pub pairs_length : (row : List ℕ) → length (used_pairs row) ≤ length row
-unfolding used_pairs
-pairs_length [] = omega arith
-pairs_length (offset ∷ []) = omega arith
-pairs_length (offset ∷ zero ∷ row) = omega arith
-pairs_length (offset ∷ suc n ∷ row) = omega (arith, pairs_length row)
 
 pub used_whole : (row : List ℕ) → length row ≡ 256 → used_part row 0 ≡ used_pairs row
 unfolding used_part

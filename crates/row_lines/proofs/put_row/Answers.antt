@@ -1,30 +1,34 @@
--- `put_row` meets its contract: the row is lent whole, so that its used pairs are those of the line.
-use mathlib.Core.Path.{◌≡◌, ◌∙◌, ap}
-use mathlib.Core.List.{List}
-use Prim.Native.Nat.{ℕ}
-use native.Mathlib.Omega.{arith}
-use lib.ListN.{length}
-use Rattle.model.specs.Row.{used_pairs, used_part}
-use Rattle.text.proofs.Puts.{put_same}
-use Rattle.row_lines.specs.Line.{fields}
-use Rattle.row_lines.proofs.Used.{pairs_length, used_whole}
+-- The buffer has room for every line.
+use Rattle.std.proofs.Common.{arith}
+use Rattle.std.proofs.lemmas.Grind.{common_steps}
+use Rattle.text.proofs.Lengths.{decimal_length}
+use Rattle.row_lines.proofs.Rooms.{numbers_length, pairs_length, words_length}
+use Rattle.row_lines.proofs.Used.{used_whole}
 use Rattle.row_lines.proofs.put_row.Goals as goal
 
--- the part of the row that is handed out
-used : (row handed : List ℕ) → handed ≡ used_part row 0 → length row ≡ 256 → handed ≡ used_pairs row
-used row handed e long = e ∙ used_whole row long
+pub put_number-requires : goal.put_number-requires
+put_number-requires c = grind (arith, common_steps, decimal_length c.args.number c.ranges.number.fits)
 
-pub put_fields-requires : goal.put_fields-requires
-put_fields-requires c =
-    let whole = used c.args.row.now c.used_pairs.result.now c.used_pairs.ensures c.used_pairs-arg-1.given in (
-      c.requires.0,
-      omega (arith, ap length whole, pairs_length c.args.row.now, c.used_pairs-arg-1.given),
-      omega (arith, c.put_fields-arg-2-1.given),
-      c.requires.1,
-    )
+pub put_each-requires : goal.put_each-requires
+put_each-requires c = grind (arith, common_steps, decimal_length c.args.number c.ranges.number.fits, numbers_length c.args.reported.now c.type_inv.reported)
 
-pub returns : goal.returns
-returns c =
-    let a = c.args in
-    let whole = used a.row.now c.used_pairs.result.now c.used_pairs.ensures c.used_pairs-arg-1.given in
-    put_same (ap (λ (pairs : List ℕ). fields a.number a.reported.now pairs a.words.now a.cells.now) whole) c.put_fields.ensures
+pub push-requires : goal.push-requires
+push-requires c = grind (arith, common_steps, decimal_length c.args.number c.ranges.number.fits, numbers_length c.args.reported.now c.type_inv.reported)
+
+pub put_each-requires-2 : goal.put_each-requires-2
+put_each-requires-2 c = grind (arith, common_steps, decimal_length c.args.number c.ranges.number.fits, numbers_length c.args.reported.now c.type_inv.reported, pairs_length c.args.row.now c.fits-row, used_whole c.args.row.now c.told-row)
+
+pub put_text-requires : goal.put_text-requires
+put_text-requires c = grind (arith, common_steps, decimal_length c.args.number c.ranges.number.fits, numbers_length c.args.reported.now c.type_inv.reported, pairs_length c.args.row.now c.fits-row, used_whole c.args.row.now c.told-row)
+
+pub put_each-requires-3 : goal.put_each-requires-3
+put_each-requires-3 c = grind (arith, common_steps, decimal_length c.args.number c.ranges.number.fits, numbers_length c.args.reported.now c.type_inv.reported, pairs_length c.args.row.now c.fits-row, used_whole c.args.row.now c.told-row, words_length c.args.words.now)
+
+pub put_text-requires-2 : goal.put_text-requires-2
+put_text-requires-2 c = grind (arith, common_steps, decimal_length c.args.number c.ranges.number.fits, numbers_length c.args.reported.now c.type_inv.reported, pairs_length c.args.row.now c.fits-row, used_whole c.args.row.now c.told-row, words_length c.args.words.now)
+
+pub put_each-requires-4 : goal.put_each-requires-4
+put_each-requires-4 c = grind (arith, common_steps, decimal_length c.args.number c.ranges.number.fits, numbers_length c.args.reported.now c.type_inv.reported, pairs_length c.args.row.now c.fits-row, used_whole c.args.row.now c.told-row, words_length c.args.words.now, numbers_length c.args.cells.now c.type_inv.cells)
+
+pub push-requires-2 : goal.push-requires-2
+push-requires-2 c = grind (arith, common_steps, decimal_length c.args.number c.ranges.number.fits, numbers_length c.args.reported.now c.type_inv.reported, pairs_length c.args.row.now c.fits-row, used_whole c.args.row.now c.told-row, words_length c.args.words.now, numbers_length c.args.cells.now c.type_inv.cells)
