@@ -8,12 +8,11 @@ use native.Mathlib.Numerals.{add-one}
 use native.Mathlib.Omega.{arith}
 use borrow.Author.Tests.{lt-leb, le-ltb}
 use lib.Dec.{leb}
-use lib.IntN.{ℤ}
 use lib.ListN.{length, get_or, drop, drop_of_length-le}
 use lib.Seq.{drop-cons}
 use Rattle.geometry.specs.declared.EdgeFunction.{EdgeFunction}
 use Rattle.spans.specs.declared.Span.{Span}
-use Rattle.spans.specs.Span.{covers, Shaped, number_at, Clipped, ClippedBut}
+use Rattle.spans.specs.Span.{covers, Shaped, number_at, ClippedBut}
 use Rattle.spans.specs.Row.{all_above, RowSpan}
 use Rattle.model.proofs.Tests.{lt_or_ge}
 
@@ -40,9 +39,6 @@ pub record Narrowed (fs : List EdgeFunction) (j : ℕ) (within lit : Span) (k : 
       (covers within i && all_above fs i j) ≡ (covers s i && all_above (drop k fs) i j)
 
 module _ {fs : List EdgeFunction} {j : ℕ} {within lit : Span} where
-  pub narrowed_none : Narrowed fs j within lit 0 within
-  narrowed_none = record { limited = omega arith; left = λ i f. refl }
-
   module _ {k : ℕ} {s : Span} (n : Narrowed fs j within lit k s) where
     pub narrowed_more :
         (d : EdgeFunction) {r : Span} → k < length fs →
@@ -59,9 +55,6 @@ module _ {fs : List EdgeFunction} {j : ℕ} {within lit : Span} where
               ∙ rw (c.exact i b) (sym (and_assoc (covers s i) _ _));
         }
 
-    pub narrowed_empty : s.end ≤ s.first → RowSpan fs j within lit s
-    narrowed_empty h = record { exact = λ i b. sym (n.left i b ∙ rw (no_columns s h i)); limited = n.limited }
-
     pub narrowed_all : length fs ≤ k → RowSpan fs j within lit s
     unfolding all_above
     narrowed_all h =
@@ -69,11 +62,3 @@ module _ {fs : List EdgeFunction} {j : ℕ} {within lit : Span} where
           exact = λ i b. sym (n.left i b ∙ ap (λ (gs : List EdgeFunction). covers s i && all_above gs i j) (drop_of_length-le fs h) ∙ and-true (covers s i));
           limited = n.limited;
         }
-
--- an empty span stays as it is
-pub clipped_empty : {height : ℕ} {A B : ℤ} {s : Span} → Shaped height s → s.end ≤ s.first → Clipped A B s s
-clipped_empty {A = A} {B} {s} h k =
-    record {
-      exact = λ i. rw (no_columns s k i);
-      shaped = record { written = h.written; limited = omega arith };
-    }
