@@ -1,6 +1,6 @@
 -- One patch more is painted in all rows, and booked.
 use mathlib.Core.Path.{◌≡◌, refl, sym, ap, subst, ◌∙◌}
-use mathlib.Core.Logic.{inl, ⊎_elim}
+use mathlib.Core.Logic.{⊎_elim}
 use mathlib.Core.Bool.{Bool, true, false, not, ◌&&◌, true≢false}
 use mathlib.Core.List.{List, [], map}
 use Prim.Native.Nat.{ℕ, ◌+◌, ◌*◌, ◌≤◌, ◌<◌}
@@ -8,7 +8,6 @@ use native.Mathlib.Nat.{add-zero, mul_comm, mul-le-mul_right}
 use native.Mathlib.Numerals.{add-one}
 use native.Mathlib.Omega.{arith}
 use lib.ListN.{length, get_or, set, take}
-use lib.IntN.{ℤ}
 use lib.Seq.{take-suc, set-get_or, lt-length-set, get_or-set_same}
 use borrow.Author.Tests.{le-leb, lt-ltb}
 use Rattle.model.specs.Lists.{range, tally}
@@ -16,6 +15,7 @@ use Rattle.model.specs.Patch.{Patch}
 use Rattle.model.specs.Ray.{met}
 use Rattle.model.specs.Booking.{cells_where}
 use Rattle.model.specs.Format.{decode, patch_numbered}
+use Rattle.geometry.specs.declared.EdgeFunction.{EdgeFunction}
 use Rattle.geometry.specs.Machine.{vec_of}
 use Rattle.geometry.specs.Raster.{line_at}
 use Rattle.model.proofs.LitMap.{map_congr}
@@ -23,11 +23,10 @@ use Rattle.segments.proofs.Rows.{row_congr}
 use Rattle.segments.proofs.Tallies.{tally_congr}
 use Rattle.segments.proofs.Painting.{painted_congr}
 use Rattle.format.specs.declared.layout.Layout.{Layout}
-use Rattle.tables.specs.Functions.{functions_in}
 use Rattle.spans.specs.declared.Span.{Span}
 use Rattle.spans.specs.Span.{covers, Limited}
 use Rattle.edges.specs.declared.Sight.{Sight}
-use Rattle.edges.specs.Edges.{EdgesAsked, EdgesKept}
+use Rattle.edges.specs.Edges.{EdgesKept}
 use Rattle.slopes.specs.declared.Sloped.{Sloped}
 use Rattle.reach.specs.declared.RasterPlanes.{RasterPlanes}
 use Rattle.reach.specs.Planes.{Sighting}
@@ -135,20 +134,8 @@ module _
         (over_none [] p.panel s.raster.width s.raster.height (unlit_by asked.so_far) picture 0 (under_work asked.so_far))
         entry)
 
-    pub edges_asked :
-        {table : List ℤ} {reach : Span} → Limited s.raster.height reach → reach.first < reach.end → 24 ≤ length table →
-        EdgesAsked bytes l (get_or order k 0) s reach table
-    edges_asked limited some room =
-        record {
-          scene = asked.paintable.checked;
-          number = number;
-          sight = asked.paintable.sight;
-          shaped = record { written = inl some; limited = omega (arith, limited.end_limit, asked.paintable.low) };
-          room = room;
-        }
-
     module _
-        {table : List ℤ} {reach : Span} {r : Sloped} (found : Reach (vec_of s.eye) s.raster p reach) (limited : Limited s.raster.height reach) (edges : EdgesKept s p reach table r)
+        {table : List EdgeFunction} {reach : Span} {r : Sloped} (found : Reach (vec_of s.eye) s.raster p reach) (limited : Limited s.raster.height reach) (edges : EdgesKept s p reach table r)
       where
         inside : r.reach.end ≤ s.raster.height
         inside = omega (arith, edges.shaped.limited, limited.end_limit)
@@ -156,7 +143,7 @@ module _
         room : s.raster.height * s.raster.width ≤ length picture
         room = omega (arith, asked.cells, mul_comm s.raster.width s.raster.height)
 
-        pub rows_asked_lem : RowsAsked table r.count r.reach s.raster.width rows words picture
+        pub rows_asked_lem : RowsAsked (take r.count table) r.reach s.raster.width rows words picture
         rows_asked_lem =
             record {
               run = edges.run;
@@ -176,10 +163,10 @@ module _
             {panel : ℕ} {rows' words' : List (List ℕ)} {picture' : List ℕ} {lit : ℕ} (panel_is : panel ≡ p.panel)
             (over :
             (height : ℕ) (unlit : ℕ → ℕ → Bool) → r.reach.end ≤ height → height * s.raster.width ≤ length picture → UnlitSets s.raster.width height unlit rows words →
-            RowsPaintedOver (in_rows r.reach (functions_in table r.count)) panel s.raster.width height unlit picture rows' words' picture' lit)
+            RowsPaintedOver (in_rows r.reach (take r.count table)) panel s.raster.width height unlit picture rows' words' picture' lit)
           where
             -- it is met in the rows of its reach alone, and there in the rows that are left, where the functions kept are above 0
-            met_there : (j : ℕ) → j < s.raster.height → (i : ℕ) → i < s.raster.width → in_rows r.reach (functions_in table r.count) j i ≡ met (vec_of s.eye) (line_at s.raster i j) p
+            met_there : (j : ℕ) → j < s.raster.height → (i : ℕ) → i < s.raster.width → in_rows r.reach (take r.count table) j i ≡ met (vec_of s.eye) (line_at s.raster i j) p
             met_there j b i l = edges.same j i ∙ go (covers reach j) refl
               where
                 outside : covers reach j ≡ false → reach.first ≤ j → j < reach.end → ⊥
@@ -194,7 +181,7 @@ module _
                 patch_goes asked.so_far asked.next met_there
                 (subst
                 (λ (n : ℕ).
-                RowsPaintedOver (in_rows r.reach (functions_in table r.count)) n s.raster.width s.raster.height (unlit_by asked.so_far) picture rows' words' picture' lit)
+                RowsPaintedOver (in_rows r.reach (take r.count table)) n s.raster.width s.raster.height (unlit_by asked.so_far) picture rows' words' picture' lit)
                 panel_is (over s.raster.height (unlit_by asked.so_far) inside room (under_work asked.so_far)))
                 entry
 

@@ -1,14 +1,13 @@
 -- All rows of a picture under work: what painting over some columns of them asks and leaves.
-use Rattle.std.specs.Prelude.{◌≡◌, Bool, not, ◌&&◌, List, [], ℕ, ◌*◌, ◌≤◌, ◌<◌, ℤ, length, get_or, take, drop}
+use Rattle.std.specs.Prelude.{◌≡◌, Bool, not, ◌&&◌, List, [], ℕ, ◌*◌, ◌≤◌, ◌<◌, length, get_or, take, drop}
 use Rattle.model.specs.Row.{row_of}
 use Rattle.model.specs.Map.{map_row}
 use Rattle.model.specs.Booking.{cells_where}
 use Rattle.segments.specs.Columns.{painted}
 use Rattle.geometry.specs.declared.EdgeFunction.{EdgeFunction}
-use Rattle.tables.specs.Functions.{FunctionRun}
 use Rattle.spans.specs.declared.Span.{Span}
 use Rattle.spans.specs.Span.{covers}
-use Rattle.spans.specs.Row.{all_above}
+use Rattle.spans.specs.Row.{FunctionRun, all_above}
 
 -- row j of a picture
 abbrev pub row_part : ℕ → ℕ → List ℕ → List ℕ
@@ -25,8 +24,8 @@ in_rows rows fs j i = covers rows j && all_above fs i j
 
 -- what painting in the rows of a span asks: they are rows of the picture, and under work
 pub record RowsAsked
-    (table : List ℤ) (count : ℕ) (reach : Span) (width : ℕ) (rows words : List (List ℕ)) (picture : List ℕ) : Type 0 where
-  pub run : FunctionRun table count
+    (functions : List EdgeFunction) (reach : Span) (width : ℕ) (rows words : List (List ℕ)) (picture : List ℕ) : Type 0 where
+  pub run : FunctionRun functions
   pub ordered : reach.first ≤ reach.end
   pub low : reach.end ≤ 128
   pub narrow : width ≤ 256

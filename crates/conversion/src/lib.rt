@@ -2,21 +2,20 @@
 #![tactic(auto)]
 
 ghost use Rattle.std.specs.Prelude.{Bool, ℕ, ◌+◌, ◌*◌, ◌≤◌, length};
-ghost use Rattle.tables.specs.Functions.{functions_in};
 ghost use Rattle.conversion.specs.Canvas.{UnlitSets, RowsAsked, in_rows, RowsPaintedOver};
 ghost use Rattle.conversion.specs.Progress.{PatchAsked, WalkPainted};
 
 use checked::patch_record;
 use edges::{Sight, patch_edges};
 use format::layout::Layout;
+use geometry::EdgeFunction;
 use reach::{RasterPlanes, beside_columns, patch_rows};
 use scanline::lay_patch;
 use spans::Span;
 
-// Paints the panel where the first `count` functions of a table are all above 0, in the rows of a span, over the columns that are unlit. Says how many cells it newly lit.
+// Paints the panel where some edge functions are all above 0, in the rows of a span, over the columns that are unlit. Says how many cells it newly lit.
 fn convert_rows(
-    table: &[i64],
-    count: usize,
+    functions: &[EdgeFunction],
     panel: u16,
     reach: Span,
     width: usize,
@@ -24,29 +23,25 @@ fn convert_rows(
     words: &mut [[u64; 4]; 128],
     picture: &mut [u16],
 ) -> u32
-    requires { RowsAsked table.now count reach width rows.old words.old picture.old }
+    requires { RowsAsked functions.now reach width rows.old words.old picture.old }
     ensures { (height : ℕ) (unlit : ℕ → ℕ → Bool) → reach.end ≤ height → height * width ≤ length picture.old →
         UnlitSets width height unlit rows.old words.old →
-        RowsPaintedOver (in_rows reach (functions_in table.now count)) panel width height unlit picture.old
+        RowsPaintedOver (in_rows reach functions.now) panel width height unlit picture.old
         rows.new words.new picture.new result }
 {
-    let to = reach.end;
     let mut lit = 0u32;
-    let mut j = reach.first;
-    while j < to {
+    for j in reach.first..reach.end {
         let start = j * width;
         let end = start + width;
         let n = lay_patch(
-            table,
-            count,
+            functions,
             panel,
             j,
             &mut rows[j],
             &mut words[j],
             &mut picture[start..end],
         );
-        lit += n as u32;
-        j += 1;
+        lit += u32::from(n);
     }
     lit
 }
@@ -76,11 +71,21 @@ pub fn paint_patch(
         return;
     }
     let panel = patch_record(bytes, l, n).panel;
-    let mut edges = [0i64; 24];
+    let mut edges = [EdgeFunction {
+        start: 0,
+        slope: 0,
+        drop: 0,
+    }; 8];
     let kept = patch_edges(bytes, l, n, sight, reach, &mut edges);
     let width = sight.raster.width;
     let lit = convert_rows(
-        &edges, kept.count, panel, kept.reach, width, rows, words, picture,
+        &edges[..kept.count],
+        panel,
+        kept.reach,
+        width,
+        rows,
+        words,
+        picture,
     );
     booked[n] = booked[n] + lit;
 }

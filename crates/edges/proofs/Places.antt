@@ -6,7 +6,7 @@ use Prim.Native.Nat.{ℕ, zero, suc, ◌+◌, ◌≤◌, ◌<◌}
 use native.Mathlib.Omega.{arith}
 use native.Mathlib.Numerals.{add-one}
 use lib.Dec.{ltb, lit<}
-use borrow.Author.Tests.{ltb-true, ltb-false, lt-ltb, le-ltb}
+use borrow.Author.Tests.{ltb-true, ltb-false, lt-ltb}
 use lib.IntN.{ℤ}
 use lib.ListN.{length, get_or, take, drop, drop_of_length-le}
 use lib.Seq.{drop-cons}
@@ -77,9 +77,6 @@ next_end cs i h some = go (ltb (suc i) (length cs)) refl
 
 pub next_further : (n i : ℕ) → i + 1 < n → i + 1 ≡ next_corner n i
 next_further n i h = rw (lt-ltb (suc i) n (omega arith)) (add-one i)
-
-pub next_first : (n i : ℕ) → n ≤ i + 1 → 0 ≡ next_corner n i
-next_first n i h = rw (le-ltb (suc i) n (omega arith))
 
 pub next_inside : (n i : ℕ) → i < n → next_corner n i < n
 next_inside n i h = go (ltb (suc i) n) refl

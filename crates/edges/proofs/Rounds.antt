@@ -7,8 +7,10 @@ use lib.IntN.{ℤ}
 use lib.ListN.{get_or}
 use Rattle.model.specs.Vector.{Vec, origin, minus, cross, times}
 use Rattle.model.specs.Patch.{Patch}
+use Rattle.geometry.specs.declared.EdgeFunction.{EdgeFunction}
 use Rattle.geometry.specs.declared.Vector.{Vector}
 use Rattle.geometry.specs.Machine.{vec_of}
+use Rattle.geometry.specs.Raster.{seen_by, FunctionIs}
 use Rattle.format.specs.declared.layout.Layout.{Layout}
 use Rattle.model.specs.Format.{decode, patch_numbered}
 use Rattle.format.specs.declared.records.Run.{Run}
@@ -16,15 +18,16 @@ use Rattle.format.specs.Layout.{corner_number}
 use Rattle.checked.specs.Checked.{CornersAre}
 use Rattle.spans.specs.declared.Span.{Span}
 use Rattle.slopes.specs.declared.Sloped.{Sloped}
+use Rattle.slopes.proofs.Keeping.{KeepingAsked}
 use Rattle.edges.specs.declared.Sight.{Sight}
-use Rattle.edges.specs.Edges.{EyeSign, next_corner}
+use Rattle.edges.specs.Edges.{EyeSign, next_corner, EdgesAsked}
 use Rattle.edges.proofs.Places.{edge_numbered, next_further, next_inside, edge_made}
 use Rattle.edges.proofs.Runs.{run_count, run_corner}
-use Rattle.edges.proofs.Writes.{Writing}
+use Rattle.edges.proofs.Writes.{function_by, seen, Writing}
 
 -- while the edges are gone round: those before corner i are written, and corner i is at hand
 pub record Going
-    (bytes : List ℕ) (l : Layout) (s : Sight) (p : Patch) (first count : ℕ) (reach : Span) (before after : List ℤ) (r : Sloped) (from : Vector) (i : ℕ) : Type 0 where
+    (bytes : List ℕ) (l : Layout) (s : Sight) (p : Patch) (first count : ℕ) (reach : Span) (before after : List EdgeFunction) (r : Sloped) (from : Vector) (i : ℕ) : Type 0 where
   pub writing : Writing s p count reach before after r i
   pub from_is : i < count → vec_of from ≡ corner_number bytes l (first + i)
 
@@ -48,3 +51,20 @@ edge_of eye {bytes} {k = k} {run} at {i = i} {n} s b ev en ew =
     let below : n < run.count = omega (arith, en, next_inside run.count i b) in
     edge_made eye i s (omega arith) (omega arith) (ev ∙ run_corner at i b)
     (ew ∙ run_corner at n below ∙ ap (λ (m : ℕ). get_or (patch_numbered (decode bytes) k).corners m origin) (en ∙ ap (λ (c : ℕ). next_corner c i) (sym counted)))
+
+-- what the raster sees of the edge, from what the machine computes
+pub edge_seen :
+    (s : Sight) {bytes : List ℕ} {l : Layout} {k : ℕ} {run : Run} (at : CornersAre bytes l k run) {sign : ℤ} {i n : ℕ} {v w edge : Vec} {f : EdgeFunction} →
+    EyeSign (vec_of s.eye) (patch_numbered (decode bytes) k) sign →
+    i < run.count →
+    v ≡ corner_number bytes l (run.first + i) →
+    n ≡ next_corner run.count i →
+    w ≡ corner_number bytes l (run.first + n) →
+    edge ≡ times sign (cross (minus v (vec_of s.eye)) (minus w (vec_of s.eye))) →
+    FunctionIs (seen_by s.raster edge) f →
+    FunctionIs (seen s (patch_numbered (decode bytes) k) i) f
+edge_seen s at e b ev en ew is f = function_by s.raster f (is ∙ edge_of (vec_of s.eye) at e b ev en ew)
+
+-- the table has room for a function of each edge
+pub keeping : {bytes : List ℕ} {l : Layout} {k : ℕ} {s : Sight} {reach : Span} {table : List EdgeFunction} {run : Run} → EdgesAsked bytes l k s reach table → CornersAre bytes l k run → KeepingAsked run.count reach table
+keeping b at = record { eight = at.eight; shaped = b.shaped; room = b.room }

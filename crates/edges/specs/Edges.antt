@@ -1,18 +1,18 @@
 -- A patch's edge functions, and where they stand.
-use Rattle.std.specs.Prelude.{◌≡◌, cond, ◌&&◌, List, map, ℕ, suc, ◌≤◌, ◌<◌, ltb, ℤ, length}
+use Rattle.std.specs.Prelude.{◌≡◌, cond, ◌&&◌, List, map, ℕ, suc, ◌≤◌, ◌<◌, ltb, ℤ, length, take}
 use Rattle.integer.specs.Magnitude.{Within, sign_of}
 use Rattle.model.specs.Vector.{Vec, times}
 use Rattle.model.specs.Patch.{Patch, Edge, edges}
 use Rattle.model.specs.Ray.{eye_product, edge_vector, met}
+use Rattle.geometry.specs.declared.EdgeFunction.{EdgeFunction}
 use Rattle.geometry.specs.declared.Vector.{Vector}
 use Rattle.geometry.specs.Machine.{vec_of, Bounded}
 use Rattle.geometry.specs.Raster.{RasterBounded, line_at}
 use Rattle.format.specs.declared.layout.Layout.{Layout}
 use Rattle.checked.specs.Checked.{Checked}
-use Rattle.tables.specs.Functions.{functions_in, FunctionRun}
 use Rattle.spans.specs.declared.Span.{Span}
 use Rattle.spans.specs.Span.{covers, Shaped}
-use Rattle.spans.specs.Row.{all_above}
+use Rattle.spans.specs.Row.{FunctionRun, all_above}
 use Rattle.slopes.specs.declared.Sloped.{Sloped}
 use Rattle.edges.specs.declared.Sight.{Sight}
 
@@ -33,12 +33,12 @@ abbrev pub next_corner : ℕ → ℕ → ℕ
 next_corner n k = cond (ltb (suc k) n) (suc k) 0
 
 -- what working out the edge functions of patch k for some rows asks: a table with room for eight
-pub record EdgesAsked (bytes : List ℕ) (l : Layout) (k : ℕ) (s : Sight) (reach : Span) (table : List ℤ) : Type 0 where
+pub record EdgesAsked (bytes : List ℕ) (l : Layout) (k : ℕ) (s : Sight) (reach : Span) (table : List EdgeFunction) : Type 0 where
   pub scene : Checked bytes l
   pub number : k < l.patches
   pub sight : SightBounded s
   pub shaped : Shaped 1024 reach
-  pub room : 24 ≤ length table
+  pub room : 8 ≤ length table
 
 -- what one edge vector asks: its corners, the eye and the sign
 pub record EdgeAsked (eye v w : Vector) (sign : ℤ) : Type 0 where
@@ -49,9 +49,10 @@ pub record EdgeAsked (eye v w : Vector) (sign : ℤ) : Type 0 where
 
 -- In the rows of a reach the line just beside a ray meets the patch just where, in the rows that are left, the first functions of the table are above 0. Which functions
 -- these are, how many, and which rows are left is free.
-pub record EdgesKept (s : Sight) (p : Patch) (reach : Span) (table : List ℤ) (r : Sloped) : Type 0 where
-  pub run : FunctionRun table r.count
+pub record EdgesKept (s : Sight) (p : Patch) (reach : Span) (table : List EdgeFunction) (r : Sloped) : Type 0 where
+  pub inside : r.count ≤ length table
+  pub run : FunctionRun (take r.count table)
   pub shaped : Shaped reach.end r.reach
   pub same :
       (j i : ℕ) →
-      (covers r.reach j && all_above (functions_in table r.count) i j) ≡ (covers reach j && met (vec_of s.eye) (line_at s.raster i j) p)
+      (covers r.reach j && all_above (take r.count table) i j) ≡ (covers reach j && met (vec_of s.eye) (line_at s.raster i j) p)

@@ -10,7 +10,7 @@ ghost use Rattle.edges.specs.Edges.{EyeSign, next_corner, EdgesAsked, EdgeAsked,
 
 use checked::{corner, corner_run};
 use format::layout::Layout;
-use geometry::{Raster, Vector, edge_function};
+use geometry::{EdgeFunction, Raster, Vector, edge_function};
 use slopes::{Sloped, keep_one};
 use spans::Span;
 
@@ -55,10 +55,7 @@ fn next_place(count: usize, i: usize) -> usize
     ensures { result ≡ next_corner count i }
 {
     let next = i + 1;
-    if next < count {
-        return next;
-    }
-    0
+    if next < count { next } else { 0 }
 }
 
 // Writes the edge functions of patch k that have a slope to the front of a table; returns how many there are, and the rows of a reach that the level ones leave.
@@ -69,7 +66,7 @@ fn write_edges(
     sight: Sight,
     sign: i64,
     reach: Span,
-    table: &mut [i64],
+    table: &mut [EdgeFunction],
 ) -> Sloped
     requires { EdgesAsked bytes.now l k sight reach table.old × EyeSign (vec_of sight.eye) (patch_numbered (decode bytes.now) k) sign }
     ensures { EdgesKept sight (patch_numbered (decode bytes.now) k) reach table.new result }
@@ -79,13 +76,11 @@ fn write_edges(
     let count = run.count;
     let mut sloped = Sloped { count: 0, reach };
     let mut from = corner(bytes, l, first);
-    let mut i = 0;
-    while i < count {
+    for i in 0..count {
         let to = corner(bytes, l, first + next_place(count, i));
         let edge = oriented_edge(sight.eye, from, to, sign);
         sloped = keep_one(edge_function(sight.raster, edge), sloped, table);
         from = to;
-        i += 1;
     }
     sloped
 }
@@ -97,7 +92,7 @@ pub fn patch_edges(
     k: usize,
     sight: Sight,
     reach: Span,
-    table: &mut [i64],
+    table: &mut [EdgeFunction],
 ) -> Sloped
     requires { EdgesAsked bytes.now l k sight reach table.old }
     ensures { EdgesKept sight (patch_numbered (decode bytes.now) k) reach table.new result }

@@ -3,12 +3,12 @@
 
 ghost use Rattle.std.specs.Prelude.{ℕ, ◌≤◌, length};
 ghost use Rattle.spans.specs.Span.{covers};
-ghost use Rattle.spans.specs.Row.{all_above};
-ghost use Rattle.tables.specs.Functions.{functions_in, FunctionRun};
+ghost use Rattle.spans.specs.Row.{FunctionRun, all_above};
 ghost use Rattle.laying.specs.Laid.{Row};
 ghost use Rattle.rows.specs.Span.{UnderWork};
 ghost use Rattle.scanline.specs.Laying.{UnlitHull, LitGap, ColumnsLaid};
 
+use geometry::EdgeFunction;
 use pairs::pair_at;
 use spans::{Span, row_span};
 
@@ -61,23 +61,22 @@ fn lay_span(
     laid.lit
 }
 
-// Paints the panel in row j where the first `count` functions of a table are all above 0, over the columns that are unlit, and says how many it newly lit. The span is sought
+// Paints the panel in row j where some edge functions are all above 0, over the columns that are unlit, and says how many it newly lit. The span is sought
 // from the first of these on, and beside the lit ones after it: a column that shows a patch already need not be told.
 pub fn lay_patch(
-    table: &[i64],
-    count: usize,
+    functions: &[EdgeFunction],
     panel: u16,
     j: usize,
     row: &mut [u16; 256],
     words: &mut [u64; 4],
     cells: &mut [u16],
 ) -> u16
-    requires { FunctionRun table.now count × (j ≤ 1024) × UnderWork (length cells.old) row.old words.old }
-    ensures { ColumnsLaid (λ (i : ℕ). all_above (functions_in table.now count) i j) panel
+    requires { FunctionRun functions.now × (j ≤ 1024) × UnderWork (length cells.old) row.old words.old }
+    ensures { ColumnsLaid (λ (i : ℕ). all_above functions.now i j) panel
         row.old words.old cells.old row.new words.new cells.new result }
 {
     let hull = unlit_hull(row, cells.len());
     let lit = lit_gap(row, cells.len());
-    let span = row_span(table, count, j, hull, lit);
+    let span = row_span(functions, j, hull, lit);
     lay_span(span, panel, row, words, cells)
 }

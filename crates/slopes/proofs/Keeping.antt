@@ -1,26 +1,24 @@
 -- The functions of a table, one after the other: one that has a slope is kept, and one that has none leaves rows out.
-use mathlib.Core.Path.{◌≡◌, refl, sym, ap, ap₂, subst, subst₂, ◌∙◌}
-use mathlib.Core.Logic.{inl, inr, ⊎_elim}
+use mathlib.Core.Path.{◌≡◌, refl, sym, ap, subst₂, ◌∙◌}
+use mathlib.Core.Logic.{inl, inr}
 use mathlib.Core.Bool.{Bool, true, false, ◌&&◌, and_assoc, and-true}
 use mathlib.Core.List.{List, [], ◌∷◌, ◌++◌, map, map-append}
-use Prim.Native.Nat.{ℕ, ◌+◌, ◌*◌, ◌≤◌, ◌<◌}
+use Prim.Native.Nat.{ℕ, ◌+◌, ◌≤◌, ◌<◌}
 use native.Mathlib.Nat.{zero-add}
 use native.Mathlib.Omega.{arith}
 use lib.IntN.{ℤ, pos}
-use lib.ListN.{length}
+use lib.ListN.{length, take, set, length-set}
 use lib.Signed.{lt_z}
+use Rattle.std.proofs.lemmas.List.{take_more_set}
+use Rattle.std.proofs.lemmas.List.Elements.{All-nil, All-push}
 use Rattle.integer.proofs.Identity.{ring, reify}
 use Rattle.model.specs.Lists.{every, range}
 use Rattle.model.proofs.Ranges.{range_append}
-use Rattle.model.proofs.Tables.{same_table}
-use Rattle.model.proofs.Tests.{lt_or_ge}
 use Rattle.geometry.specs.declared.EdgeFunction.{EdgeFunction}
 use Rattle.geometry.specs.Raster.{FunctionBounded}
-use Rattle.tables.specs.Stored.{Stored}
-use Rattle.tables.specs.Functions.{function_at, functions_in, FunctionRun}
 use Rattle.spans.specs.declared.Span.{Span}
 use Rattle.spans.specs.Span.{covers, Shaped, number_at, Clipped}
-use Rattle.spans.specs.Row.{number_in, all_above}
+use Rattle.spans.specs.Row.{FunctionRun, number_in, all_above}
 use Rattle.slopes.specs.declared.Sloped.{Sloped}
 use Rattle.slopes.specs.Sloped.{OneAsked, KeepsOne}
 
@@ -34,12 +32,15 @@ every_last : {A : Type 0} (test : A → Bool) (xs : List A) (a : A) → every te
 every_last test [] a = and-true (test a)
 every_last test (b ∷ xs) a = ap (λ (t : Bool). test b && t) (every_last test xs a) ∙ sym (and_assoc (test b) (every test xs) (test a))
 
-all_last : (f : ℕ → EdgeFunction) (k i j : ℕ) → all_above (map f (range 0 (k + 1))) i j ≡ (all_above (map f (range 0 k)) i j && above (f k) i j)
+above_last : (fs : List EdgeFunction) (f : EdgeFunction) (i j : ℕ) → all_above (fs ++ f ∷ []) i j ≡ (all_above fs i j && above f i j)
 unfolding all_above
+above_last fs f i j = every_last (λ (g : EdgeFunction). above g i j) fs f
+
+all_last : (f : ℕ → EdgeFunction) (k i j : ℕ) → all_above (map f (range 0 (k + 1))) i j ≡ (all_above (map f (range 0 k)) i j && above (f k) i j)
 all_last f k i j =
-    ap (every (λ (g : EdgeFunction). above g i j))
+    ap (λ (fs : List EdgeFunction). all_above fs i j)
     (ap (map f) (range_append 0 k 1) ∙ map-append f (range 0 k) (range (0 + k) 1) ∙ ap (λ (n : ℕ). map f (range 0 k) ++ f n ∷ []) (zero-add k))
-    ∙ every_last (λ (g : EdgeFunction). above g i j) (map f (range 0 k)) (f k)
+    ∙ above_last (map f (range 0 k)) (f k) i j
 
 -- a level function is the same in all columns
 level_number : (s : ℤ) (i : ℕ) → number_at (pos 0) s i ≡ s
@@ -48,33 +49,33 @@ level_number s i = ring (s ∷ pos i ∷ []) (search reify depth 40 fits 20000, 
 -- ---- while the functions are gone through
 
 -- The first i of some functions are gone through: in the rows of the reach these are above 0 just where, in the rows left, those kept are.
-pub record KeptUpTo (f : ℕ → EdgeFunction) (count : ℕ) (reach : Span) (kept kept' : List ℤ) (left : Span) (n i : ℕ) : Type 0 where
+pub record KeptUpTo (f : ℕ → EdgeFunction) (count : ℕ) (reach : Span) (kept kept' : List EdgeFunction) (left : Span) (n i : ℕ) : Type 0 where
   pub most : i ≤ count
   pub fewer : n ≤ i
   pub long : length kept' ≡ length kept
-  pub run : FunctionRun kept' n
+  pub run : FunctionRun (take n kept')
   pub shaped : Shaped reach.end left
-  pub same : (j c : ℕ) → (covers left j && all_above (functions_in kept' n) c j) ≡ (covers reach j && all_above (map f (range 0 i)) c j)
+  pub same : (j c : ℕ) → (covers left j && all_above (take n kept') c j) ≡ (covers reach j && all_above (map f (range 0 i)) c j)
 
 -- what keeping asks: there are at most eight functions, and the table has room for them
-pub record KeepingAsked (count : ℕ) (reach : Span) (kept : List ℤ) : Type 0 where
+pub record KeepingAsked (count : ℕ) (reach : Span) (kept : List EdgeFunction) : Type 0 where
   pub eight : count ≤ 8
   pub shaped : Shaped 1024 reach
-  pub room : 24 ≤ length kept
+  pub room : 8 ≤ length kept
 
-module _ {f : ℕ → EdgeFunction} {count : ℕ} {reach : Span} {kept : List ℤ} (asked : KeepingAsked count reach kept) where
+module _ {f : ℕ → EdgeFunction} {count : ℕ} {reach : Span} {kept : List EdgeFunction} (asked : KeepingAsked count reach kept) where
   pub keeping_starts : KeptUpTo f count reach kept kept reach 0 0
   keeping_starts =
       record {
         most = omega arith;
         fewer = omega arith;
         long = refl;
-        run = record { few = omega arith; inside = omega arith; each = λ k b. absurd (omega arith) };
+        run = All-nil FunctionBounded;
         shaped = record { written = asked.shaped.written; limited = omega arith };
         same = λ j c. refl;
       }
 
-  module _ {kept' : List ℤ} {left : Span} {n i : ℕ} (inv : KeptUpTo f count reach kept kept' left n i) (h : i < count) (bounded : FunctionBounded (f i)) where
+  module _ {kept' : List EdgeFunction} {left : Span} {n i : ℕ} (inv : KeptUpTo f count reach kept kept' left n i) (h : i < count) (bounded : FunctionBounded (f i)) where
     left_shaped : Shaped 1024 left
     left_shaped = record { written = inv.shaped.written; limited = omega (arith, inv.shaped.limited, asked.shaped.limited) }
 
@@ -102,61 +103,46 @@ module _ {f : ℕ → EdgeFunction} {count : ℕ} {reach : Span} {kept : List �
         swap true false false = refl
         swap false v b = refl
 
-        step : (j c : ℕ) → (covers r j && all_above (functions_in kept' n) c j) ≡ (covers reach j && all_above (map f (range 0 (i + 1))) c j)
+        step : (j c : ℕ) → (covers r j && all_above (take n kept') c j) ≡ (covers reach j && all_above (map f (range 0 (i + 1))) c j)
         step j c =
-            ap (λ (t : Bool). t && all_above (functions_in kept' n) c j) (clipped.exact j ∙ ap (λ (v : Bool). covers left j && v) (tells j c))
-            ∙ swap (covers left j) (above (f i) c j) (all_above (functions_in kept' n) c j)
+            ap (λ (t : Bool). t && all_above (take n kept') c j) (clipped.exact j ∙ ap (λ (v : Bool). covers left j && v) (tells j c))
+            ∙ swap (covers left j) (above (f i) c j) (all_above (take n kept') c j)
             ∙ ap (λ (t : Bool). t && above (f i) c j) (inv.same j c)
             ∙ and_assoc (covers reach j) (all_above (map f (range 0 i)) c j) (above (f i) c j)
             ∙ ap (λ (t : Bool). covers reach j && t) (sym (all_last f i c j))
 
-    room : 3 * n + 3 ≤ length kept'
+    room : n < length kept'
     room = omega (arith, inv.fewer, inv.long, asked.eight, asked.room)
 
     -- one that has a slope is kept
-    keeping_sloped : {kept'' : List ℤ} → Stored function_at kept' kept'' n (f i) → KeptUpTo f count reach kept kept'' left (n + 1) (i + 1)
-    keeping_sloped {kept''} stored =
+    keeping_sloped : KeptUpTo f count reach kept (set kept' n (f i)) left (n + 1) (i + 1)
+    keeping_sloped =
         record {
           most = omega arith;
           fewer = omega (arith, inv.fewer);
-          long = stored.long ∙ inv.long;
-          run =
-              record {
-                few = omega (arith, inv.fewer, asked.eight);
-                inside = omega (arith, room, stored.long);
-                each = λ k b.
-                    ⊎_elim
-                    (λ (l : k < n).
-                    subst (λ (g : EdgeFunction). FunctionBounded g) (sym (stored.others k (λ e. absurd (omega arith)))) (inv.run.each k l))
-                    (λ (l : n ≤ k).
-                    let e : k ≡ n = omega arith in
-                    subst (λ (g : EdgeFunction). FunctionBounded g) (sym (ap (function_at kept'') e ∙ stored.stands)) bounded)
-                    (lt_or_ge k n);
-              };
+          long = length-set kept' n (f i) ∙ inv.long;
+          run = rw (take_more_set kept' n (f i) room) (All-push FunctionBounded (take n kept') (f i) inv.run bounded);
           shaped = inv.shaped;
           same = λ j c. step j c;
         }
       where
-        others : functions_in kept'' n ≡ functions_in kept' n
-        others = same_table (function_at kept'') (function_at kept') 0 0 n (λ k b. stored.others (0 + k) (λ e. absurd (omega arith)))
-
-        step : (j c : ℕ) → (covers left j && all_above (functions_in kept'' (n + 1)) c j) ≡ (covers reach j && all_above (map f (range 0 (i + 1))) c j)
+        step : (j c : ℕ) → (covers left j && all_above (take (n + 1) (set kept' n (f i))) c j) ≡ (covers reach j && all_above (map f (range 0 (i + 1))) c j)
         step j c =
             ap (λ (t : Bool). covers left j && t)
-            (all_last (function_at kept'') n c j ∙ ap₂ (λ (fs : List EdgeFunction) (g : EdgeFunction). all_above fs c j && above g c j) others stored.stands)
-            ∙ sym (and_assoc (covers left j) (all_above (functions_in kept' n) c j) (above (f i) c j))
+            (ap (λ (fs : List EdgeFunction). all_above fs c j) (take_more_set kept' n (f i) room) ∙ above_last (take n kept') (f i) c j)
+            ∙ sym (and_assoc (covers left j) (all_above (take n kept') c j) (above (f i) c j))
             ∙ ap (λ (t : Bool). t && above (f i) c j) (inv.same j c)
             ∙ and_assoc (covers reach j) (all_above (map f (range 0 i)) c j) (above (f i) c j)
             ∙ ap (λ (t : Bool). covers reach j && t) (sym (all_last f i c j))
 
     -- either way
     pub keeping_goes :
-        {kept'' : List ℤ} {r : Sloped} → KeepsOne (f i) (record { count = n; reach = left }) kept' kept'' r →
+        {kept'' : List EdgeFunction} {r : Sloped} → KeepsOne (f i) (record { count = n; reach = left }) kept' kept'' r →
         KeptUpTo f count reach kept kept'' r.reach r.count (i + 1)
     keeping_goes {kept''} {r} (inl (e, same, n-is, clipped)) =
-        subst₂ (λ (t : List ℤ) (m : ℕ). KeptUpTo f count reach kept t r.reach m (i + 1)) (sym same) (sym n-is) (keeping_level e clipped)
+        subst₂ (λ (t : List EdgeFunction) (m : ℕ). KeptUpTo f count reach kept t r.reach m (i + 1)) (sym same) (sym n-is) (keeping_level e clipped)
     keeping_goes {kept''} {r} (inr (n, stored, r-is)) =
-        subst (λ (s : Sloped). KeptUpTo f count reach kept kept'' s.reach s.count (i + 1)) (sym r-is) (keeping_sloped stored)
+        subst₂ (λ (t : List EdgeFunction) (s : Sloped). KeptUpTo f count reach kept t s.reach s.count (i + 1)) (sym stored) (sym r-is) keeping_sloped
 
     pub one_asked : OneAsked (f i) (record { count = n; reach = left }) kept'
-    one_asked = record { bounded = bounded; shaped = left_shaped; room = room; few = omega (arith, inv.fewer, asked.eight) }
+    one_asked = record { bounded = bounded; shaped = left_shaped; room = room }

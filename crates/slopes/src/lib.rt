@@ -5,7 +5,6 @@ ghost use Rattle.slopes.specs.Sloped.{OneAsked, KeepsOne};
 
 use geometry::EdgeFunction;
 use spans::{Span, clip_any};
-use tables::store_function;
 
 // How many functions have a slope, and the rows that the others leave.
 #[derive(Clone, Copy)]
@@ -16,7 +15,7 @@ pub struct Sloped {
 
 // One function more: where it has a slope it is kept, after those kept before, and where it has none the rows are left out in which it is not above 0, so that it need not
 // be asked in any.
-pub fn keep_one(f: EdgeFunction, held: Sloped, kept: &mut [i64]) -> Sloped
+pub fn keep_one(f: EdgeFunction, held: Sloped, kept: &mut [EdgeFunction]) -> Sloped
     requires { OneAsked f held kept.old }
     ensures { KeepsOne f held kept.old kept.new result }
 {
@@ -28,7 +27,7 @@ pub fn keep_one(f: EdgeFunction, held: Sloped, kept: &mut [i64]) -> Sloped
             reach: clip_any(left, f.drop, f.start),
         };
     }
-    store_function(kept, count, f);
+    kept[count] = f;
     Sloped {
         count: count + 1,
         reach: left,

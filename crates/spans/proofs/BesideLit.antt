@@ -1,5 +1,5 @@
 -- A span clipped but for lit columns: what lies beside them is told by the number right beside them.
-use mathlib.Core.Path.{◌≡◌, refl, subst, ◌∙◌}
+use mathlib.Core.Path.{◌≡◌, subst, ◌∙◌}
 use mathlib.Core.Logic.{◌↔◌, ⊎_elim}
 use mathlib.Core.Bool.{false, ◌&&◌}
 use Prim.Native.Nat.{ℕ, ◌-◌, ◌≤◌, ◌<◌}
@@ -35,9 +35,6 @@ module _ {A B : ℤ} {lit s : Span} where
             (both (covers r i) (lt_z (pos 0) (number_at A B i))).1 ((covers_says r i).1 ((agree i f (lt_z_yes p.1)).1 ((covers_says s i).0 p.0)), p.1));
         limited = h;
       }
-
-  pub beside_all : BesideLit lit A B s s
-  beside_all = record { same = λ i f. refl; limited = omega arith }
 
   -- it falls, and is not above 0 right after the lit columns
   pub beside_before :

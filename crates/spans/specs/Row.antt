@@ -1,10 +1,16 @@
 -- The span of a row in which some edge functions are above 0.
 use Rattle.std.specs.Prelude.{◌≡◌, Bool, false, ◌&&◌, List, ℕ, ◌≤◌, ℤ, pos}
 use Rattle.std.specs.Int.Signed.{lt_z}
+use Rattle.std.specs.List.{All}
 use Rattle.model.specs.Lists.{every}
 use Rattle.geometry.specs.declared.EdgeFunction.{EdgeFunction}
+use Rattle.geometry.specs.Raster.{FunctionBounded}
 use Rattle.spans.specs.declared.Span.{Span}
 use Rattle.spans.specs.Span.{covers, number_at}
+
+-- each of some functions is within its bounds
+abbrev pub FunctionRun : List EdgeFunction → Type 0
+FunctionRun fs = All FunctionBounded fs
 
 -- ---- a row
 -- the number at column i of row j: start + j · drop at column 0

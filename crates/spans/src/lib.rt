@@ -4,11 +4,9 @@
 ghost use Rattle.std.specs.Prelude.{◌≡◌, true, ◌+◌, ◌/◌, ◌≤◌, pos, nat_abs, ◌<ℤ◌, ◌≤ℤ◌};
 ghost use Rattle.geometry.specs.Raster.{FunctionBounded};
 ghost use Rattle.spans.specs.Span.{Occupied, Shaped, number_at, Linear, Clipped, BesideLit, ClippedBut};
-ghost use Rattle.tables.specs.Functions.{functions_in, FunctionRun};
-ghost use Rattle.spans.specs.Row.{RowSpan};
+ghost use Rattle.spans.specs.Row.{FunctionRun, RowSpan};
 
 use geometry::EdgeFunction;
-use tables::function_at;
 
 // The columns first .. end − 1. A span with no column is written 0 and 0.
 #[derive(Clone, Copy)]
@@ -39,30 +37,28 @@ fn clip(span: Span, slope: i64, start: i64) -> Span
     requires { Occupied 1024 span × Linear slope start }
     ensures { Clipped slope start span result }
 {
-    let first = span.first;
-    let end = span.end;
+    let Span { first, end } = span;
     if slope < 0 {
         if 0 < number_at(slope, start, end - 1) {
-            return span;
-        }
-        if 0 < number_at(slope, start, first) {
-            return Span {
+            span
+        } else if 0 < number_at(slope, start, first) {
+            Span {
                 first,
-                end: past_quotient(start - 1, 0 - slope),
-            };
+                end: past_quotient(start - 1, -slope),
+            }
+        } else {
+            Span { first: 0, end: 0 }
         }
-        return Span { first: 0, end: 0 };
-    }
-    if 0 < number_at(slope, start, first) {
-        return span;
-    }
-    if 0 < number_at(slope, start, end - 1) {
-        return Span {
-            first: past_quotient(0 - start, slope),
+    } else if 0 < number_at(slope, start, first) {
+        span
+    } else if 0 < number_at(slope, start, end - 1) {
+        Span {
+            first: past_quotient(-start, slope),
             end,
-        };
+        }
+    } else {
+        Span { first: 0, end: 0 }
     }
-    Span { first: 0, end: 0 }
 }
 
 // The same of any span: an empty one stays as it is.
@@ -71,9 +67,10 @@ pub fn clip_any(span: Span, slope: i64, start: i64) -> Span
     ensures { Clipped slope start span result }
 {
     if span.end <= span.first {
-        return span;
+        span
+    } else {
+        clip(span, slope, start)
     }
-    clip(span, slope, start)
 }
 
 // At the end where the number is least it is above 0, so it is on the whole span.
@@ -81,10 +78,8 @@ fn keeps_all(span: Span, slope: i64, start: i64) -> bool
     requires { Occupied 1024 span × Linear slope start }
     ensures { result ≡ true → Clipped slope start span span }
 {
-    if slope < 0 {
-        return 0 < number_at(slope, start, span.end - 1);
-    }
-    0 < number_at(slope, start, span.first)
+    let least = if slope < 0 { span.end - 1 } else { span.first };
+    0 < number_at(slope, start, least)
 }
 
 // The span without those columns beside some lit ones where the number is not above 0, if the nearest of them tells it of all on its side, and without the lit ones: where
@@ -93,30 +88,24 @@ fn beside_lit(span: Span, lit: Span, slope: i64, start: i64) -> Span
     requires { Occupied 1024 span × Linear slope start }
     ensures { BesideLit lit slope start span result }
 {
-    if lit.first <= span.first {
-        return span;
-    }
-    if span.end <= lit.first {
-        return span;
-    }
-    if slope < 0 {
-        if span.end <= lit.end {
-            return span;
+    if lit.first <= span.first || span.end <= lit.first {
+        span
+    } else if slope < 0 {
+        if span.end <= lit.end || 0 < number_at(slope, start, lit.end) {
+            span
+        } else {
+            Span {
+                first: span.first,
+                end: lit.first,
+            }
         }
-        if 0 < number_at(slope, start, lit.end) {
-            return span;
+    } else if 0 < number_at(slope, start, lit.first - 1) {
+        span
+    } else {
+        Span {
+            first: lit.end,
+            end: span.end,
         }
-        return Span {
-            first: span.first,
-            end: lit.first,
-        };
-    }
-    if 0 < number_at(slope, start, lit.first - 1) {
-        return span;
-    }
-    Span {
-        first: lit.end,
-        end: span.end,
     }
 }
 
@@ -136,20 +125,18 @@ fn clip_function(span: Span, lit: Span, f: EdgeFunction, j: usize) -> Span
     clip(left, f.slope, start)
 }
 
-// The columns of the span `within` where each of the first `count` functions of a table is above 0 in row j. One product for each function gives its number at
-// column 0. Of the columns of the span `lit` it may have any.
-pub fn row_span(table: &[i64], count: usize, j: usize, within: Span, lit: Span) -> Span
-    requires { FunctionRun table.now count × (j ≤ 1024) × (within.end ≤ 1024) }
-    ensures { RowSpan (functions_in table.now count) j within lit result }
+// The columns of the span `within` where each of some functions is above 0 in row j. One product for each function gives its number at column 0. Of the columns of the
+// span `lit` it may have any.
+pub fn row_span(functions: &[EdgeFunction], j: usize, within: Span, lit: Span) -> Span
+    requires { FunctionRun functions.now × (j ≤ 1024) × (within.end ≤ 1024) }
+    ensures { RowSpan functions.now j within lit result }
 {
     let mut span = within;
-    let mut k = 0;
-    while k < count {
+    for f in functions {
         if span.end <= span.first {
             return span;
         }
-        span = clip_function(span, lit, function_at(table, k), j);
-        k += 1;
+        span = clip_function(span, lit, *f, j);
     }
     span
 }

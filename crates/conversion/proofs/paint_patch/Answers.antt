@@ -1,14 +1,9 @@
 -- `paint_patch` meets its contract.
 use mathlib.Core.Path.{sym, subst}
-use Prim.Native.Nat.{◌<◌}
 use native.Mathlib.Omega.{arith}
 use lib.Dec.{T}
-use lib.ListN.{get_or}
-use Rattle.conversion.proofs.Steps.{number, entry, sighting, patch_missed, edges_asked, rows_asked_lem, patch_done, entry_fits}
+use Rattle.conversion.proofs.Steps.{sighting, patch_missed, rows_asked_lem, patch_done, entry_fits}
 use Rattle.conversion.proofs.paint_patch.Goals as goal
-
-pub overflow_cast-n : goal.overflow_cast-n
-overflow_cast-n c = omega (arith, c.shared_slice_known-3-1.given c.args.k)
 
 pub patch_rows-reach-requires : goal.patch_rows-reach-requires
 patch_rows-reach-requires c = sighting c.requires
@@ -26,22 +21,9 @@ returns-then-beside_columns c =
 pub beside_columns-requires : goal.beside_columns-requires
 beside_columns-requires c = sighting c.requires
 
-pub patch_record-panel-requires : goal.patch_record-panel-requires
-patch_record-panel-requires c = let b = c.requires in (b.paintable.checked, number b)
-
-pub patch_edges-kept-requires : goal.patch_edges-kept-requires
-patch_edges-kept-requires c =
-    edges_asked c.requires c.patch_rows-reach.ensures.limited c.if-reach.false (omega arith)
-
 pub convert_rows-lit-requires : goal.convert_rows-lit-requires
 convert_rows-lit-requires c =
     rows_asked_lem c.requires c.patch_rows-reach.ensures.reach c.patch_rows-reach.ensures.limited c.patch_edges-kept.ensures
-
-pub offset_bounds-booked-n : goal.offset_bounds-booked-n
-offset_bounds-booked-n c = omega (arith, (let few : (get_or c.args.order.now c.args.k 0 < 1024) × (c.args.k < 1024) = (omega (arith, number c.requires, c.requires.paintable.checked.laid.few_patches), omega (arith, c.requires.next, c.requires.paintable.few)) in few))
-
-pub bounds-booked-n : goal.bounds-booked-n
-bounds-booked-n c = entry c.requires
 
 pub overflow_add-booked : goal.overflow_add-booked
 overflow_add-booked c =
@@ -50,12 +32,6 @@ overflow_add-booked c =
       entry_fits c.requires c.patch_rows-reach.ensures.reach c.patch_rows-reach.ensures.limited c.patch_edges-kept.ensures c.patch_record-panel.ensures.panel_is
           c.convert_rows-lit.ensures,
     )
-
-pub offset_bounds-booked-n-2 : goal.offset_bounds-booked-n-2
-offset_bounds-booked-n-2 c = omega (arith, (let few : (get_or c.args.order.now c.args.k 0 < 1024) × (c.args.k < 1024) = (omega (arith, number c.requires, c.requires.paintable.checked.laid.few_patches), omega (arith, c.requires.next, c.requires.paintable.few)) in few))
-
-pub bounds-booked-n-2 : goal.bounds-booked-n-2
-bounds-booked-n-2 c = entry c.requires
 
 pub returns : goal.returns
 returns c =

@@ -1,6 +1,5 @@
 -- `edges::write_edges` meets its contract: while the loop runs, the functions of the first i edges stand in the table, and the next edge's corner is at
 -- hand.
-use Prim.Native.Nat.{◌-◌}
 use Rattle.model.specs.Format.{decode, patch_numbered}
 use Rattle.edges.proofs.Rounds.{Going}
 use Rattle.edges.proofs.write_edges.Given as goal
@@ -8,6 +7,3 @@ use Rattle.edges.proofs.write_edges.Given as goal
 abbrev pub invariant-loop-i : goal.invariant-loop-i
 invariant-loop-i l =
     Going l.bytes l.l l.sight (patch_numbered (decode l.bytes) l.k) l.first l.count l.initial.sloped.reach l.initial.table l.table l.sloped l.from l.i
-
-abbrev pub decreases-loop-i : goal.decreases-loop-i
-decreases-loop-i l = l.count - l.i

@@ -44,35 +44,35 @@ returns-then-number_at-gt0 c = whole_falling c.requires.0.some (let falls_down :
 pub past_quotient-requires : goal.past_quotient-requires
 past_quotient-requires c =
     let h = c.requires.1 in (
-      subst (pos 0 ≤ℤ◌) (sym (start_less h)) (≤_diff (suc-≤ (let falling : (c.args.slope <ℤ pos 0) × (pos 0 <ℤ c.args.start) = falls _ _ (omega (arith, c.requires.0.some)) (let first_above : pos 0 <ℤ number_at c.args.slope c.args.start c.args.span.first = subst (pos 0 <ℤ◌) (let first_is_lem : c.number_at-then-slope-lt0.result ≡ number_at c.args.slope c.args.start c.args.span.first = number_is c.requires.1 c.args.span.first c.number_at-then-slope-lt0.ensures in first_is_lem) (search comparisons) in first_above) (let last_not_above : number_at c.args.slope c.args.start (c.args.span.end - 1) ≤ℤ pos 0 = subst (◌≤ℤ pos 0) (let last_is : c.number_at.result ≡ number_at c.args.slope c.args.start (c.args.span.end - 1) = number_is c.requires.1 (c.args.span.end - 1) c.number_at.ensures in last_is) (search comparisons) in last_not_above) in falling).1)),
-      subst (pos 0 <ℤ◌) (sym (slope_turned h)) (neg_of_neg (let falling : (c.args.slope <ℤ pos 0) × (pos 0 <ℤ c.args.start) = falls _ _ (omega (arith, c.requires.0.some)) (let first_above : pos 0 <ℤ number_at c.args.slope c.args.start c.args.span.first = subst (pos 0 <ℤ◌) (let first_is_lem : c.number_at-then-slope-lt0.result ≡ number_at c.args.slope c.args.start c.args.span.first = number_is c.requires.1 c.args.span.first c.number_at-then-slope-lt0.ensures in first_is_lem) (search comparisons) in first_above) (let last_not_above : number_at c.args.slope c.args.start (c.args.span.end - 1) ≤ℤ pos 0 = subst (◌≤ℤ pos 0) (let last_is : c.number_at.result ≡ number_at c.args.slope c.args.start (c.args.span.end - 1) = number_is c.requires.1 (c.args.span.end - 1) c.number_at.ensures in last_is) (search comparisons) in last_not_above) in falling).0),
+      subst (pos 0 ≤ℤ◌) (sym (start_less h)) (≤_diff (suc-≤ (let falling : (c.args.slope <ℤ pos 0) × (pos 0 <ℤ c.args.start) = falls _ _ (omega (arith, c.requires.0.some)) (let first_above : pos 0 <ℤ number_at c.args.slope c.args.start c.args.span.first = subst (pos 0 <ℤ◌) (let first_is_lem : c.number_at-else-number_at-gt0.result ≡ number_at c.args.slope c.args.start c.args.span.first = number_is c.requires.1 c.args.span.first c.number_at-else-number_at-gt0.ensures in first_is_lem) (search comparisons) in first_above) (let last_not_above : number_at c.args.slope c.args.start (c.args.span.end - 1) ≤ℤ pos 0 = subst (◌≤ℤ pos 0) (let last_is : c.number_at.result ≡ number_at c.args.slope c.args.start (c.args.span.end - 1) = number_is c.requires.1 (c.args.span.end - 1) c.number_at.ensures in last_is) (search comparisons) in last_not_above) in falling).1)),
+      subst (pos 0 <ℤ◌) (sym (slope_turned h)) (neg_of_neg (let falling : (c.args.slope <ℤ pos 0) × (pos 0 <ℤ c.args.start) = falls _ _ (omega (arith, c.requires.0.some)) (let first_above : pos 0 <ℤ number_at c.args.slope c.args.start c.args.span.first = subst (pos 0 <ℤ◌) (let first_is_lem : c.number_at-else-number_at-gt0.result ≡ number_at c.args.slope c.args.start c.args.span.first = number_is c.requires.1 c.args.span.first c.number_at-else-number_at-gt0.ensures in first_is_lem) (search comparisons) in first_above) (let last_not_above : number_at c.args.slope c.args.start (c.args.span.end - 1) ≤ℤ pos 0 = subst (◌≤ℤ pos 0) (let last_is : c.number_at.result ≡ number_at c.args.slope c.args.start (c.args.span.end - 1) = number_is c.requires.1 (c.args.span.end - 1) c.number_at.ensures in last_is) (search comparisons) in last_not_above) in falling).0),
     )
 
 pub returns-then-number_at-gt0-2 : goal.returns-then-number_at-gt0-2
 returns-then-number_at-gt0-2 c =
-    cut_end c.requires.0.some (let first_above : pos 0 <ℤ number_at c.args.slope c.args.start c.args.span.first = subst (pos 0 <ℤ◌) (let first_is_lem : c.number_at-then-slope-lt0.result ≡ number_at c.args.slope c.args.start c.args.span.first = number_is c.requires.1 c.args.span.first c.number_at-then-slope-lt0.ensures in first_is_lem) (search comparisons) in first_above) (let last_not_above : number_at c.args.slope c.args.start (c.args.span.end - 1) ≤ℤ pos 0 = subst (◌≤ℤ pos 0) (let last_is : c.number_at.result ≡ number_at c.args.slope c.args.start (c.args.span.end - 1) = number_is c.requires.1 (c.args.span.end - 1) c.number_at.ensures in last_is) (search comparisons) in last_not_above)
+    cut_end c.requires.0.some (let first_above : pos 0 <ℤ number_at c.args.slope c.args.start c.args.span.first = subst (pos 0 <ℤ◌) (let first_is_lem : c.number_at-else-number_at-gt0.result ≡ number_at c.args.slope c.args.start c.args.span.first = number_is c.requires.1 c.args.span.first c.number_at-else-number_at-gt0.ensures in first_is_lem) (search comparisons) in first_above) (let last_not_above : number_at c.args.slope c.args.start (c.args.span.end - 1) ≤ℤ pos 0 = subst (◌≤ℤ pos 0) (let last_is : c.number_at.result ≡ number_at c.args.slope c.args.start (c.args.span.end - 1) = number_is c.requires.1 (c.args.span.end - 1) c.number_at.ensures in last_is) (search comparisons) in last_not_above)
     (quotient_of (start_less c.requires.1) (slope_turned c.requires.1) c.past_quotient.ensures)
 
-pub returns-then-slope-lt0 : goal.returns-then-slope-lt0
-returns-then-slope-lt0 c = nothing c.requires.0.some (subst (◌≤ℤ pos 0) (let first_is_lem : c.number_at-then-slope-lt0.result ≡ number_at c.args.slope c.args.start c.args.span.first = number_is c.requires.1 c.args.span.first c.number_at-then-slope-lt0.ensures in first_is_lem) (search comparisons)) (let last_not_above : number_at c.args.slope c.args.start (c.args.span.end - 1) ≤ℤ pos 0 = subst (◌≤ℤ pos 0) (let last_is : c.number_at.result ≡ number_at c.args.slope c.args.start (c.args.span.end - 1) = number_is c.requires.1 (c.args.span.end - 1) c.number_at.ensures in last_is) (search comparisons) in last_not_above)
+pub returns-else-number_at-gt0-2 : goal.returns-else-number_at-gt0-2
+returns-else-number_at-gt0-2 c = nothing c.requires.0.some (subst (◌≤ℤ pos 0) (let first_is_lem : c.number_at-else-number_at-gt0.result ≡ number_at c.args.slope c.args.start c.args.span.first = number_is c.requires.1 c.args.span.first c.number_at-else-number_at-gt0.ensures in first_is_lem) (search comparisons)) (let last_not_above : number_at c.args.slope c.args.start (c.args.span.end - 1) ≤ℤ pos 0 = subst (◌≤ℤ pos 0) (let last_is : c.number_at.result ≡ number_at c.args.slope c.args.start (c.args.span.end - 1) = number_is c.requires.1 (c.args.span.end - 1) c.number_at.ensures in last_is) (search comparisons) in last_not_above)
 
 pub returns-then-number_at-gt0-3 : goal.returns-then-number_at-gt0-3
-returns-then-number_at-gt0-3 c = whole_rising c.requires.0.some (let not_falls : pos 0 ≤ℤ c.args.slope = search comparisons in not_falls) (subst (pos 0 <ℤ◌) (let first_is_2 : c.number_at-2.result ≡ number_at c.args.slope c.args.start c.args.span.first = number_is c.requires.1 c.args.span.first c.number_at-2.ensures in first_is_2) (search comparisons))
+returns-then-number_at-gt0-3 c = whole_rising c.requires.0.some (let not_falls : pos 0 ≤ℤ c.args.slope = search comparisons in not_falls) (subst (pos 0 <ℤ◌) (let first_is_2 : c.number_at-else-slope-lt0.result ≡ number_at c.args.slope c.args.start c.args.span.first = number_is c.requires.1 c.args.span.first c.number_at-else-slope-lt0.ensures in first_is_2) (search comparisons))
 
 pub past_quotient-requires-then-number_at-gt0-4 : goal.past_quotient-requires-then-number_at-gt0-4
 past_quotient-requires-then-number_at-gt0-4 c =
     let h = c.requires.1 in (
-      subst (pos 0 ≤ℤ◌) (sym (start_turned h)) (neg_of_nonpos (let rising : (pos 0 <ℤ c.args.slope) × (c.args.start ≤ℤ pos 0) = rises _ _ (omega (arith, c.requires.0.some)) (let first_not_above : number_at c.args.slope c.args.start c.args.span.first ≤ℤ pos 0 = subst (◌≤ℤ pos 0) (let first_is_2 : c.number_at-2.result ≡ number_at c.args.slope c.args.start c.args.span.first = number_is c.requires.1 c.args.span.first c.number_at-2.ensures in first_is_2) (search comparisons) in first_not_above) (let last_above : pos 0 <ℤ number_at c.args.slope c.args.start (c.args.span.end - 1) = subst (pos 0 <ℤ◌) (let last_is_2 : c.number_at-3.result ≡ number_at c.args.slope c.args.start (c.args.span.end - 1) = number_is c.requires.1 (c.args.span.end - 1) c.number_at-3.ensures in last_is_2) (search comparisons) in last_above) in rising).1),
-      subst (pos 0 <ℤ◌) (sym (slope_is h)) (let rising : (pos 0 <ℤ c.args.slope) × (c.args.start ≤ℤ pos 0) = rises _ _ (omega (arith, c.requires.0.some)) (let first_not_above : number_at c.args.slope c.args.start c.args.span.first ≤ℤ pos 0 = subst (◌≤ℤ pos 0) (let first_is_2 : c.number_at-2.result ≡ number_at c.args.slope c.args.start c.args.span.first = number_is c.requires.1 c.args.span.first c.number_at-2.ensures in first_is_2) (search comparisons) in first_not_above) (let last_above : pos 0 <ℤ number_at c.args.slope c.args.start (c.args.span.end - 1) = subst (pos 0 <ℤ◌) (let last_is_2 : c.number_at-3.result ≡ number_at c.args.slope c.args.start (c.args.span.end - 1) = number_is c.requires.1 (c.args.span.end - 1) c.number_at-3.ensures in last_is_2) (search comparisons) in last_above) in rising).0,
+      subst (pos 0 ≤ℤ◌) (sym (start_turned h)) (neg_of_nonpos (let rising : (pos 0 <ℤ c.args.slope) × (c.args.start ≤ℤ pos 0) = rises _ _ (omega (arith, c.requires.0.some)) (let first_not_above : number_at c.args.slope c.args.start c.args.span.first ≤ℤ pos 0 = subst (◌≤ℤ pos 0) (let first_is_2 : c.number_at-else-slope-lt0.result ≡ number_at c.args.slope c.args.start c.args.span.first = number_is c.requires.1 c.args.span.first c.number_at-else-slope-lt0.ensures in first_is_2) (search comparisons) in first_not_above) (let last_above : pos 0 <ℤ number_at c.args.slope c.args.start (c.args.span.end - 1) = subst (pos 0 <ℤ◌) (let last_is_2 : c.number_at-else-number_at-gt0-3.result ≡ number_at c.args.slope c.args.start (c.args.span.end - 1) = number_is c.requires.1 (c.args.span.end - 1) c.number_at-else-number_at-gt0-3.ensures in last_is_2) (search comparisons) in last_above) in rising).1),
+      subst (pos 0 <ℤ◌) (sym (slope_is h)) (let rising : (pos 0 <ℤ c.args.slope) × (c.args.start ≤ℤ pos 0) = rises _ _ (omega (arith, c.requires.0.some)) (let first_not_above : number_at c.args.slope c.args.start c.args.span.first ≤ℤ pos 0 = subst (◌≤ℤ pos 0) (let first_is_2 : c.number_at-else-slope-lt0.result ≡ number_at c.args.slope c.args.start c.args.span.first = number_is c.requires.1 c.args.span.first c.number_at-else-slope-lt0.ensures in first_is_2) (search comparisons) in first_not_above) (let last_above : pos 0 <ℤ number_at c.args.slope c.args.start (c.args.span.end - 1) = subst (pos 0 <ℤ◌) (let last_is_2 : c.number_at-else-number_at-gt0-3.result ≡ number_at c.args.slope c.args.start (c.args.span.end - 1) = number_is c.requires.1 (c.args.span.end - 1) c.number_at-else-number_at-gt0-3.ensures in last_is_2) (search comparisons) in last_above) in rising).0,
     )
 
 pub returns-then-number_at-gt0-4 : goal.returns-then-number_at-gt0-4
 returns-then-number_at-gt0-4 c =
-    cut_first c.requires.0.some (let first_not_above : number_at c.args.slope c.args.start c.args.span.first ≤ℤ pos 0 = subst (◌≤ℤ pos 0) (let first_is_2 : c.number_at-2.result ≡ number_at c.args.slope c.args.start c.args.span.first = number_is c.requires.1 c.args.span.first c.number_at-2.ensures in first_is_2) (search comparisons) in first_not_above) (let last_above : pos 0 <ℤ number_at c.args.slope c.args.start (c.args.span.end - 1) = subst (pos 0 <ℤ◌) (let last_is_2 : c.number_at-3.result ≡ number_at c.args.slope c.args.start (c.args.span.end - 1) = number_is c.requires.1 (c.args.span.end - 1) c.number_at-3.ensures in last_is_2) (search comparisons) in last_above)
+    cut_first c.requires.0.some (let first_not_above : number_at c.args.slope c.args.start c.args.span.first ≤ℤ pos 0 = subst (◌≤ℤ pos 0) (let first_is_2 : c.number_at-else-slope-lt0.result ≡ number_at c.args.slope c.args.start c.args.span.first = number_is c.requires.1 c.args.span.first c.number_at-else-slope-lt0.ensures in first_is_2) (search comparisons) in first_not_above) (let last_above : pos 0 <ℤ number_at c.args.slope c.args.start (c.args.span.end - 1) = subst (pos 0 <ℤ◌) (let last_is_2 : c.number_at-else-number_at-gt0-3.result ≡ number_at c.args.slope c.args.start (c.args.span.end - 1) = number_is c.requires.1 (c.args.span.end - 1) c.number_at-else-number_at-gt0-3.ensures in last_is_2) (search comparisons) in last_above)
     (quotient_of (start_turned c.requires.1) (slope_is c.requires.1) c.past_quotient-then-number_at-gt0-4.ensures)
 
-pub returns : goal.returns
-returns c = nothing c.requires.0.some (let first_not_above : number_at c.args.slope c.args.start c.args.span.first ≤ℤ pos 0 = subst (◌≤ℤ pos 0) (let first_is_2 : c.number_at-2.result ≡ number_at c.args.slope c.args.start c.args.span.first = number_is c.requires.1 c.args.span.first c.number_at-2.ensures in first_is_2) (search comparisons) in first_not_above) (subst (◌≤ℤ pos 0) (let last_is_2 : c.number_at-3.result ≡ number_at c.args.slope c.args.start (c.args.span.end - 1) = number_is c.requires.1 (c.args.span.end - 1) c.number_at-3.ensures in last_is_2) (search comparisons))
+pub returns-else-number_at-gt0-4 : goal.returns-else-number_at-gt0-4
+returns-else-number_at-gt0-4 c = nothing c.requires.0.some (let first_not_above : number_at c.args.slope c.args.start c.args.span.first ≤ℤ pos 0 = subst (◌≤ℤ pos 0) (let first_is_2 : c.number_at-else-slope-lt0.result ≡ number_at c.args.slope c.args.start c.args.span.first = number_is c.requires.1 c.args.span.first c.number_at-else-slope-lt0.ensures in first_is_2) (search comparisons) in first_not_above) (subst (◌≤ℤ pos 0) (let last_is_2 : c.number_at-else-number_at-gt0-3.result ≡ number_at c.args.slope c.args.start (c.args.span.end - 1) = number_is c.requires.1 (c.args.span.end - 1) c.number_at-else-number_at-gt0-3.ensures in last_is_2) (search comparisons))
 
 pub overflow_sub-start : goal.overflow_sub-start
 overflow_sub-start c = no_overflow (search machine depth 40 fits 20000, tt)

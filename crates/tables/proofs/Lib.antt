@@ -1,2 +1,0 @@
--- An edge function stored in its table.
-mod Stored
