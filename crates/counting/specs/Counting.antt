@@ -5,7 +5,6 @@ use Rattle.model.specs.Lists.{range}
 use Rattle.model.specs.Format.{decode, patch_numbered}
 use Rattle.model.specs.Picture.{count_entries}
 use Rattle.format.specs.declared.layout.Layout.{Layout}
-use Rattle.checked.specs.Checked.{Checked}
 
 -- the cells of the first k patches together
 unfoldable pub together : List ℕ → ℕ → ℕ
@@ -15,9 +14,8 @@ together booked k = sum ◌+◌ 0 (map (λ (m : ℕ). get_or booked m 0) (range 
 unfoldable pub of_panel : (ℕ → ℕ) → List ℕ → ℕ → ℕ → ℕ
 of_panel panel booked k n = sum ◌+◌ 0 (map (λ (m : ℕ). cond (eqb (panel m) n) (get_or booked m 0) 0) (range 0 k))
 
--- a checked scene whose panels have entries, a table with an entry a patch, and no more cells in it than the picture has
+-- a scene whose panels have entries, a table with an entry a patch, and no more cells in it than the picture has
 pub record Countable (bytes : List ℕ) (l : Layout) (booked : List ℕ) (cells : ℕ) (totals : List ℕ) : Type 0 where
-  pub scene : Checked bytes l
   pub patches : length booked ≡ l.patches
   pub numbered : (k : ℕ) → k < l.patches → (patch_numbered (decode bytes) k).panel < count_entries
   pub few : cells ≤ 32768

@@ -5,23 +5,19 @@
 ghost use Rattle.model.specs.Format.{decode, patch_numbered};
 ghost use Rattle.counting.specs.Counting.{Countable, Counted};
 
-use checked::patch_record;
-use format::layout::Layout;
+use checked::CheckedScene;
 
 // Counts the cells of a picture of so many, where `booked` has each patch's. What `totals` held does not matter.
-pub fn count_panels(bytes: &[u8], l: Layout, booked: &[u32], cells: u32, totals: &mut [u32])
-    requires { Countable bytes.now l booked.now cells totals.old }
-    ensures { Counted (λ k. (patch_numbered (decode bytes.now) k).panel) booked.now cells totals.new }
+pub fn count_panels(scene: &CheckedScene, booked: &[u32], cells: u32, totals: &mut [u32])
+    requires { Countable scene.now.bytes.now scene.now.layout booked.now cells totals.old }
+    ensures { Counted (λ k. (patch_numbered (decode scene.now.bytes.now) k).panel) booked.now cells totals.new }
 {
     totals.fill(0);
     let mut rest = cells;
-    let mut k = 0;
-    while k < booked.len() {
-        let panel = patch_record(bytes, l, k).panel as usize;
-        let own = booked[k];
-        totals[panel] += own;
-        rest -= own;
-        k += 1;
+    for (k, own) in booked.iter().enumerate() {
+        let panel = scene.patch_record(k).panel as usize;
+        totals[panel] += *own;
+        rest -= *own;
     }
     totals[0] = rest;
 }

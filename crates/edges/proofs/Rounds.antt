@@ -66,5 +66,5 @@ pub edge_seen :
 edge_seen s at e b ev en ew is f = function_by s.raster f (is ∙ edge_of (vec_of s.eye) at e b ev en ew)
 
 -- the table has room for a function of each edge
-pub keeping : {bytes : List ℕ} {l : Layout} {k : ℕ} {s : Sight} {reach : Span} {table : List EdgeFunction} {run : Run} → EdgesAsked bytes l k s reach table → CornersAre bytes l k run → KeepingAsked run.count reach table
+pub keeping : {bytes : List ℕ} {l : Layout} {k : ℕ} {s : Sight} {reach : Span} {table : List EdgeFunction} {run : Run} → EdgesAsked l k s reach table → CornersAre bytes l k run → KeepingAsked run.count reach table
 keeping b at = record { eight = at.eight; shaped = b.shaped; room = b.room }

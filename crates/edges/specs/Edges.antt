@@ -9,7 +9,6 @@ use Rattle.geometry.specs.declared.Vector.{Vector}
 use Rattle.geometry.specs.Machine.{vec_of, Bounded}
 use Rattle.geometry.specs.Raster.{RasterBounded, line_at}
 use Rattle.format.specs.declared.layout.Layout.{Layout}
-use Rattle.checked.specs.Checked.{Checked}
 use Rattle.spans.specs.declared.Span.{Span}
 use Rattle.spans.specs.Span.{covers, Shaped}
 use Rattle.spans.specs.Row.{FunctionRun, all_above}
@@ -33,8 +32,7 @@ abbrev pub next_corner : ℕ → ℕ → ℕ
 next_corner n k = cond (ltb (suc k) n) (suc k) 0
 
 -- what working out the edge functions of patch k for some rows asks: a table with room for eight
-pub record EdgesAsked (bytes : List ℕ) (l : Layout) (k : ℕ) (s : Sight) (reach : Span) (table : List EdgeFunction) : Type 0 where
-  pub scene : Checked bytes l
+pub record EdgesAsked (l : Layout) (k : ℕ) (s : Sight) (reach : Span) (table : List EdgeFunction) : Type 0 where
   pub number : k < l.patches
   pub sight : SightBounded s
   pub shaped : Shaped 1024 reach

@@ -1,16 +1,22 @@
 -- The corners of a patch, one after another, held to the planes of the first column and of the last.
 use mathlib.Core.Path.{◌≡◌, refl, sym, ap, ap₂, subst, subst₂, ◌∙◌}
-use mathlib.Core.Logic.{◌≢◌, ◌⊎◌, inl, inr, ⊎_elim}
+use mathlib.Core.Logic.{◌≢◌, ◌⊎◌, inl, inr}
 use mathlib.Core.List.Memᴰ
 use mathlib.Core.List.{List, [], ◌∷◌, map, Memᴰ}
-use Prim.Native.Nat.{ℕ, zero, suc, ◌+◌, ◌≤◌, ◌<◌}
+use Prim.Native.Nat.{ℕ, zero, suc, ◌+◌, ◌-◌, ◌≤◌, ◌<◌}
 use native.Mathlib.Nat.{add-zero}
 use native.Mathlib.Omega.{arith}
-use lib.Dec.{lit<, lt→ltb, le→leb}
+use lib.Dec.{T, eqb, eqb_refl, lit<, lt→ltb, le→leb}
+use lib.ListN.{length, get_or}
 use lib.IntN.{ℤ, pos, negsuc, ◌+ℤ◌, ◌-ℤ◌, ◌*ℤ◌}
 use lib.Signed.{◌<ℤ◌, ◌≤ℤ◌, lt_z_yes, le_z_yes}
 use mir.Syntax.{w64}
 use mir.Val.{to_z, of_z, SFits}
+use mathlib.Core.Bool.{Bool, true, false}
+use Rattle.std.specs.Prelude.{◌↔◌}
+use Rattle.std.specs.Bool.{MatchBool}
+use Rattle.std.specs.List.{AllWithin, HoldsAt, range_with_len}
+use Rattle.std.proofs.lemmas.List.FromFn.{length-range_with_len, get_or-range_with_len}
 use Rattle.integer.specs.Magnitude.{Within, sign_of}
 use Rattle.integer.proofs.Identity.{ring, reify}
 use Rattle.integer.proofs.Magnitude.{within_literal, within_fits}
@@ -23,7 +29,6 @@ use Rattle.model.specs.Bounds.{VecWithin}
 use Rattle.model.specs.Patch.{Patch, corner, Proper}
 use Rattle.model.proofs.Patches.{first_corner}
 use Rattle.model.proofs.Alike.{Ranged}
-use Rattle.model.proofs.Tests.{lt_or_ge}
 use Rattle.model.proofs.Ranges.{of_map, of_range, in_range}
 use Rattle.geometry.specs.declared.Raster.{Raster}
 use Rattle.geometry.specs.Machine.{vec_of, NumberIs}
@@ -81,62 +86,66 @@ module _ {a b x y s t : ℤ} (first_is_lem : x ≡ a) (last_is : y ≡ b) (sign_
   signs_agree e g =
       record { is = λ sign strict. (λ h. (sym of_first ∙ sym g ∙ h, sym of_last ∙ e ∙ sym g ∙ h), λ h. g ∙ of_first ∙ h.0) }
 
--- ---- the first k corners
+-- ---- the corners of a run
 
-pub record SidedFirst (eye : Vec) (n : Planes) (last sign : ℤ) (corner : ℕ → Vec) (first count k : ℕ) : Type 0 where
-  pub most : k ≤ count
-  pub so_far : (m : ℕ) → m < k → HasSign eye n last sign (corner (first + m))
+-- the sign that the code found for corner m is that of the first corner, or it is another
+module _ (eye : Vec) (n : Planes) (last : ℤ) (corner : ℕ → Vec) (first : ℕ) (side : ℤ) where
+  abbrev pub HasSame : ℕ → Type 0
+  HasSame m =
+      (r : ℤ) × CommonSign (number_of eye n (corner (first + m)) (pos 0)) (number_of eye n (corner (first + m)) last) r × (r ≡ side)
 
-at_first : (corner : ℕ → Vec) (first : ℕ) {c : Vec} → c ≡ corner first → c ≡ corner (first + 0)
-at_first corner first e = e ∙ ap corner (sym (add-zero first))
+  abbrev pub HasOther : ℕ → Type 0
+  HasOther m =
+      (r : ℤ) × CommonSign (number_of eye n (corner (first + m)) (pos 0)) (number_of eye n (corner (first + m)) last) r
+      × (eqb (of_z w64 r) (of_z w64 side) ≡ false)
 
 module _ {eye : Vec} {n : Planes} {last : ℤ} (corner : ℕ → Vec) (first count : ℕ) where
   -- a corner tells the sign that all have, if they have one
   sign_told :
-      {c : Vec} {r : ℤ} {k : ℕ} → k < count → c ≡ corner (first + k) → CommonSign (number_of eye n c (pos 0)) (number_of eye n c last) r →
+      {r : ℤ} {k : ℕ} → k < count → CommonSign (number_of eye n (corner (first + k)) (pos 0)) (number_of eye n (corner (first + k)) last) r →
       (o : OneSided eye n last (map corner (range first count))) → r ≡ o.sign
-  sign_told {c} {r} {k} h e common o =
+  sign_told {r} {k} h common o =
       (common.is o.sign o.strict).1
-      (o.all c (rw e (Memᴰ.map corner ((in_range first count (first + k)).1 (omega arith, omega arith)))))
+      (o.all (corner (first + k)) (Memᴰ.map corner ((in_range first count (first + k)).1 (omega arith, omega arith))))
 
-  module _ {c : Vec} {r : ℤ} (some : 0 < count) (is_first : c ≡ corner first) (told : CommonSign (number_of eye n c (pos 0)) (number_of eye n c last) r) where
-    pub no_sign : r ≡ pos 0 → OneSided eye n last (map corner (range first count)) → ⊥
-    no_sign e o = o.strict (sym (sign_told some (at_first corner first is_first) told o) ∙ e)
+  module _ {c : Vec} {side : ℤ} (some : 0 < count) (is_first : c ≡ corner first) (told : CommonSign (number_of eye n c (pos 0)) (number_of eye n c last) side) where
+    pub no_sign : side ≡ pos 0 → OneSided eye n last (map corner (range first count)) → ⊥
+    no_sign e o = o.strict (sym (sign_told {k = 0} some (rw (add-zero first, sym is_first) told) o) ∙ e)
 
-    pub other_sign :
-        {d : Vec} {s : ℤ} {k : ℕ} → k < count → d ≡ corner (first + k) → CommonSign (number_of eye n d (pos 0)) (number_of eye n d last) s → s ≢ r →
-        OneSided eye n last (map corner (range first count)) → ⊥
-    other_sign h e next f o = f (sign_told h e next o ∙ sym (sign_told some (at_first corner first is_first) told o))
-
-    pub sided_first : {sign : ℤ} → sign ≡ r → sign ≢ pos 0 → SidedFirst eye n last sign corner first count 1
-    sided_first {sign} e f =
-        record {
-          most = omega arith;
-          so_far = λ m h. let z : m ≡ 0 = omega arith in rw (z, sym (at_first corner first is_first)) ((told.is sign f).0 (sym e));
-        }
-
-  module _ {sign : ℤ} {k : ℕ} (inv : SidedFirst eye n last sign corner first count k) (strict : sign ≢ pos 0) where
-    pub sided_more :
-        {d : Vec} {s : ℤ} → k < count → d ≡ corner (first + k) → CommonSign (number_of eye n d (pos 0)) (number_of eye n d last) s → s ≡ sign →
-        SidedFirst eye n last sign corner first count (k + 1)
-    sided_more h e next f =
-        record {
-          most = omega arith;
-          so_far = λ m l.
-              ⊎_elim (λ (b : m < k). inv.so_far m b)
-              (λ (b : k ≤ m). let g : m ≡ k = omega arith in rw (g, sym e) ((next.is sign strict).0 f))
-              (lt_or_ge m k);
-        }
-
-    pub sided_all : count ≤ k → OneSided eye n last (map corner (range first count))
-    sided_all h =
-        record {
-          sign = sign;
-          strict = strict;
-          all =
-              of_map (HasSign eye n last sign) corner (range first count)
-              (of_range (λ (m : ℕ). HasSign eye n last sign (corner m)) first count (λ m l. inv.so_far m (omega arith)));
-        }
+    -- the corners after the first are asked one after another
+    pub sided_exactly :
+        (all : Bool) → side ≢ pos 0 →
+        MatchBool all (AllWithin (HasSame eye n last corner first side) (range_with_len 1 (count - 1)) 0 (length (range_with_len 1 (count - 1))))
+        ((k : ℕ) × (k < length (range_with_len 1 (count - 1))) × HoldsAt (HasOther eye n last corner first side) (range_with_len 1 (count - 1)) k) →
+        T all ↔ OneSided eye n last (map corner (range first count))
+    sided_exactly true strict same = (
+      λ t. record {
+        sign = side;
+        strict = strict;
+        all =
+            of_map (HasSign eye n last side) corner (range first count)
+            (of_range (λ (m : ℕ). HasSign eye n last side (corner m)) first count (λ m l. has m (omega arith)));
+      },
+      λ o. tt,
+    )
+      where
+        has : (m : ℕ) → m < count → HasSign eye n last side (corner (first + m))
+        has zero h = subst (HasSign eye n last side) (is_first ∙ ap corner (sym (add-zero first))) ((told.is side strict).0 refl)
+        has (suc m) h =
+            let found = same m 0 (omega arith) (rw (length-range_with_len 1 (count - 1)) (omega arith)) in
+            let at : get_or (range_with_len 1 (count - 1)) m 0 ≡ suc m = get_or-range_with_len 1 (count - 1) m 0 (omega arith) ∙ omega arith in
+            let f : HasSame eye n last corner first side (suc m) = subst (HasSame eye n last corner first side) at found in
+            (f.1.is side strict).0 f.2
+    sided_exactly false strict other = (λ t. absurd t, λ o. go o)
+      where
+        go : OneSided eye n last (map corner (range first count)) → ⊥
+        go o =
+            let k : ℕ = other.0 in
+            let b : k < count - 1 = rw (sym (length-range_with_len 1 (count - 1))) other.1 in
+            let at : get_or (range_with_len 1 (count - 1)) k 0 ≡ 1 + k = get_or-range_with_len 1 (count - 1) k 0 b in
+            let f : HasOther eye n last corner first side (1 + k) = subst (HasOther eye n last corner first side) at (other.2 0) in
+            let e : f.0 ≡ side = sign_told (omega arith) f.1 o ∙ sym (sign_told {k = 0} some (rw (add-zero first, sym is_first) told) o) in
+            subst T f.2 (subst (λ (z : ℤ). T (eqb (of_z w64 z) (of_z w64 side))) (sym e) (eqb_refl (of_z w64 side)))
 
 -- what is said of the corners in a run is said of the patch's
 module _ {eye : Vec} {n : Planes} {stored last : ℤ} {corners listed : List Vec} (last_is : stored ≡ last) (corners_are : corners ≡ listed) where

@@ -1,6 +1,6 @@
 -- What is left of a raster's rows without those that lie beside a patch.
 use mathlib.Core.Path.{◌≡◌, refl, sym, subst}
-use mathlib.Core.Logic.{◌⊎◌, inl, inr, ⊎_elim}
+use mathlib.Core.Logic.{◌⊎◌, inl, inr}
 use mathlib.Core.Bool.{Bool, true, false}
 use mathlib.Core.List.{List}
 use Prim.Native.Nat.{ℕ, ◌≤◌, ◌<◌}
@@ -12,7 +12,6 @@ use Rattle.model.specs.Vector.{Vec}
 use Rattle.model.specs.Bounds.{VecWithin}
 use Rattle.model.specs.Patch.{Patch, Proper}
 use Rattle.model.specs.Ray.{met}
-use Rattle.model.proofs.Tests.{lt_or_ge}
 use Rattle.model.proofs.Alike.{Ranged}
 use Rattle.geometry.specs.declared.Raster.{Raster}
 use Rattle.geometry.specs.Machine.{vec_of}
@@ -25,24 +24,6 @@ use Rattle.reach.specs.declared.Planes.{Planes}
 use Rattle.reach.specs.Planes.{PlanesOf}
 use Rattle.reach.specs.Reach.{SidesBeside, Without, Reach}
 use Rattle.reach.proofs.BesidePlanes.{row_missed}
-
-module _ (rows s : Span) where
-  pub without_first : s.first ≤ rows.first → rows.first < s.end → Without rows s (record { first = s.end; end = rows.end })
-  without_first h k =
-      record { left = λ j a b f. (inside j a f, b); first_limit = λ n a b. b; end_limit = λ n a b. a }
-    where
-      inside : (j : ℕ) → rows.first ≤ j → (s.first ≤ j → j < s.end → ⊥) → s.end ≤ j
-      inside j a f = ⊎_elim (λ (l : j < s.end). absurd (f (omega arith) l)) (λ (l : s.end ≤ j). l) (lt_or_ge j s.end)
-
-  pub without_last : rows.end ≤ s.end → Without rows s (record { first = rows.first; end = s.first })
-  without_last h =
-      record { left = λ j a b f. (a, inside j b f); first_limit = λ n a b. a; end_limit = λ n a b. b }
-    where
-      inside : (j : ℕ) → j < rows.end → (s.first ≤ j → j < s.end → ⊥) → j < s.first
-      inside j b f = ⊎_elim (λ (l : j < s.first). l) (λ (l : s.first ≤ j). absurd (f l (omega arith))) (lt_or_ge j s.first)
-
-  pub without_none : Without rows s rows
-  without_none = record { left = λ j a b f. (a, b); first_limit = λ n a b. a; end_limit = λ n a b. a }
 
 module _
     (raster : Raster) {eye : Vec} {n : Planes} {corners : List Vec} {sides : Sides} {rest r : Span}

@@ -7,7 +7,6 @@ use Rattle.geometry.specs.declared.Vector.{Vector}
 use Rattle.geometry.specs.declared.Raster.{Raster}
 use Rattle.geometry.specs.Machine.{vec_of, Bounded, VectorIs}
 use Rattle.format.specs.declared.layout.Layout.{Layout}
-use Rattle.checked.specs.Checked.{Checked}
 use Rattle.reach.specs.declared.Planes.{Planes}
 use Rattle.reach.specs.declared.RasterPlanes.{RasterPlanes}
 
@@ -26,9 +25,8 @@ pub record RasterPlanesOf (r : Raster) (n : RasterPlanes) : Type 0 where
 abbrev pub normal_at : Planes → ℤ → ℕ → Vec
 normal_at n sign k = times sign (plus (vec_of n.first) (times (pos k) (vec_of n.next)))
 
--- What a patch is sighted with: a scene that can be read, the number of a patch of it that is proper, an eye in range, and a raster with its planes.
+-- What a patch is sighted with: the number of a patch of a scene that is proper, an eye in range, and a raster with its planes.
 pub record Sighting (bytes : List ℕ) (l : Layout) (k : ℕ) (eye : Vector) (r : Raster) (n : RasterPlanes) : Type 0 where
-  pub scene : Checked bytes l
   pub number : k < l.patches
   pub proper : Proper (patch_numbered (decode bytes) k)
   pub eye_bounded : Bounded 10000 eye

@@ -12,8 +12,7 @@ ghost use Rattle.reach.specs.Planes.{PlanesOf, RasterPlanesOf, Sighting};
 ghost use Rattle.reach.specs.Reach.{SidesShaped, SidesClipped, SidesBeside, Without, Reach};
 ghost use Rattle.reach.specs.Columns.{number_of, CommonSign, OneSided, MissedBeside};
 
-use checked::corner_run;
-use format::layout::Layout;
+use checked::CheckedScene;
 use geometry::{Raster, Vector, eye_product};
 use spans::{Span, clip_any};
 
@@ -84,19 +83,16 @@ fn clip_sides(sides: Sides, slope: i64, start: i64) -> Sides
 
 // the rows whose planes have all corners of a patch on one side
 fn rows_beside(
-    bytes: &[u8],
-    l: Layout,
+    scene: &CheckedScene,
     k: usize,
     eye: Vector,
     raster: Raster,
     planes: RasterPlanes,
 ) -> Sides
-    requires { Sighting bytes.now l k eye raster planes }
-    ensures { SidesBeside (vec_of eye) planes.rows (patch_numbered (decode bytes.now) k).corners raster.height result }
+    requires { Sighting scene.now.bytes.now scene.now.layout k eye raster planes }
+    ensures { SidesBeside (vec_of eye) planes.rows (patch_numbered (decode scene.now.bytes.now) k).corners raster.height result }
 {
-    let run = corner_run(bytes, l, k);
-    let first = run.first;
-    let count = run.count;
+    let run = scene.corner_run(k);
     let all = Span {
         first: 0,
         end: raster.height,
@@ -105,13 +101,11 @@ fn rows_beside(
         ahead: all,
         behind: all,
     };
-    let mut i = 0;
-    while i < count {
-        let corner = checked::corner(bytes, l, first + i);
+    for i in 0..run.count {
+        let corner = scene.corner(run.first + i);
         let start = eye_product(eye, corner, planes.rows.first);
         let slope = eye_product(eye, corner, planes.rows.next);
         sides = clip_sides(sides, slope, start);
-        i += 1;
     }
     sides
 }
@@ -121,38 +115,34 @@ fn without(rows: Span, s: Span) -> Span
     ensures { Without rows s result }
 {
     if s.first <= rows.first {
-        if rows.first < s.end {
-            return Span {
-                first: s.end,
-                end: rows.end,
-            };
+        Span {
+            first: rows.first.max(s.end),
+            end: rows.end,
         }
-        return rows;
-    }
-    if rows.end <= s.end {
-        return Span {
+    } else if rows.end <= s.end {
+        Span {
             first: rows.first,
             end: s.first,
-        };
+        }
+    } else {
+        rows
     }
-    rows
 }
 
 // A row whose plane has all corners on one side does not meet the patch, nor do the lines just beside its rays: what is left without these is the patch's reach. A
 // row whose plane only touches the patch stays, as those lines may meet it.
 pub fn patch_rows(
-    bytes: &[u8],
-    l: Layout,
+    scene: &CheckedScene,
     k: usize,
     eye: Vector,
     raster: Raster,
     planes: RasterPlanes,
 ) -> Span
-    requires { Sighting bytes.now l k eye raster planes }
-    ensures reach { Reach (vec_of eye) raster (patch_numbered (decode bytes.now) k) result }
+    requires { Sighting scene.now.bytes.now scene.now.layout k eye raster planes }
+    ensures reach { Reach (vec_of eye) raster (patch_numbered (decode scene.now.bytes.now) k) result }
     ensures limited { Limited raster.height result }
 {
-    let sides = rows_beside(bytes, l, k, eye, raster, planes);
+    let sides = rows_beside(scene, k, eye, raster, planes);
     let all = Span {
         first: 0,
         end: raster.height,
@@ -169,42 +159,31 @@ fn common_sign(eye: Vector, corner: Vector, planes: Planes, last: i64) -> i64
     let start = eye_product(eye, corner, planes.first);
     let slope = eye_product(eye, corner, planes.next);
     let side = arithmetic::sign(start);
-    if arithmetic::sign(slope * last + start) != side {
-        return 0;
+    if arithmetic::sign(slope * last + start) == side {
+        side
+    } else {
+        0
     }
-    side
 }
 
 // Whether all corners of a patch lie on one side of the planes of all columns. It is enough to ask the first column and the last, as a corner's number changes evenly
 // from column to column. For most patches in sight the first corner says no.
 pub fn beside_columns(
-    bytes: &[u8],
-    l: Layout,
+    scene: &CheckedScene,
     k: usize,
     eye: Vector,
     raster: Raster,
     planes: RasterPlanes,
 ) -> bool
-    requires { Sighting bytes.now l k eye raster planes }
-    ensures exact { T result ↔ OneSided (vec_of eye) planes.columns (pos raster.width -ℤ pos 1) (patch_numbered (decode bytes.now) k).corners }
-    ensures missed { T result → MissedBeside (vec_of eye) raster (patch_numbered (decode bytes.now) k) }
+    requires { Sighting scene.now.bytes.now scene.now.layout k eye raster planes }
+    ensures exact { T result ↔ OneSided (vec_of eye) planes.columns (pos raster.width -ℤ pos 1) (patch_numbered (decode scene.now.bytes.now) k).corners }
+    ensures missed { T result → MissedBeside (vec_of eye) raster (patch_numbered (decode scene.now.bytes.now) k) }
 {
-    let run = corner_run(bytes, l, k);
-    let first = run.first;
-    let count = run.count;
+    let run = scene.corner_run(k);
     let last = raster.width as i64 - 1;
     let columns = planes.columns;
-    let side = common_sign(eye, checked::corner(bytes, l, first), columns, last);
-    if side == 0 {
-        return false;
-    }
-    let mut i = 1;
-    while i < count {
-        let corner = checked::corner(bytes, l, first + i);
-        if common_sign(eye, corner, columns, last) != side {
-            return false;
-        }
-        i += 1;
-    }
-    true
+    let side = common_sign(eye, scene.corner(run.first), columns, last);
+    side != 0
+        && (1..run.count).all(|i| common_sign(eye, scene.corner(run.first + i), columns, last)
+            == side)
 }

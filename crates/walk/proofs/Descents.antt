@@ -1,10 +1,8 @@
 -- From a node down to its children, in the order of the walk.
-use mathlib.Core.Path.{◌≡◌, ap, ◌∙◌}
+use mathlib.Core.Path.{◌≡◌, refl, ap, ◌∙◌}
 use mathlib.Core.Bool.{Bool, true, false, cond}
-use mathlib.Core.List.{List, ◌++◌, append_assoc}
-use Prim.Native.Nat.{ℕ, ◌+◌, ◌≤◌, ◌<◌}
-use native.Mathlib.Nat.{zero-add}
-use native.Mathlib.Omega.{arith}
+use mathlib.Core.List.{List, [], ◌++◌}
+use Prim.Native.Nat.{ℕ, ◌+◌, ◌<◌}
 use lib.IntN.{pos}
 use lib.Signed.{lt_z}
 use lib.ListN.{length, length-append}
@@ -19,7 +17,6 @@ use Rattle.geometry.specs.Machine.{plane_of}
 use Rattle.format.proofs.Decoded.{patch_count}
 use Rattle.format.specs.declared.records.Node.{Node}
 use Rattle.format.specs.declared.layout.Layout.{Layout}
-use Rattle.walk.specs.Written.{Written}
 use Rattle.checked.specs.Checked.{Checked, tree_below, NodeIs}
 use Rattle.walk.specs.Walked.{WholeWalk}
 use Rattle.walk.specs.Near.{NearFirst}
@@ -27,7 +24,6 @@ use Rattle.walk.specs.declared.order.Children.{Children}
 use Rattle.walk.proofs.Whole.{walk_length}
 use Rattle.checked.proofs.Nodes.{few_nodes}
 use Rattle.walk.proofs.NearSide.{order_node}
-use Rattle.walk.proofs.Writes.{none_written, written_more}
 
 -- node k and its children c: both numbers are higher, and the walk at and below k is made of theirs
 pub record Descent (bytes : List ℕ) (k : ℕ) (eye : Vec) (first count : ℕ) (c : Children) : Type 0 where
@@ -69,22 +65,9 @@ descent {bytes} {l} {k} {n} {eye} {c} is near =
         ap (order eye) is.tree
         ∙ order_node (tree_below bytes) (plane_of n.a n.b n.c) own n.positive n.negative eye c near
 
-pub nothing_below : {t : Tree ℕ} (eye : Vec) (o : List ℕ) (at : ℕ) → t ≡ leaf → Written o at (order eye t) o at
+pub nothing_below : {t : Tree ℕ} (eye : Vec) → t ≡ leaf → order eye t ≡ []
 unfolding order
-nothing_below eye o at e = rw e (none_written o at)
-
--- three parts written one after another are the walk at and below k
-pub assembled :
-    {bytes : List ℕ} {k : ℕ} {eye : Vec} {first count : ℕ} {c : Children} {o o₁ o₂ o₃ : List ℕ} {at e₁ e₂ e₃ : ℕ} →
-    Descent bytes k eye first count c → at + length (order eye (tree_below bytes k)) ≤ length o →
-    Written o at (order eye (tree_below bytes c.near)) o₁ e₁ →
-    Written o₁ e₁ (range first count) o₂ e₂ →
-    Written o₂ e₂ (order eye (tree_below bytes c.far)) o₃ e₃ →
-    Written o at (order eye (tree_below bytes k)) o₃ e₃
-assembled {first} {count} {o₃} {e₃} d room w₁ w₂ w₃ =
-    rw (d.order_is, ← append_assoc)
-    (written_more (written_more w₁ (omega (arith, d.size, w₁.ended)) w₂)
-    (omega (arith, d.size, w₁.ended, w₂.ended, range_length first count)) w₃)
+nothing_below eye e = rw e refl
 
 -- ---- the whole tree
 
@@ -96,6 +79,6 @@ module _ (bytes : List ℕ) (l : Layout) (w : Checked bytes l) (eye : Vec) where
       walk_length s (few_nodes bytes l w) w.children ((both (patch_runs_follow s) (corner_runs_follow s)).0 w.runs).0 eye
       ∙ patch_count w.laid
 
-  pub whole_walk : {o o' : List ℕ} {r : ℕ} → Written o 0 (order eye (tree_below bytes 0)) o' r → WholeWalk bytes l eye o o' r
+  pub whole_walk : {walked : List ℕ} → walked ≡ order eye (tree_below bytes 0) → WholeWalk bytes l eye walked
   unfolding number_tree
-  whole_walk h = record { all = h.ended ∙ zero-add _ ∙ whole_length; holds = h.now_holds }
+  whole_walk h = record { all = ap length h ∙ whole_length; holds = h }

@@ -3,7 +3,6 @@ mod Sums
 mod Runs
 pub mod Whole
 mod Carried
-mod Writes
 mod NearSide
 mod Descents
 pub mod Seen

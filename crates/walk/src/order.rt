@@ -1,17 +1,19 @@
 // The patch numbers of the tree, front to back from an eye.
-ghost use Rattle.std.specs.Prelude.{◌+◌, ◌≤◌, ◌<◌, length};
+ghost use Rattle.std.specs.Prelude.{◌≡◌, ◌+◌, ◌≤◌, ◌++◌, length};
 ghost use Rattle.model.specs.Lists.{range};
 ghost use Rattle.model.specs.Tree.{order};
 ghost use Rattle.geometry.specs.Machine.{vec_of, plane_of, Bounded};
-ghost use Rattle.walk.specs.Written.{Written};
-ghost use Rattle.checked.specs.Checked.{Checked, PointsBounded, tree_below};
+ghost use Rattle.checked.specs.Checked.{PointsBounded, tree_below};
 ghost use Rattle.walk.specs.Walked.{WholeWalk};
 ghost use Rattle.walk.specs.Near.{NearFirst};
 
-use checked::node;
-use format::layout::Layout;
-use format::records::Node;
+use arrayvec::ArrayVec;
+use checked::CheckedScene;
+use format::records::{Node, Run};
 use geometry::{Vector, plane_normal, side};
+
+// a scene's patches are this many at most
+pub const PATCHES: usize = 1024;
 
 // a node's children: the one on the eye's side, and the other
 #[derive(Clone, Copy)]
@@ -27,50 +29,49 @@ fn near_first(n: Node, eye: Vector) -> Children
 {
     let normal = plane_normal(n.a, n.b, n.c);
     if side(normal, n.a, eye) < 0 {
-        return Children {
+        Children {
             near: n.negative,
             far: n.positive,
-        };
-    }
-    Children {
-        near: n.positive,
-        far: n.negative,
+        }
+    } else {
+        Children {
+            near: n.positive,
+            far: n.negative,
+        }
     }
 }
 
-// writes the `count` numbers from `first` on, from place `at` on; returns the place after them
-fn write_run(first: usize, count: usize, out: &mut [u16], at: usize) -> usize
-    requires { (first + count ≤ 65536) × (at + count ≤ length out.old) }
-    ensures { Written out.old at (range first count) out.new result }
+// the numbers of a run, behind what was walked before
+fn walk_run(run: Run, walked: &mut ArrayVec<u16, PATCHES>)
+    requires { (run.first + run.count ≤ 65536) × (length walked.old.items + run.count ≤ 1024) }
+    ensures { walked.new.items ≡ walked.old.items ++ range run.first run.count }
 {
-    let mut i = 0;
-    while i < count {
-        out[at + i] = (first + i) as u16;
-        i += 1;
+    for k in 0..run.count {
+        walked.push((run.first + k) as u16);
     }
-    at + count
 }
 
-// writes the patch numbers at and below node k from place `at` on; returns the place after them
-fn walk_below(bytes: &[u8], l: Layout, k: usize, eye: Vector, out: &mut [u16], at: usize) -> usize
-    requires { Checked bytes.now l × Bounded 10000 eye
-        × (at + length (order (vec_of eye) (tree_below bytes.now k)) ≤ length out.old) }
-    ensures { Written out.old at (order (vec_of eye) (tree_below bytes.now k)) out.new result }
+// the patch numbers at and below node k, behind what was walked before
+fn walk_below(scene: &CheckedScene, k: usize, eye: Vector, walked: &mut ArrayVec<u16, PATCHES>)
+    requires { Bounded 10000 eye
+        × (length walked.old.items + length (order (vec_of eye) (tree_below scene.now.bytes.now k)) ≤ 1024) }
+    ensures { walked.new.items ≡ walked.old.items ++ order (vec_of eye) (tree_below scene.now.bytes.now k) }
 {
-    if l.nodes <= k {
-        return at;
+    if k < scene.layout.nodes {
+        let n = scene.node(k);
+        let c = near_first(n, eye);
+        walk_below(scene, c.near, eye, walked);
+        walk_run(n.patches, walked);
+        walk_below(scene, c.far, eye, walked);
     }
-    let n = node(bytes, l, k);
-    let c = near_first(n, eye);
-    let own = walk_below(bytes, l, c.near, eye, out, at);
-    let far = write_run(n.patches.first, n.patches.count, out, own);
-    walk_below(bytes, l, c.far, eye, out, far)
 }
 
-// writes the patch numbers of the whole tree at the front of `out`; returns how many there are
-pub fn walk(bytes: &[u8], l: Layout, eye: Vector, out: &mut [u16]) -> usize
-    requires { Checked bytes.now l × Bounded 10000 eye × (l.patches ≤ length out.old) }
-    ensures { WholeWalk bytes.now l (vec_of eye) out.old out.new result }
+// the patch numbers of the whole tree
+pub fn walk(scene: &CheckedScene, eye: Vector) -> ArrayVec<u16, PATCHES>
+    requires { Bounded 10000 eye }
+    ensures { WholeWalk scene.now.bytes.now scene.now.layout (vec_of eye) result.items }
 {
-    walk_below(bytes, l, 0, eye, out, 0)
+    let mut walked = ArrayVec::new();
+    walk_below(scene, 0, eye, &mut walked);
+    walked
 }

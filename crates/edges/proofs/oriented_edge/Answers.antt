@@ -24,8 +24,8 @@ returns-then-sign-gt0 c =
     vector_by c.edge_vector-then-sign-gt0.ensures
     (as_it_is (seen c.args.eye c.args.v) (seen c.args.eye c.args.w) c.args.sign c.requires.sign_within (search comparisons))
 
-pub returns : goal.returns
-returns c =
+pub returns-else-sign-gt0 : goal.returns-else-sign-gt0
+returns-else-sign-gt0 c =
     vector_by
     (vector (number (positive 0, tt, tt, refl)) (number (positive 0, tt, tt, refl)) (number (positive 0, tt, tt, refl)))
     (none (seen c.args.eye c.args.v) (seen c.args.eye c.args.w) c.args.sign (search comparisons) (search comparisons))

@@ -12,7 +12,7 @@ oriented_edge-edge-requires c =
     let h = c.loop-i-test.true in
     record {
       eye_bounded = c.requires.0.sight.eye_bounded;
-      v_bounded = bounded_corner c.requires.0.scene (omega (arith, h, c.corner_run-run.ensures.run_inside)) (c.loop-i.invariant.from_is h);
+      v_bounded = bounded_corner c.args.scene.now.checked (omega (arith, h, c.corner_run-run.ensures.run_inside)) (c.loop-i.invariant.from_is h);
       w_bounded = c.corner-to.ensures.bounded;
       sign_within = sign_small (sign_passed c.requires.1);
     }
@@ -31,7 +31,7 @@ loop-i-preserved c =
           writing_more (keeping c.requires.0 c.corner_run-run.ensures) c.loop-i.invariant.writing h
           (edge_seen c.args.sight c.corner_run-run.ensures (sign_passed c.requires.1) h (c.loop-i.invariant.from_is h) c.next_place.ensures c.corner-to.ensures.value c.oriented_edge-edge.ensures.value c.edge_function.ensures)
           c.keep_one-sloped.ensures;
-      from_is = goes_on _ (c).args.l _ _ _ _ c.next_place.ensures c.corner-to.ensures.value;
+      from_is = goes_on _ c.args.scene.now.layout _ _ _ _ c.next_place.ensures c.corner-to.ensures.value;
     }
 
 pub returns : goal.returns

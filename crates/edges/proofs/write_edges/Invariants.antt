@@ -6,4 +6,4 @@ use Rattle.edges.proofs.write_edges.Given as goal
 
 abbrev pub invariant-loop-i : goal.invariant-loop-i
 invariant-loop-i l =
-    Going l.bytes l.l l.sight (patch_numbered (decode l.bytes) l.k) l.first l.count l.initial.sloped.reach l.initial.table l.table l.sloped l.from l.i
+    Going l.scene.bytes.now l.scene.layout l.sight (patch_numbered (decode l.scene.bytes.now) l.k) l.run.first l.run.count l.initial.sloped.reach l.initial.table l.table l.sloped l.from l.i

@@ -13,14 +13,14 @@ overflow_mul-slope c = product_fits c.eye_product-slope.ensures c.eye_product-st
 pub overflow_add-slope : goal.overflow_add-slope
 overflow_add-slope c = last_fits c.eye_product-slope.ensures c.eye_product-start.ensures c.requires.4
 
-pub returns-then-sign-side : goal.returns-then-sign-side
-returns-then-sign-side c =
+pub returns-else-sign-side : goal.returns-else-sign-side
+returns-else-sign-side c =
     signs_differ (first_number c.eye_product-slope.ensures c.eye_product-start.ensures c.requires.4)
     (last_number c.eye_product-slope.ensures c.eye_product-start.ensures c.requires.4) c.sign-side.ensures
-    c.sign.ensures (λ e. c.if-sign-side.true (ap (of_z w64) e))
+    c.sign.ensures (λ e. c.if-sign-side.false (ap (of_z w64) e))
 
-pub returns : goal.returns
-returns c =
+pub returns-then-sign-side : goal.returns-then-sign-side
+returns-then-sign-side c =
     signs_agree (first_number c.eye_product-slope.ensures c.eye_product-start.ensures c.requires.4)
     (last_number c.eye_product-slope.ensures c.eye_product-start.ensures c.requires.4) c.sign-side.ensures
-    c.sign.ensures (search (comparisons, c.if-sign-side.false)) (to_z-of_z w64 c.sign-side.result (record { sfits = c.sign-side.type_inv }))
+    c.sign.ensures (search (comparisons, c.if-sign-side.true)) (to_z-of_z w64 c.sign-side.result (record { sfits = c.sign-side.type_inv }))

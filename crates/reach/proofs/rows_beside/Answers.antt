@@ -1,5 +1,4 @@
 -- `reach::rows_beside` meets its contract: while the loop runs, the first i corners lie beside the planes of the spans' rows.
-use Prim.Native.Nat.{◌+◌, ◌<◌}
 use native.Mathlib.Omega.{arith}
 use lib.Dec.{lit≤}
 use Rattle.reach.proofs.CornerSides.{bounded_more, sides_shaped, corner_linear, corner_clipped, beside_none, beside_more, beside_all}
@@ -8,11 +7,11 @@ use Rattle.reach.proofs.rows_beside.Goals as goal
 pub loop-i-init : goal.loop-i-init
 loop-i-init c = beside_none
 
-pub overflow_add-first : goal.overflow_add-first
-overflow_add-first c = omega (arith, (let few : c.corner_run-run.result.first + c.loop-i.i < 65536 = omega (arith, (let inside : c.corner_run-run.result.first + c.loop-i.i < c.args.l.corners = omega (arith, c.loop-i-test.true, c.corner_run-run.ensures.run_inside) in inside), c.requires.scene.laid.few_corners) in few))
-
 pub corner-corner-requires : goal.corner-corner-requires
-corner-corner-requires c = (c.requires.scene, (let inside : c.corner_run-run.result.first + c.loop-i.i < c.args.l.corners = omega (arith, c.loop-i-test.true, c.corner_run-run.ensures.run_inside) in inside))
+corner-corner-requires c = omega (arith, c.loop-i-test.true, c.corner_run-run.ensures.run_inside)
+
+pub overflow_add-run : goal.overflow_add-run
+overflow_add-run c = omega (arith, c.loop-i-test.true, c.corner_run-run.ensures.run_inside, c.args.scene.now.checked.laid.few_corners)
 
 pub eye_product-start-requires : goal.eye_product-start-requires
 eye_product-start-requires c =
@@ -27,12 +26,6 @@ eye_product-slope-requires c =
 pub clip_sides-sides-requires : goal.clip_sides-sides-requires
 clip_sides-sides-requires c =
     (sides_shaped c.loop-i.invariant c.requires.height_limit, corner_linear c.eye_product-slope.ensures c.eye_product-start.ensures)
-
-pub overflow_add-i : goal.overflow_add-i
-overflow_add-i c = omega (arith, (let few : c.corner_run-run.result.first + c.loop-i.i < 65536 = omega (arith, (let inside : c.corner_run-run.result.first + c.loop-i.i < c.args.l.corners = omega (arith, c.loop-i-test.true, c.corner_run-run.ensures.run_inside) in inside), c.requires.scene.laid.few_corners) in few))
-
-pub loop-i-smaller : goal.loop-i-smaller
-loop-i-smaller c = omega (arith, c.loop-i-test.true)
 
 pub loop-i-preserved : goal.loop-i-preserved
 loop-i-preserved c =

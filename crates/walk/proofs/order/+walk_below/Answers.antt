@@ -1,51 +1,37 @@
--- `walk_below` meets its contract: what is below the near child, the node's own run, and what is below the far child, one after the other.
-use native.Mathlib.Omega.{arith}
+-- What is below the near child, the node's own run, and what is below the far child, one after the other.
+use Rattle.std.proofs.Common.{arith, length, ap}
+use Rattle.std.proofs.lemmas.Grind.{common_steps}
 use Rattle.model.proofs.Ranges.{range_length}
+use Rattle.geometry.specs.Machine.{vec_of}
 use Rattle.checked.proofs.Nodes.{no_node}
-use Rattle.walk.proofs.Descents.{descent, assembled, nothing_below}
+use Rattle.walk.proofs.Descents.{descent, nothing_below}
 use Rattle.walk.proofs.order.+walk_below.Goals as goal
-
-pub returns-then-l-k : goal.returns-then-l-k
-returns-then-l-k t c = nothing_below _ _ _ (no_node _ c.args.l c.requires.0 c.args.k c.if-l-k.true)
-
-pub node-n-requires : goal.node-n-requires
-node-n-requires t c = (c.requires.0, c.if-l-k.false)
-
-pub walk_below-own-requires : goal.walk_below-own-requires
-walk_below-own-requires t c =
-    let d = descent c.node-n.ensures c.near_first-c.ensures in (
-      omega (arith, d.near_above, c.decreases, c.if-l-k.false),
-      (c.requires.0, c.requires.1, omega (arith, d.size, c.requires.2)),
-    )
-
-pub write_run-far-requires : goal.write_run-far-requires
-write_run-far-requires t c =
-    let d = descent c.node-n.ensures c.near_first-c.ensures in (
-      omega (arith, c.node-n.ensures.run_inside, c.requires.0.laid.few_patches),
-      omega (arith, c.walk_below-own.ensures.ended, c.walk_below-own.auto.out, d.size, c.requires.2),
-    )
 
 pub walk_below-requires : goal.walk_below-requires
 walk_below-requires t c =
-    let d = descent c.node-n.ensures c.near_first-c.ensures in (
-      omega (arith, d.far_above, c.decreases, c.if-l-k.false),
-      (
-        c.requires.0,
-        c.requires.1,
-        omega (
-          arith,
-          c.write_run-far.ensures.ended,
-          range_length c.node-n.result.patches.first c.node-n.result.patches.count,
-          c.write_run-far.auto.out,
-          c.walk_below-own.ensures.ended,
-          c.walk_below-own.auto.out,
-          d.size,
-          c.requires.2,
-        ),
-      ),
-    )
+    let d = descent c.node-n.ensures c.near_first-c.ensures in
+    (omega (arith, d.near_above, c.decreases, c.if-k-scene.true), (c.requires.0, omega (arith, d.size, c.requires.1)))
 
-pub returns : goal.returns
-returns t c =
-    assembled (descent c.node-n.ensures c.near_first-c.ensures) c.requires.2 c.walk_below-own.ensures c.write_run-far.ensures
-    c.walk_below.ensures
+pub walk_run-requires : goal.walk_run-requires
+walk_run-requires t c =
+    let d = descent c.node-n.ensures c.near_first-c.ensures in
+    let near = ap length c.walk_below.ensures in
+    (omega (arith, c.node-n.ensures.run_inside, c.args.scene.now.checked.laid.few_patches), grind (arith, common_steps, d.size))
+
+pub walk_below-requires-then-k-scene : goal.walk_below-requires-then-k-scene
+walk_below-requires-then-k-scene t c =
+    let d = descent c.node-n.ensures c.near_first-c.ensures in
+    let near = ap length c.walk_below.ensures in
+    let own = ap length c.walk_run.ensures in
+    let count = range_length c.node-n.result.patches.first c.node-n.result.patches.count in
+    (omega (arith, d.far_above, c.decreases, c.if-k-scene.true), (c.requires.0, grind (arith, common_steps, d.size)))
+
+pub returns-then-k-scene : goal.returns-then-k-scene
+returns-then-k-scene t c =
+    let d = descent c.node-n.ensures c.near_first-c.ensures in
+    grind (arith, common_steps, d.order_is)
+
+pub returns-else-k-scene : goal.returns-else-k-scene
+returns-else-k-scene t c =
+    let nothing = nothing_below (vec_of c.args.eye) (no_node _ c.args.scene.now.layout c.args.scene.now.checked c.args.k c.if-k-scene.false) in
+    grind (arith, common_steps)

@@ -3,4 +3,4 @@ use Prim.Native.Nat.{◌-◌}
 use Rattle.walk.proofs.order.+walk_below.Given as goal
 
 abbrev pub decreases-walk_below : goal.decreases-walk_below
-decreases-walk_below l = l.l.nodes - l.k
+decreases-walk_below l = l.scene.now.layout.nodes - l.k

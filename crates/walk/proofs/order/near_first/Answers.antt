@@ -11,8 +11,8 @@ returns-then-side-lt0 c =
     (side_of_plane a.n.a a.n.b a.n.c a.eye c.plane_normal-normal.ensures c.side.ensures).value
     (search comparisons)
 
-pub returns : goal.returns
-returns c =
+pub returns-else-side-lt0 : goal.returns-else-side-lt0
+returns-else-side-lt0 c =
     let a = c.args in
     from_before _ _ _ _
     (side_of_plane a.n.a a.n.b a.n.c a.eye c.plane_normal-normal.ensures c.side.ensures).value
