@@ -1,5 +1,6 @@
 -- `paint_rows` meets its contract.
 use mathlib.Core.Path.{◌∙◌}
+use native.Mathlib.Omega.{arith}
 use lib.ListN.{length}
 use Rattle.painting.proofs.Fresh.{walk_fresh}
 use Rattle.painting.proofs.Joining.{rows_writable, maps_writable, rows_painted}
@@ -18,11 +19,11 @@ paint_walk-requires c =
 
 pub write_rows-requires : goal.write_rows-requires
 write_rows-requires c =
-    rows_writable c.paint_walk.ensures c.requires.framed.low c.requires.framed.rows
+    (omega arith, (omega arith, rows_writable c.paint_walk.ensures c.requires.framed.low c.requires.framed.rows))
 
 pub write_rows-requires-2 : goal.write_rows-requires-2
 write_rows-requires-2 c =
-    maps_writable c.paint_walk.ensures c.requires.framed.low c.requires.framed.words
+    (omega arith, (omega arith, maps_writable c.paint_walk.ensures c.requires.framed.low c.requires.framed.words))
 
 pub returns : goal.returns
 returns c =
