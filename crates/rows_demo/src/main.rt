@@ -3,7 +3,7 @@
 // cells newly lit, 1 where no column is unlit any more), the row's used pairs, its words of the lit map, and its cells: 1 beside the segments, 2 in the span.
 #![tactic(auto)]
 
-ghost use Rattle.std.specs.Prelude.{◌≡◌, [], ◌∷◌, length};
+ghost use Rattle.std.specs.Prelude.{◌≡◌, ◌+◌, ◌≤◌, [], ◌∷◌, length};
 ghost use Rattle.rows.specs.Span.{UnderWork};
 
 use row_lines::lay_and_write;
@@ -20,6 +20,24 @@ fn two_segments(words: &mut [u64; 4], cells: &mut [u16]) -> [u16; 256]
     row
 }
 
+// The spans that are laid each on a row of its own: in each of the eight positions, and then the others in order.
+const ALONE: [(u16, u16); 14] = [
+    (1, 2),
+    (2, 6),
+    (6, 8),
+    (2, 11),
+    (6, 11),
+    (2, 14),
+    (6, 14),
+    (12, 14),
+    (2, 12),
+    (12, 13),
+    (15, 15),
+    (14, 20),
+    (16, 65535),
+    (9, 8),
+];
+
 // A span of panel 2.
 fn lay_over(
     rt: &HostRuntime,
@@ -33,7 +51,7 @@ fn lay_over(
     requires { UnderWork (length cells.old) row.old words.old }
     ensures { UnderWork (length cells.new) row.new words.new }
 {
-    lay_and_write(
+    let _written = lay_and_write(
         &mut rt.stdout(),
         &mut rt.stderr(),
         number,
@@ -47,31 +65,29 @@ fn lay_over(
     );
 }
 
-fn show(rt: &HostRuntime, number: u32, first: u16, last: u16) {
+// Spans on a fresh row with its two segments, one after the other; the first of them is told with this number.
+fn show(rt: &HostRuntime, number: u32, spans: &[(u16, u16)])
+    requires { number + length spans.now ≤ 65536 }
+{
     let mut cells = [0u16; 16];
     let mut words = [0u64; 4];
     let mut row = two_segments(&mut words, &mut cells);
-    lay_over(rt, number, &mut row, &mut words, &mut cells, first, last);
+    for (i, (first, last)) in spans.iter().enumerate() {
+        lay_over(
+            rt,
+            number + i as u32,
+            &mut row,
+            &mut words,
+            &mut cells,
+            *first,
+            *last,
+        );
+    }
 }
 
 fn main(rt: HostRuntime) {
-    show(&rt, 1, 1, 2);
-    show(&rt, 2, 2, 6);
-    show(&rt, 3, 6, 8);
-    show(&rt, 4, 2, 11);
-    show(&rt, 5, 6, 11);
-    show(&rt, 6, 2, 14);
-    show(&rt, 7, 6, 14);
-    show(&rt, 8, 12, 14);
-    show(&rt, 9, 2, 12);
-    show(&rt, 10, 12, 13);
-    show(&rt, 11, 15, 15);
-    show(&rt, 12, 14, 20);
-    show(&rt, 13, 16, 65535);
-    show(&rt, 14, 9, 8);
-    let mut cells = [0u16; 16];
-    let mut words = [0u64; 4];
-    let mut row = two_segments(&mut words, &mut cells);
-    lay_over(&rt, 15, &mut row, &mut words, &mut cells, 0, 15);
-    lay_over(&rt, 16, &mut row, &mut words, &mut cells, 3, 5);
+    for (i, span) in ALONE.iter().enumerate() {
+        show(&rt, i as u32 + 1, &[*span]);
+    }
+    show(&rt, 15, &[(0, 15), (3, 5)]);
 }

@@ -19,10 +19,8 @@ fn lay_every_fourth(
     requires { UnderWork (length cells.old) row.old words.old }
     ensures { UnderWork (length cells.new) row.new words.new }
 {
-    let mut column = first;
-    while column < 256 {
+    for column in (first..256).step_by(4) {
         rows::lay(row, words, cells, column, column, panel);
-        column += 4;
     }
 }
 
@@ -30,11 +28,11 @@ fn lay_every_fourth(
 fn show(rt: &HostRuntime, step: u32, row: &[u16; 256], words: &[u64; 4], cells: &[u16])
     requires { UnderWork (length cells.now) row.now words.now }
 {
-    write_row(
+    let _written = write_row(
         &mut rt.stdout(),
         &mut rt.stderr(),
         step,
-        &cells[..0],
+        &[],
         row,
         words,
         cells,
@@ -71,50 +69,19 @@ fn main(rt: HostRuntime) {
     let mut other_words = words;
     let mut other = row;
     lay_over(&rt, 3, &mut row, &mut words, &mut cells, 0, 255);
-    // the segments of columns 20, 40, 60 and 80: met alone, from both sides, from before, and from behind
-    lay_over(
-        &rt,
-        4,
-        &mut other,
-        &mut other_words,
-        &mut other_cells,
-        20,
-        20,
-    );
-    lay_over(
-        &rt,
-        5,
-        &mut other,
-        &mut other_words,
-        &mut other_cells,
-        39,
-        41,
-    );
-    lay_over(
-        &rt,
-        6,
-        &mut other,
-        &mut other_words,
-        &mut other_cells,
-        59,
-        60,
-    );
-    lay_over(
-        &rt,
-        7,
-        &mut other,
-        &mut other_words,
-        &mut other_cells,
-        80,
-        81,
-    );
-    lay_over(
-        &rt,
-        8,
-        &mut other,
-        &mut other_words,
-        &mut other_cells,
-        0,
-        255,
-    );
+    // the segments of columns 20, 40, 60 and 80: met alone, from both sides, from before, and from behind; and then the others
+    for (i, (first, last)) in [(20, 20), (39, 41), (59, 60), (80, 81), (0, 255)]
+        .iter()
+        .enumerate()
+    {
+        lay_over(
+            &rt,
+            4 + i as u32,
+            &mut other,
+            &mut other_words,
+            &mut other_cells,
+            *first,
+            *last,
+        );
+    }
 }

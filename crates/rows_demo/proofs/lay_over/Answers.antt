@@ -3,4 +3,4 @@ use Rattle.rows.proofs.Laws.{work_laid}
 use Rattle.rows_demo.proofs.lay_over.Goals as goal
 
 pub returns : goal.returns
-returns c = work_laid c.requires c.lay_and_write.ensures.laid c.lay_and_write.ensures.mapped
+returns c = work_laid c.requires c.lay_and_write-written.ensures.laid c.lay_and_write-written.ensures.mapped

@@ -1,12 +1,7 @@
 -- `lay_every_fourth` is safe: while the loop runs, row and words are under work.
-use Prim.Native.Nat.{◌-◌}
-use mathlib.Core.Path.{◌≡◌}
-use lib.ListN.{length}
+use Rattle.std.proofs.Common.{◌≡◌, length}
 use Rattle.rows.specs.Span.{UnderWork}
 use Rattle.rows_narrow.proofs.lay_every_fourth.Given as goal
 
 abbrev pub invariant-loop-column : goal.invariant-loop-column
 invariant-loop-column l = UnderWork (length l.cells) l.row l.words × (length l.cells ≡ length l.initial.cells)
-
-abbrev pub decreases-loop-column : goal.decreases-loop-column
-decreases-loop-column l = 256 - l.column
