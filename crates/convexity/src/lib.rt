@@ -13,7 +13,7 @@ use polygons::patch_proper;
 use small_polygons::four::four_proper;
 use small_polygons::three::three_proper;
 
-// three and four corners of the table, from a place on
+// Three and four corners of the table, from a place on. One function of N corners would need a loop that fills an array, and ask N for which test it calls.
 fn three_from(bytes: &[u8], l: Layout, first: usize) -> bool
     requires { Cornered bytes.now l × (first + 3 ≤ l.corners) }
     ensures { result ≡ patch_proper (corners_from bytes.now l first 3) }
@@ -54,13 +54,10 @@ pub fn patches_proper(bytes: &[u8], l: Layout) -> bool
     requires { Cornered bytes.now l }
     ensures { result ≡ patches_proper (decode bytes.now) }
 {
-    let n = l.patches;
-    let mut k = 0;
-    while k < n {
+    for k in 0..l.patches {
         if !numbered_proper(bytes, l, k) {
             return false;
         }
-        k += 1;
     }
     true
 }

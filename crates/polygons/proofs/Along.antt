@@ -1,6 +1,6 @@
 -- A flat patch in hand is strictly convex exactly if its projection is, along an axis that shows its plane.
 use mathlib.Core.Path.{◌≡◌, refl, sym, ap, ◌∙◌, subst}
-use mathlib.Core.Bool.{Bool, true}
+use mathlib.Core.Bool.{Bool, true, false, cond, true≢false}
 use mathlib.Core.List.{List}
 use Prim.Native.Nat.{ℕ, ◌+◌, ◌-◌, ◌<◌}
 use native.Mathlib.Omega.{arith}
@@ -19,32 +19,34 @@ use Rattle.geometry.specs.declared.Vector.{Vector}
 use Rattle.geometry.specs.Machine.{vec_of, Bounded, VectorIs}
 use Rattle.format.specs.declared.patch.Patch.{Patch}
 use Rattle.format.specs.Patch.{corner_of, patch_of}
-use Rattle.polygons.specs.Bounds.{PatchBounded, WithNormal}
+use Rattle.polygons.specs.Bounds.{PatchBounded, WithNormal, FoundFlat}
 use Rattle.projection.specs.Projected.{wrap, Projected, projected_at, ProjectionBounded, turns_projected, convex_projected}
 use Rattle.projection.specs.declared.Projection.{Projection}
 use Rattle.model.proofs.Loops.{each}
-use Rattle.geometry.proofs.Zeros.{zero_word}
 use Rattle.projection.proofs.ReadRound.{wrap_below}
 use Rattle.polygons.proofs.Corners.{turn_at, flat_asked, convex_asked, turns_asked}
 use Rattle.projection.proofs.Projected.{turn_projected_at, turned_projected, convex_projected_asked, turns_projected_asked}
 use Rattle.projection.proofs.Asked.{asked_others, all_others}
-use Rattle.polygons.proofs.Axes.{Axis, x_axis, y_axis, z_axis, along, across, Shown, slanted, no_plane, turns_as_projected}
+use Rattle.projection.specs.declared.Axis.{Axis}
+use Rattle.projection.specs.declared.Axis.TheVariants.{X, Y, Z}
+use Rattle.projection.specs.Projected.{first_axis, along, across}
+use Rattle.polygons.proofs.Axes.{Shown, slanted, no_plane, turns_as_projected}
 
 -- ---- the coordinates across an axis
 abbrev pub firsts : Axis → Patch → List ℤ
-firsts x_axis p = p.y
-firsts y_axis p = p.z
-firsts z_axis p = p.x
+firsts X p = p.y
+firsts Y p = p.z
+firsts Z p = p.x
 
 abbrev pub seconds : Axis → Patch → List ℤ
-seconds x_axis p = p.z
-seconds y_axis p = p.x
-seconds z_axis p = p.y
+seconds X p = p.z
+seconds Y p = p.x
+seconds Z p = p.y
 
 projected_across : (a : Axis) (p : Patch) (k : ℕ) → projected_at (firsts a p) (seconds a p) k ≡ across a (corner_of p k)
-projected_across x_axis p k = refl
-projected_across y_axis p k = refl
-projected_across z_axis p k = refl
+projected_across X p k = refl
+projected_across Y p k = refl
+projected_across Z p k = refl
 
 -- one of a patch's three tables of coordinates: each is in bounds, in whatever order two of them are taken
 pub data TableOf (p : Patch) : List ℤ → Type 0 where
@@ -58,19 +60,19 @@ table_within b y_table k h = (b.corners_within k h).y_within
 table_within b z_table k h = (b.corners_within k h).z_within
 
 pub first_table : (a : Axis) (p : Patch) → TableOf p (firsts a p)
-first_table x_axis p = y_table
-first_table y_axis p = z_table
-first_table z_axis p = x_table
+first_table X p = y_table
+first_table Y p = z_table
+first_table Z p = x_table
 
 pub second_table : (a : Axis) (p : Patch) → TableOf p (seconds a p)
-second_table x_axis p = z_table
-second_table y_axis p = x_table
-second_table z_axis p = y_table
+second_table X p = z_table
+second_table Y p = x_table
+second_table Z p = y_table
 
 along_within : (a : Axis) {n : Vector} → Bounded 800000000 n → Within 800000000 (along a (vec_of n))
-along_within x_axis h = h.x_within
-along_within y_axis h = h.y_within
-along_within z_axis h = h.z_within
+along_within X h = h.x_within
+along_within Y h = h.y_within
+along_within Z h = h.z_within
 
 -- ---- a number that passed through a word
 stored : {z : ℤ} → Within 800000000 z → to_z w64 (of_z w64 z) ≡ z
@@ -91,22 +93,20 @@ module _ {p : Patch} {n : Vector} (w : WithNormal p n) where
   en = w.normal_is
 
   -- ---- an axis that shows the plane
-  pub shown_by : (a : Axis) → (of_z w64 (along a (vec_of n)) ≡ 0 → ⊥) → Shown a (normal (patch_of p))
-  shown_by a f = slanted (λ e. f (ap (λ (v : Vec). of_z w64 (along a v)) en.value ∙ ap (of_z w64) e))
-
-  pub shown_last : of_z w64 n.x ≡ 0 → of_z w64 n.y ≡ 0 → Shown z_axis (normal (patch_of p))
-  shown_last ex ey = go (ℤ_discrete n.z (pos 0))
+  pub first_shown : Shown (first_axis (vec_of n)) (normal (patch_of p))
+  first_shown = go (is_zero n.x) (is_zero n.y) refl refl
     where
-      go : Dec (n.z ≡ pos 0) → Shown z_axis (normal (patch_of p))
-      go (no f) = slanted (λ e. f (ap (λ (v : Vec). v.z) en.value ∙ e))
-      go (yes ez) =
-          no_plane
-          (sym en.value
-          ∙ (λ i. record {
-            x = zero_only n.x (zero_word tt en.bounded.x_within ex) i;
-            y = zero_only n.y (zero_word tt en.bounded.y_within ey) i;
-            z = ez i;
-          }))
+      other : (a : Axis) → is_zero (along a (vec_of n)) ≡ false → Shown a (normal (patch_of p))
+      other a f = slanted (λ e. true≢false (sym (ap (λ (v : Vec). is_zero (along a v)) en.value ∙ ap is_zero e) ∙ f))
+
+      last : is_zero n.x ≡ true → is_zero n.y ≡ true → Dec (n.z ≡ pos 0) → Shown Z (normal (patch_of p))
+      last ex ey (no f) = slanted (λ e. f (ap (λ (v : Vec). v.z) en.value ∙ e))
+      last ex ey (yes ez) = no_plane (sym en.value ∙ (λ i. record { x = zero_only n.x ex i; y = zero_only n.y ey i; z = ez i }))
+
+      go : (x y : Bool) → is_zero n.x ≡ x → is_zero n.y ≡ y → Shown (cond x (cond y Z Y) X) (normal (patch_of p))
+      go false y ex ey = other X ex
+      go true false ex ey = other Y ey
+      go true true ex ey = last ex ey (ℤ_discrete n.z (pos 0))
 
   module _ (a : Axis) where
     pub projection_bounded : {us vs : List ℤ} → TableOf p us → TableOf p vs → ProjectionBounded (projection a p n) us vs
@@ -160,3 +160,22 @@ module _ {p : Patch} {n : Vector} (w : WithNormal p n) where
               (λ j l.
               let m = asked_others b.three l in
               same_turn h m ∙ each (turns_asked b h) (each (convex_asked b) t k h) j m))
+
+-- along the axis that the code finds; in each of its cases it is known by its name
+module _ {p : Patch} {n : Vector} (s : FoundFlat p n) {axis a : Axis} (at : axis ≡ first_axis (vec_of n)) (named : axis ≡ a) {part : ℤ} (part_is : part ≡ along axis (vec_of n)) where
+  abbrev found : Projection
+  found = record { part = to_z w64 (of_z w64 part); count = p.count }
+
+  found_is : found ≡ projection a p n
+  found_is = ap (λ (z : ℤ). record { part = to_z w64 (of_z w64 z); count = p.count }) (part_is ∙ ap (λ (b : Axis). along b (vec_of n)) named)
+
+  pub found_bounded : ProjectionBounded found (firsts a p) (seconds a p)
+  found_bounded =
+      subst (λ (q : Projection). ProjectionBounded q (firsts a p) (seconds a p)) (sym found_is)
+      (projection_bounded s.with_normal a (first_table a p) (second_table a p))
+
+  pub found_convex : convex_projected found (firsts a p) (seconds a p) ≡ strictly_convex (patch_of p)
+  found_convex =
+      ap (λ (q : Projection). convex_projected q (firsts a p) (seconds a p)) found_is
+      ∙ convex_as_projected s.with_normal a s.is_flat_lem
+      (subst (λ (b : Axis). Shown b (normal (patch_of p))) (sym at ∙ named) (first_shown s.with_normal))

@@ -9,44 +9,30 @@ use Rattle.integer.proofs.Order.{<→≤, <_or-≥, lt_lt_z, le_lt_z}
 use Rattle.integer.proofs.Products.{*_pos, *_nonneg_nonpos, *_nonpos_nonneg, sq_pos, squares}
 use Rattle.model.specs.Vector.{Vec, Plane, vec, origin, minus, dot, cross, plane_normal, side}
 use Rattle.model.proofs.Vectors.{parallel}
-use Rattle.projection.specs.Projected.{Projected, projected, turn_part}
-
-pub data Axis : Type 0 where
-  x_axis : Axis
-  y_axis : Axis
-  z_axis : Axis
-
--- the part of a vector along the axis, and the two parts across it in the order of the cross product
-abbrev pub along : Axis → Vec → ℤ
-along x_axis v = v.x
-along y_axis v = v.y
-along z_axis v = v.z
-
-abbrev pub across : Axis → Vec → Projected
-across x_axis v = projected v.y v.z
-across y_axis v = projected v.z v.x
-across z_axis v = projected v.x v.y
+use Rattle.projection.specs.declared.Axis.{Axis}
+use Rattle.projection.specs.declared.Axis.TheVariants.{X, Y, Z}
+use Rattle.projection.specs.Projected.{along, across, turn_part}
 
 abbrev component : Axis → Vec → Vec
-component x_axis n = vec n.x (pos 0) (pos 0)
-component y_axis n = vec (pos 0) n.y (pos 0)
-component z_axis n = vec (pos 0) (pos 0) n.z
+component X n = vec n.x (pos 0) (pos 0)
+component Y n = vec (pos 0) n.y (pos 0)
+component Z n = vec (pos 0) (pos 0) n.z
 
 abbrev projected_turn : Axis → Vec → Vec → Vec → Vec → ℤ
 projected_turn a n u v w = along a n *ℤ turn_part (across a u) (across a v) (across a w)
 
 component_turn : (a : Axis) (n u v w : Vec) → projected_turn a n u v w ≡ dot (component a n) (cross (minus v u) (minus w u))
-component_turn x_axis n u v w =
+component_turn X n u v w =
     ring (n.x ∷ u.x ∷ u.y ∷ u.z ∷ v.x ∷ v.y ∷ v.z ∷ w.x ∷ w.y ∷ w.z ∷ []) (search reify depth 40 fits 200000, tt)
-component_turn y_axis n u v w =
+component_turn Y n u v w =
     ring (n.y ∷ u.x ∷ u.y ∷ u.z ∷ v.x ∷ v.y ∷ v.z ∷ w.x ∷ w.y ∷ w.z ∷ []) (search reify depth 40 fits 200000, tt)
-component_turn z_axis n u v w =
+component_turn Z n u v w =
     ring (n.z ∷ u.x ∷ u.y ∷ u.z ∷ v.x ∷ v.y ∷ v.z ∷ w.x ∷ w.y ∷ w.z ∷ []) (search reify depth 40 fits 200000, tt)
 
 component_square : (a : Axis) (n : Vec) → dot (component a n) n ≡ along a n *ℤ along a n
-component_square x_axis n = ring (n.x ∷ n.y ∷ n.z ∷ []) (search reify depth 40 fits 200000, tt)
-component_square y_axis n = ring (n.x ∷ n.y ∷ n.z ∷ []) (search reify depth 40 fits 200000, tt)
-component_square z_axis n = ring (n.x ∷ n.y ∷ n.z ∷ []) (search reify depth 40 fits 200000, tt)
+component_square X n = ring (n.x ∷ n.y ∷ n.z ∷ []) (search reify depth 40 fits 200000, tt)
+component_square Y n = ring (n.x ∷ n.y ∷ n.z ∷ []) (search reify depth 40 fits 200000, tt)
+component_square Z n = ring (n.x ∷ n.y ∷ n.z ∷ []) (search reify depth 40 fits 200000, tt)
 
 -- The plane is not parallel to the axis, or it is none: its three points are on one line.
 pub data Shown (a : Axis) (n : Vec) : Type 0 where
@@ -57,9 +43,9 @@ square_above : (a : Axis) (n : Vec) → along a n ≢ pos 0 → pos 0 <ℤ dot n
 square_above a n f = go (squares n.x n.y n.z)
   where
     part_zero : (a : Axis) → (n.x ≡ pos 0) × (n.y ≡ pos 0) × (n.z ≡ pos 0) → along a n ≡ pos 0
-    part_zero x_axis (p, q, r) = p
-    part_zero y_axis (p, q, r) = q
-    part_zero z_axis (p, q, r) = r
+    part_zero X (p, q, r) = p
+    part_zero Y (p, q, r) = q
+    part_zero Z (p, q, r) = r
 
     go : (pos 0 <ℤ dot n n) ⊎ ((n.x ≡ pos 0) × (n.y ≡ pos 0) × (n.z ≡ pos 0)) → pos 0 <ℤ dot n n
     go (inl h) = h
@@ -77,9 +63,9 @@ same_sign x y ha hb e = go (<_or-≥ (pos 0) x) (<_or-≥ (pos 0) y)
 
 -- without a plane both numbers are 0
 no_turn : (a : Axis) (u v w : Vec) → projected_turn a origin u v w ≡ dot origin (cross (minus v u) (minus w u))
-no_turn x_axis u v w = component_turn x_axis origin u v w
-no_turn y_axis u v w = component_turn y_axis origin u v w
-no_turn z_axis u v w = component_turn z_axis origin u v w
+no_turn X u v w = component_turn X origin u v w
+no_turn Y u v w = component_turn Y origin u v w
+no_turn Z u v w = component_turn Z origin u v w
 
 pub turns_as_projected :
     (a : Axis) (s t : Plane) →

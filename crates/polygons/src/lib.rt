@@ -10,7 +10,7 @@ ghost use Rattle.polygons.specs.Tests.{patch_proper};
 
 use format::patch::{Patch, corner_of};
 use geometry::{Vector, plane_normal, side};
-use projection::{Projection, convex_along};
+use projection::{Axis, Projection, along, convex_along, first_axis};
 
 fn patch_normal(p: Patch) -> Vector
     requires { PatchBounded p }
@@ -23,15 +23,12 @@ fn is_flat(p: Patch, n: Vector) -> bool
     requires { WithNormal p n }
     ensures { result ≡ flat (patch_of p) }
 {
-    let count = p.count;
     let a = corner_of(p, 0);
     // the first three are on their plane
-    let mut k = 3;
-    while k < count {
+    for k in 3..p.count {
         if side(n, a, corner_of(p, k)) != 0 {
             return false;
         }
-        k += 1;
     }
     true
 }
@@ -41,14 +38,16 @@ fn strictly_convex(p: Patch, n: Vector) -> bool
     requires { FoundFlat p n }
     ensures { result ≡ strictly_convex (patch_of p) }
 {
-    let count = p.count;
-    if n.x != 0 {
-        return convex_along(Projection { part: n.x, count }, &p.y, &p.z);
+    let axis = first_axis(n);
+    let projection = Projection {
+        part: along(axis, n),
+        count: p.count,
+    };
+    match axis {
+        Axis::X => convex_along(projection, &p.y, &p.z),
+        Axis::Y => convex_along(projection, &p.z, &p.x),
+        Axis::Z => convex_along(projection, &p.x, &p.y),
     }
-    if n.y != 0 {
-        return convex_along(Projection { part: n.y, count }, &p.z, &p.x);
-    }
-    convex_along(Projection { part: n.z, count }, &p.x, &p.y)
 }
 
 pub fn patch_proper(p: Patch) -> bool
@@ -56,8 +55,5 @@ pub fn patch_proper(p: Patch) -> bool
     ensures { result ≡ patch_proper (patch_of p) }
 {
     let n = patch_normal(p);
-    if !is_flat(p, n) {
-        return false;
-    }
-    strictly_convex(p, n)
+    is_flat(p, n) && strictly_convex(p, n)
 }

@@ -10,11 +10,8 @@ use Rattle.integer.proofs.Order.{lt_lt_z, le_lt_z}
 use Rattle.geometry.specs.Machine.{NumberIs}
 use Rattle.projection.specs.declared.Point.{Point}
 use Rattle.projection.specs.declared.Projection.{Projection}
-use Rattle.projection.specs.Projected.{wrap, Projected, projected, projected_of, projected_at, ProjectedWithin, ProjectionBounded, turn_part, asked, turns_projected, turns_projected_at, convex_projected}
+use Rattle.projection.specs.Projected.{wrap, Projected, projected_of, projected_at, ProjectedWithin, ProjectionBounded, turn_part, asked, turns_projected, turns_projected_at, convex_projected}
 use Rattle.model.proofs.Loops.{IsEvery, every_entry, every_number}
-
-pub projected_made : {a b c d : ℤ} → a ≡ c → b ≡ d → projected a b ≡ projected c d
-projected_made e f = λ i. projected (e i) (f i)
 
 -- three corners read round turn the same way
 pub turned_projected : (part : ℤ) (a b c : Projected) → turns_projected part a b c ≡ turns_projected part c a b

@@ -3,6 +3,9 @@ use Rattle.std.specs.Prelude.{Bool, cond, List, map, ℕ, ◌+◌, ◌-◌, ◌�
 use Rattle.std.specs.Int.Signed.{lt_z}
 use Rattle.integer.specs.Magnitude.{Within}
 use Rattle.model.specs.Lists.{every, range}
+use Rattle.model.specs.Vector.{Vec, is_zero}
+use Rattle.projection.specs.declared.Axis.{Axis}
+use Rattle.projection.specs.declared.Axis.TheVariants.{X, Y, Z}
 use Rattle.projection.specs.declared.Point.{Point}
 use Rattle.projection.specs.declared.Projection.{Projection}
 
@@ -21,6 +24,22 @@ projected_of p = projected p.u p.v
 -- the corner at a place
 abbrev pub projected_at : List ℤ → List ℤ → ℕ → Projected
 projected_at us vs k = projected (get_or us k (pos 0)) (get_or vs k (pos 0))
+
+-- ---- axes
+-- the part of a vector along the axis, and the two parts across it in the order of the cross product
+abbrev pub along : Axis → Vec → ℤ
+along X v = v.x
+along Y v = v.y
+along Z v = v.z
+
+abbrev pub across : Axis → Vec → Projected
+across X v = projected v.y v.z
+across Y v = projected v.z v.x
+across Z v = projected v.x v.y
+
+-- the first axis that a plane with this normal is not parallel to, and the last one where there is none
+abbrev pub first_axis : Vec → Axis
+first_axis n = cond (is_zero n.x) (cond (is_zero n.y) Z Y) X
 
 -- ---- bounds
 pub record ProjectedWithin (s : Projected) : Type 0 where

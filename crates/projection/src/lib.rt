@@ -3,10 +3,18 @@
 
 ghost use Rattle.std.specs.Prelude.{◌≡◌, ◌+◌, ◌≤◌, ◌<◌, ◌*ℤ◌};
 ghost use Rattle.integer.specs.Magnitude.{Within};
-ghost use Rattle.geometry.specs.Machine.{Bounded, NumberIs};
-ghost use Rattle.projection.specs.Projected.{wrap, projected, projected_of, projected_at, ThreeWithin, ProjectionBounded, turn_part, asked, turns_projected_at, convex_projected};
+ghost use Rattle.geometry.specs.Machine.{vec_of, Bounded, NumberIs};
+ghost use Rattle.projection.specs.Projected.{first_axis, along, across, wrap, projected, projected_of, projected_at, ThreeWithin, ProjectionBounded, turn_part, asked, turns_projected_at, convex_projected};
 
 use geometry::Vector;
+
+// an axis of the scene
+#[derive(Clone, Copy)]
+pub enum Axis {
+    X,
+    Y,
+    Z,
+}
 
 // the part of the patch's normal along the axis, and how many corners it has
 #[derive(Clone, Copy)]
@@ -26,8 +34,8 @@ fn point_of(u: i16, v: i16) -> Point
     ensures { projected_of result ≡ projected u v }
 {
     Point {
-        u: u as i64,
-        v: v as i64,
+        u: i64::from(u),
+        v: i64::from(v),
     }
 }
 
@@ -38,26 +46,41 @@ fn point_at<'a>(u: &'a [i16; 8], v: &'a [i16; 8], k: usize) -> Point
     point_of(u[k], v[k])
 }
 
-// a corner projected along each axis, with its coordinates in the order of the cross product
-pub fn across_x(v: Vector) -> Point
-    requires { Bounded 10000 v }
-    ensures { projected_of result ≡ projected v.y v.z }
+// The first axis that a plane with this normal is not parallel to. A normal without one is 0; its last axis is as good as any.
+pub fn first_axis(normal: Vector) -> Axis
+    requires { Bounded 800000000 normal }
+    ensures { result ≡ first_axis (vec_of normal) }
 {
-    Point { u: v.y, v: v.z }
+    if normal.x != 0 {
+        Axis::X
+    } else if normal.y != 0 {
+        Axis::Y
+    } else {
+        Axis::Z
+    }
 }
 
-pub fn across_y(v: Vector) -> Point
-    requires { Bounded 10000 v }
-    ensures { projected_of result ≡ projected v.z v.x }
+// the part of a vector along the axis
+pub fn along(axis: Axis, v: Vector) -> i64
+    ensures { result ≡ along axis (vec_of v) }
 {
-    Point { u: v.z, v: v.x }
+    match axis {
+        Axis::X => v.x,
+        Axis::Y => v.y,
+        Axis::Z => v.z,
+    }
 }
 
-pub fn across_z(v: Vector) -> Point
+// a corner projected along the axis, with its coordinates in the order of the cross product
+pub fn across(axis: Axis, v: Vector) -> Point
     requires { Bounded 10000 v }
-    ensures { projected_of result ≡ projected v.x v.y }
+    ensures { projected_of result ≡ across axis (vec_of v) }
 {
-    Point { u: v.x, v: v.y }
+    match axis {
+        Axis::X => Point { u: v.y, v: v.z },
+        Axis::Y => Point { u: v.z, v: v.x },
+        Axis::Z => Point { u: v.x, v: v.y },
+    }
 }
 
 // the part of (b − a) × (c − a) along the axis
@@ -94,6 +117,7 @@ fn wrapped(count: usize, place: usize) -> usize
 
 // How many corners after an edge are asked. Of up to 4 the next one is enough: three corners read round turn the same way, so the turn to the
 // last corner is the one that the edge before asks.
+#[tactic(auto, unfolding(crate::specs::Projected::asked))]
 fn asked_corners(count: usize) -> usize
     requires { 3 ≤ count }
     ensures { (result ≡ asked count) × (result + 2 ≤ count) }
@@ -113,13 +137,11 @@ fn turns_at_edge<'a>(projection: Projection, u: &'a [i16; 8], v: &'a [i16; 8], k
     let a = point_at(u, v, k);
     let b = point_at(u, v, wrapped(count, k + 1));
     let others = asked_corners(count);
-    let mut j = 0;
-    while j < others {
+    for j in 0..others {
         let c = point_at(u, v, wrapped(count, k + 2 + j));
         if turn_along(projection, a, b, c) <= 0 {
             return false;
         }
-        j += 1;
     }
     true
 }
@@ -129,13 +151,10 @@ pub fn convex_along<'a>(projection: Projection, u: &'a [i16; 8], v: &'a [i16; 8]
     requires { ProjectionBounded projection u.now v.now }
     ensures { result ≡ convex_projected projection u.now v.now }
 {
-    let count = projection.count;
-    let mut k = 0;
-    while k < count {
+    for k in 0..projection.count {
         if !turns_at_edge(projection, u, v, k) {
             return false;
         }
-        k += 1;
     }
     true
 }

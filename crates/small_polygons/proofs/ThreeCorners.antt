@@ -8,23 +8,25 @@ use lib.IntN.{ℤ}
 use mir.Syntax.{w64}
 use mir.Val.{to_z, of_z}
 use Rattle.integer.specs.Magnitude.{Within}
-use Rattle.model.specs.Patch.{normal, flat, strictly_convex}
+use Rattle.model.specs.Patch.{flat, strictly_convex}
 use Rattle.model.proofs.Loops.{accepted}
 use Rattle.geometry.specs.declared.Vector.{Vector}
 use Rattle.geometry.specs.Machine.{vec_of}
 use Rattle.format.specs.declared.patch.Patch.{Patch}
-use Rattle.format.specs.Patch.{corner_of, patch_of}
+use Rattle.format.specs.Patch.{corner_of}
 use Rattle.model.specs.Bounds.{VecWithin}
-use Rattle.polygons.specs.Bounds.{PatchBounded, WithNormal}
+use Rattle.polygons.specs.Bounds.{PatchBounded, WithNormal, FoundFlat}
 use Rattle.projection.specs.Projected.{projected_of, ProjectedWithin, ThreeWithin, turns_projected, convex_projected, asked}
 use Rattle.small_polygons.specs.Three.{ThreeBounded, ThreeNormal, patch_of_three, convex_three}
 use Rattle.projection.specs.declared.Point.{Point}
 use Rattle.polygons.proofs.Corners.{flat_asked, three_passed}
 use Rattle.projection.proofs.Projected.{turned_projected}
-use Rattle.polygons.proofs.Axes.{Axis, x_axis, y_axis, z_axis, along, across, Shown}
+use Rattle.projection.specs.declared.Axis.{Axis}
+use Rattle.projection.specs.declared.Axis.TheVariants.{X, Y, Z}
+use Rattle.projection.specs.Projected.{first_axis, along, across}
 use Rattle.geometry.proofs.Sizes.{vec_within}
 use Rattle.small_polygons.proofs.FewCorners.{across_within}
-use Rattle.polygons.proofs.Along.{firsts, seconds, projection_bounded, first_table, second_table, convex_as_projected}
+use Rattle.polygons.proofs.Along.{firsts, seconds, found_bounded, found_convex}
 
 -- three equal tests are one
 folded : (t u v : Bool) → u ≡ t → v ≡ t → ((t && true) && ((u && true) && ((v && true) && true))) ≡ t
@@ -66,13 +68,17 @@ module _ {n a b c : Vector} (w : ThreeNormal n a b c) where
   pub tri_normal : WithNormal (tri a b c) n
   tri_normal = record { bounded = tri_bounded w.bounded; normal_is = w.normal_is }
 
-  module _ (axis : Axis) {p q r : Point} (ep : projected_of p ≡ across axis (vec_of a)) (eq : projected_of q ≡ across axis (vec_of b))
-      (er : projected_of r ≡ across axis (vec_of c)) where
-    abbrev part : ℤ
-    part = to_z w64 (of_z w64 (along axis (vec_of n)))
+  found_flat : FoundFlat (tri a b c) n
+  found_flat = record { with_normal = tri_normal; is_flat_lem = three_flat w.bounded }
 
-    pub part_within : Within 800000000 part
-    part_within = (projection_bounded tri_normal axis (first_table axis (tri a b c)) (second_table axis (tri a b c))).part_within
+  module _ {axis : Axis} (at : axis ≡ first_axis (vec_of n)) {part : ℤ} (part_is : part ≡ along axis (vec_of n))
+      {p q r : Point} (ep : projected_of p ≡ across axis (vec_of a)) (eq : projected_of q ≡ across axis (vec_of b))
+      (er : projected_of r ≡ across axis (vec_of c)) where
+    abbrev stored : ℤ
+    stored = to_z w64 (of_z w64 part)
+
+    pub part_within : Within 800000000 stored
+    part_within = (found_bounded found_flat at refl part_is).part_within
 
     pub three_within : ThreeWithin (projected_of p) (projected_of q) (projected_of r)
     three_within =
@@ -83,16 +89,16 @@ module _ {n a b c : Vector} (w : ThreeNormal n a b c) where
         }
 
     tables : (axis : Axis) →
-        convex_projected (record { part = part; count = 3 })
+        convex_projected (record { part = stored; count = 3 })
         ((across axis (vec_of a)).u ∷ (across axis (vec_of b)).u ∷ (across axis (vec_of c)).u ∷ [])
         ((across axis (vec_of a)).v ∷ (across axis (vec_of b)).v ∷ (across axis (vec_of c)).v ∷ [])
-        ≡ convex_projected (record { part = part; count = 3 }) (firsts axis (tri a b c)) (seconds axis (tri a b c))
-    tables x_axis = refl
-    tables y_axis = refl
-    tables z_axis = refl
+        ≡ convex_projected (record { part = stored; count = 3 }) (firsts axis (tri a b c)) (seconds axis (tri a b c))
+    tables X = refl
+    tables Y = refl
+    tables Z = refl
 
-    pub three_convex : Shown axis (normal (patch_of (tri a b c))) → convex_three part p q r ≡ strictly_convex (patch_of_three a b c)
-    three_convex shown =
-        (λ i. convex_projected (record { part = part; count = 3 }) ((ep i).u ∷ (eq i).u ∷ (er i).u ∷ []) ((ep i).v ∷ (eq i).v ∷ (er i).v ∷ []))
+    pub three_convex : convex_three stored p q r ≡ strictly_convex (patch_of_three a b c)
+    three_convex =
+        (λ i. convex_projected (record { part = stored; count = 3 }) ((ep i).u ∷ (eq i).u ∷ (er i).u ∷ []) ((ep i).v ∷ (eq i).v ∷ (er i).v ∷ []))
         ∙ tables axis
-        ∙ convex_as_projected tri_normal axis (three_flat w.bounded) shown
+        ∙ found_convex found_flat at refl part_is

@@ -15,20 +15,20 @@ side-requires c =
     let b = c.requires.bounded in (
       c.requires.normal_is.bounded,
       corner_bounded b (omega (arith, b.three)) c.corner_of-a.ensures,
-      corner_bounded b c.loop-k-test.true c.corner_of.ensures,
+      corner_bounded b (omega arith) c.corner_of.ensures,
     )
 
 pub returns-then-side-ne0 : goal.returns-then-side-ne0
 returns-then-side-ne0 c =
-    refused (flat_asked c.requires.bounded) c.loop-k-test.true
+    refused (flat_asked c.requires.bounded) (omega arith)
     (sym (off_plane_lem c.requires.bounded _ c.requires.normal_is c.corner_of-a.ensures c.corner_of.ensures c.side.ensures c.if-side-ne0.true))
     refl
 
 pub loop-k-preserved : goal.loop-k-preserved
 loop-k-preserved c =
-    one_passed c.loop-k.invariant c.loop-k-test.true
+    one_passed c.loop-k.invariant (omega arith)
     (sym (on_plane c.requires.bounded _ c.requires.normal_is c.corner_of-a.ensures c.corner_of.ensures c.side.ensures c.if-side-ne0.false))
     refl
 
 pub returns : goal.returns
-returns c = accepted (flat_asked c.requires.bounded) c.loop-k.invariant c.loop-k-test.false
+returns c = accepted (flat_asked c.requires.bounded) c.loop-k.invariant (omega arith)

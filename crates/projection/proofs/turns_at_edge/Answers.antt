@@ -50,18 +50,18 @@ turn_along-requires c = (
 
 pub returns-then-turn_along-le0 : goal.returns-then-turn_along-le0
 returns-then-turn_along-le0 c =
-    refused (turns_projected_asked c.requires.0 c.requires.1) (omega (arith, c.loop-j-test.true, c.asked_corners-others.ensures.0))
+    refused (turns_projected_asked c.requires.0 c.requires.1) (omega (arith, c.asked_corners-others.ensures.0))
     (sym (turns_away c.requires.0 c.requires.1 _ c.point_at-a.ensures
     c.wrapped.ensures.0 c.point_at-b.ensures c.wrapped-in-loop-j.ensures.0 c.point_at-c.ensures
     c.turn_along.ensures (search (comparisons, <→≤)))) refl
 
 pub loop-j-preserved : goal.loop-j-preserved
 loop-j-preserved c =
-    one_passed c.loop-j.invariant (omega (arith, c.loop-j-test.true, c.asked_corners-others.ensures.0))
+    one_passed c.loop-j.invariant (omega (arith, c.asked_corners-others.ensures.0))
     (sym (turns_in c.requires.0 c.requires.1 _ c.point_at-a.ensures
     c.wrapped.ensures.0 c.point_at-b.ensures c.wrapped-in-loop-j.ensures.0 c.point_at-c.ensures
     c.turn_along.ensures (search comparisons))) refl
 
 pub returns : goal.returns
 returns c =
-    accepted (turns_projected_asked c.requires.0 c.requires.1) c.loop-j.invariant (omega (arith, c.loop-j-test.false, c.asked_corners-others.ensures.0))
+    accepted (turns_projected_asked c.requires.0 c.requires.1) c.loop-j.invariant (omega (arith, c.asked_corners-others.ensures.0))

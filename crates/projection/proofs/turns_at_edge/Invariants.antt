@@ -1,4 +1,3 @@
-use Prim.Native.Nat.{◌-◌}
 use Rattle.projection.specs.Projected.{asked}
 use Rattle.model.proofs.Loops.{Passed}
 use Rattle.projection.proofs.Projected.{turn_projected_at}
@@ -6,6 +5,3 @@ use Rattle.projection.proofs.turns_at_edge.Given as goal
 
 abbrev pub invariant-loop-j : goal.invariant-loop-j
 invariant-loop-j l = Passed (asked l.projection.count) (turn_projected_at l.projection l.u l.v l.k) l.j
-
-abbrev pub decreases-loop-j : goal.decreases-loop-j
-decreases-loop-j l = l.others - l.j
