@@ -1,22 +1,22 @@
 -- The call's answer: the scene's, and then the questions on the call, by the general law of the first no.
 use mathlib.Core.Path.{◌≡◌, sym, ◌∙◌, ap}
-use mathlib.Core.Bool.{Bool, false, not}
+use mathlib.Core.Bool.{Bool, true, false}
 use mathlib.Core.List.{List}
 use Prim.Native.Nat.{ℕ}
 use lib.ListN.{length}
+use Rattle.std.specs.Prelude.{None, Some}
 use Rattle.model.specs.Vector.{Vec}
 use Rattle.model.specs.View.{Camera}
 use Rattle.model.specs.Station.{Station, view_at}
 use Rattle.model.specs.Lent.{Lengths}
 use Rattle.model.specs.Format.{decode}
 use Rattle.model.specs.Call.{Call}
-use Rattle.model.specs.Questions.{scene_answer, view_in_range, lengths_fit, call_questions, survey_answer}
+use Rattle.model.specs.Questions.{scene_answer, view_in_range, station_in_range, lengths_fit, call_questions, survey_answer}
 use Rattle.model.proofs.Answers.{scene_first, call_next}
-use Rattle.model.proofs.Tests.{is_true}
-use Rattle.model.proofs.FirstNo.{said_yes, RefusedAt, refused_at, AllYes, no_no}
+use Rattle.model.proofs.FirstNo.{RefusedAt, refused_at, AllYes, no_no}
 use Rattle.camera.specs.declared.Camera.{Camera as MachineCamera}
 use Rattle.camera.specs.Machine.{camera_of, view_of}
-use Rattle.station.specs.declared.Located.{Located}
+use Rattle.geometry.specs.declared.Vector.{Vector}
 use Rattle.station.specs.Machine.{LocatedAt}
 use Rattle.format.specs.declared.layout.Layout.{Layout}
 use Rattle.format.specs.Layout.{LaidOut}
@@ -38,17 +38,21 @@ module _ (c : Call) (scene : scene_answer c.scene ≡ 0) where
 pub scene_yes : (bytes : List ℕ) {n : ℕ} → n ≡ scene_answer bytes → n ≡ 0 → scene_answer bytes ≡ 0
 scene_yes bytes e z = sym e ∙ z
 
+-- question 15
+pub nowhere_said : {s : Station} → LocatedAt s None → station_in_range s ≡ false
+nowhere_said located = sym located.ranged
+
+pub somewhere_said : {s : Station} {e : Vector} → LocatedAt s (Some e) → station_in_range s ≡ true
+somewhere_said located = sym located.ranged
+
 -- question 10, asked of the eye that the station was found to have
 pub view_said :
-    (c : MachineCamera) {s : Station} {l : Located} {r : Bool} →
-    LocatedAt s l →
-    not l.in_range ≡ false →
-    r ≡ view_in_range (view_of l.eye c) →
+    (c : MachineCamera) {s : Station} {e : Vector} {r : Bool} →
+    LocatedAt s (Some e) →
+    r ≡ view_in_range (view_of e c) →
     r ≡ view_in_range (view_at s (camera_of c))
-view_said c located said e =
-    e
-    ∙ ap (λ (v : Vec). view_in_range (record { eye = v; camera = camera_of c }))
-    (located.eye_is (is_true (said_yes located.ranged said)))
+view_said c located e =
+    e ∙ ap (λ (v : Vec). view_in_range (record { eye = v; camera = camera_of c })) located.eye_is
 
 -- question 11, asked of the patches that the layout has
 pub lengths_said :
@@ -58,4 +62,4 @@ pub lengths_said :
     r ≡ lengths_fit a (length (decode bytes).patches) k
 lengths_said a k laid e = e ∙ ap (λ (n : ℕ). lengths_fit a n k) (sym (patch_count laid))
 
-pub ruleset asked = (scene_yes, view_said, lengths_said)
+pub ruleset asked = (scene_yes, nowhere_said, somewhere_said, view_said, lengths_said)

@@ -31,11 +31,10 @@ pub fn survey_answer(
     if answer != 0 {
         return answer;
     }
-    let located = locate(station);
-    if !located.in_range {
+    let Some(eye) = locate(station) else {
         return 15;
-    }
-    if !view_in_range(located.eye, camera) {
+    };
+    if !view_in_range(eye, camera) {
         return 10;
     }
     if !axes_proper(camera.axes) {

@@ -39,11 +39,5 @@ pub fn dot(ax: i64, ay: i64, az: i64, bx: i64, by: i64, bz: i64) -> i64
 pub fn sign(x: i64) -> i64
     ensures { result ≡ sign_of x }
 {
-    if x < 0 {
-        return -1;
-    }
-    if 0 < x {
-        return 1;
-    }
-    0
+    x.signum()
 }

@@ -1,3 +1,2 @@
 -- Questions on the call, answered test by test.
-mod CallTests
 mod Axes

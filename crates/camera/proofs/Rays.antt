@@ -6,11 +6,11 @@ use Prim.Native.Nat.{ℕ, zero, suc, ◌+◌, ◌*◌, ◌-◌, ◌≤◌, ◌<�
 use native.Mathlib.Omega.{arith}
 use lib.Dec.{ltb, ltb→lt}
 use lib.IntN.{ℤ, pos, negsuc, nat_abs, neg_ℤ, ◌+ℤ◌, ◌-ℤ◌, ◌*ℤ◌}
-use mir.Syntax.{w16, w64}
-use mir.Val.{Fits, SFits, to_z, of_z}
+use mir.Syntax.{w64}
+use mir.Val.{SFits, to_z, of_z}
 use Rattle.integer.specs.Magnitude.{Within}
 use Rattle.integer.proofs.Identity.{ring, reify}
-use Rattle.integer.proofs.Machine.{machine, casts, exact, no_overflow}
+use Rattle.integer.proofs.Machine.{machine, no_overflow}
 use Rattle.integer.proofs.Magnitude.{within_more}
 use Rattle.model.proofs.Tests.{is_true}
 use Rattle.model.specs.Vector.{Vec, vec, plus, times}
@@ -62,24 +62,13 @@ direction_by_steps c i j =
 -- ---- the raster that is made of a machine camera
 
 -- a cell lies no farther from the middle than the last one
-middle_within : (n all : ℕ) → n < all → Within (all - 1) (from_middle n all)
+pub middle_within : (n all : ℕ) → n < all → Within (all - 1) (from_middle n all)
 middle_within n zero h = absurd (omega arith)
 middle_within n (suc b) h = record { within = go (ltb (2 * n + 1) (suc b)) refl }
   where
     go : (t : Bool) → ltb (2 * n + 1) (suc b) ≡ t → nat_abs (cond t (negsuc (suc b - suc (2 * n + 1))) (pos ((2 * n + 1) - suc b))) ≤ suc b - 1
     go true e = let l : 2 * n + 1 < suc b = ltb→lt (2 * n + 1) (suc b) (is_true e) in omega arith
     go false e = omega arith
-
--- the same as the machine has it
-pub middle_made :
-    {n all : ℕ} → Fits w16 n → Fits w16 all → n < all →
-    NumberIs (all - 1) (from_middle n all) (to_z w64 (of_z w64 (to_z w64 (of_z w64 (to_z w64 (of_z w64 (pos 2 *ℤ to_z w64 n)) +ℤ pos 1)) -ℤ to_z w64 all)))
-middle_made {n} {all} f g h =
-    record { value = same; bounded = subst (Within (all - 1)) (sym same) (middle_within n all h) }
-  where
-    same :
-        to_z w64 (of_z w64 (to_z w64 (of_z w64 (to_z w64 (of_z w64 (pos 2 *ℤ to_z w64 n)) +ℤ pos 1)) -ℤ to_z w64 all)) ≡ from_middle n all
-    same = exact w64 (search (machine, casts) depth 40 fits 20000, tt, refl)
 
 -- the first cell's numbers as the machine has them
 pub first_column : {n : ℕ} {z r : ℤ} → n ≤ 1024 → NumberIs (n - 1) z r → NumberIs 1023 z (to_z w64 (of_z w64 r))
@@ -100,8 +89,11 @@ first_row {z = z} {r} h is = go (within_more is.bounded (omega arith))
     go : Within 511 r → NumberIs 511 (neg_ℤ z) (to_z w64 (of_z w64 (pos 0 -ℤ to_z w64 (of_z w64 r))))
     go b = number (search machine depth 40 fits 20000, tt, tt, ap neg_ℤ is.value)
 
-pub straight_on : {n : ℕ} → Within 4096 (pos n) → NumberIs 4096 (pos n) (to_z w64 n)
-straight_on h = number (search (machine, casts) depth 40 fits 20000, tt, tt, refl)
+pub straight_on : {n : ℕ} {r : ℤ} → Within 4096 (pos n) → r ≡ pos n → NumberIs 4096 (pos n) (to_z w64 (of_z w64 r))
+straight_on {n} {r} h e = go (subst (Within 4096) (sym e) h)
+  where
+    go : Within 4096 r → NumberIs 4096 (pos n) (to_z w64 (of_z w64 r))
+    go b = number (search machine depth 40 fits 20000, tt, tt, e)
 
 module _ (c : Camera) {a b d : ℤ} (p : a ≡ from_middle c.tile.left c.width) (q : b ≡ pos c.lens) (s : d ≡ neg_ℤ (from_middle c.tile.top c.height)) where
   -- the first direction by these numbers
@@ -112,9 +104,9 @@ module _ (c : Camera) {a b d : ℤ} (p : a ≡ from_middle c.tile.left c.width) 
   first_meant = λ t. plus (plus (times (p t) (vec_of c.axes.right)) (times (q t) (vec_of c.axes.forward))) (times (s t) (vec_of c.axes.up))
 
   pub rays_made :
-      {o x y : Vector} → VectorIs 563000 first_made o → VectorIs 200 (to_next_column (camera_of c)) x → VectorIs 200 (to_next_row (camera_of c)) y →
-      RaysOf (camera_of c) (record { origin = o; across = x; down = y; width = c.tile.width; height = c.tile.height })
-  rays_made e f g =
+      {o x y : Vector} {m n : ℕ} → VectorIs 563000 first_made o → VectorIs 200 (to_next_column (camera_of c)) x → VectorIs 200 (to_next_row (camera_of c)) y →
+      m ≡ c.tile.width → n ≡ c.tile.height → RaysOf (camera_of c) (record { origin = o; across = x; down = y; width = m; height = n })
+  rays_made e f g wide high =
       record {
         rays = λ i j.
             (λ t. plus (plus ((e.value ∙ first_meant) t) (times (pos i) (f.value t))) (times (pos j) (g.value t)))
@@ -122,8 +114,8 @@ module _ (c : Camera) {a b d : ℤ} (p : a ≡ from_middle c.tile.left c.width) 
         to_next_column_lem = f.value;
         to_next_row_lem = g.value;
         bounded = record { origin_bounded = e.bounded; across_bounded = f.bounded; down_bounded = g.bounded };
-        columns = refl;
-        rows = refl;
+        columns = wide;
+        rows = high;
       }
 
 -- ---- the lines just beside the rays

@@ -66,7 +66,7 @@ fn from_middle(n: u16, all: u16) -> i64
     requires { n < all }
     ensures { NumberIs (all - 1) (from_middle n all) result }
 {
-    2 * (n as i64) + 1 - (all as i64)
+    2 * i64::from(n) + 1 - i64::from(all)
 }
 
 // The first direction is that of the tile's top left cell. From column to column it changes by two times right, from row to row by minus two times up.
@@ -80,14 +80,14 @@ pub fn camera_raster(camera: Camera) -> Raster
         origin: combined(
             from_middle(tile.left, camera.width),
             axes.right,
-            camera.lens as i64,
+            i64::from(camera.lens),
             axes.forward,
-            0 - from_middle(tile.top, camera.height),
+            -from_middle(tile.top, camera.height),
             axes.up,
         ),
         across: scaled(2, axes.right),
         down: scaled(-2, axes.up),
-        width: tile.width as usize,
-        height: tile.height as usize,
+        width: usize::from(tile.width),
+        height: usize::from(tile.height),
     }
 }

@@ -13,20 +13,14 @@ use mir.Val.{SFits, to_z, of_z}
 use mir.ValLaws.{to_z-of_z}
 use Rattle.integer.specs.Magnitude.{Within}
 use Rattle.integer.proofs.Identity.{ring, reify}
-use Rattle.integer.proofs.Magnitude.{within_literal, within_stored}
-use Rattle.integer.proofs.Order.{lt_lt_z, le_lt_z, <_by, <→≤, ≡→≤, ≤_suc, <_suc, +_mono-≤, Compared, below, same, above, compared}
+use Rattle.integer.proofs.Magnitude.{within_stored}
+use Rattle.integer.proofs.Order.{<_by, <→≤, ≡→≤, ≤_suc, <_suc, +_mono-≤, Compared, below, same, above, compared}
 use Rattle.model.specs.Vector.{is_zero}
 use Rattle.model.proofs.Steep.{Steep, FirstAbove, weighted, weighted_says}
 use Rattle.geometry.specs.Machine.{NumberIs}
 use Rattle.geometry.specs.Raster.{one_above, counts_in}
 
--- ---- what the code tells by its comparisons
-
-pub is_above : (n : ℤ) → pos 0 <ℤ n → NumberIs 1 (one_above n) (pos 1)
-is_above n h = record { value = ap (λ (b : Bool). cond b (pos 1) (pos 0)) (sym (lt_lt_z h)); bounded = within_literal tt }
-
-pub not_above_lem : (n : ℤ) → n ≤ℤ pos 0 → NumberIs 1 (one_above n) (pos 0)
-not_above_lem n h = record { value = ap (λ (b : Bool). cond b (pos 1) (pos 0)) (sym (le_lt_z h)); bounded = within_literal tt }
+-- ---- what is returned of the first of two numbers that is not 0, where both passed through words
 
 module _ (slope drop : ℤ) {r : ℤ} where
   -- what is returned of a number, both passed through words, where the number is the first of the two that is not 0

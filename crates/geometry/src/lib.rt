@@ -36,24 +36,14 @@ pub struct EdgeFunction {
 fn up_to(n: u16, z: i64) -> bool
     ensures { result ≡ up_to n z }
 {
-    let most = n as i64;
-    if z < 0 - most {
-        return false;
-    }
-    z <= most
+    z.unsigned_abs() <= u64::from(n)
 }
 
 // a vector with each part from −n to n
 pub fn parts_up_to(n: u16, v: Vector) -> bool
     ensures { result ≡ parts_up_to n (vec_of v) }
 {
-    if !up_to(n, v.x) {
-        return false;
-    }
-    if !up_to(n, v.y) {
-        return false;
-    }
-    up_to(n, v.z)
+    up_to(n, v.x) && up_to(n, v.y) && up_to(n, v.z)
 }
 
 // b − a
@@ -132,20 +122,14 @@ pub fn edge_vector(eye: Vector, v: Vector, w: Vector) -> Vector
 fn one_above(n: i64) -> i64
     ensures { NumberIs 1 (one_above n) result }
 {
-    if 0 < n {
-        return 1;
-    }
-    0
+    i64::from(0 < n)
 }
 
 // 1 for an edge that counts in: its number grows from column to column or, the same in all columns, from row to row
 fn counts_in(slope: i64, drop: i64) -> i64
     ensures { NumberIs 1 (counts_in slope drop) result }
 {
-    if slope == 0 {
-        return one_above(drop);
-    }
-    one_above(slope)
+    one_above(if slope == 0 { drop } else { slope })
 }
 
 // The products of a raster's rays with an edge vector, one more where the edge counts in. All are whole numbers: where the product is 0, one more is above 0, and

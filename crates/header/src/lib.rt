@@ -30,6 +30,7 @@ pub struct Header {
     pub corners: Section,
 }
 
+#[tactic(auto, unfolding(model::specs::Format::section_at))]
 fn section_at(bytes: &[u8], at: usize) -> Section
     requires { at + 8 ≤ length bytes.now }
     ensures { SectionIs (section_at bytes.now at) result }
@@ -40,6 +41,7 @@ fn section_at(bytes: &[u8], at: usize) -> Section
     }
 }
 
+#[tactic(auto, unfolding(model::specs::Format::header_of))]
 pub fn read_header(bytes: &[u8]) -> Header
     requires { 32 ≤ length bytes.now }
     ensures { HeaderIs (header_of bytes.now) result }
@@ -55,62 +57,47 @@ pub fn read_header(bytes: &[u8]) -> Header
 }
 
 // question 1
+#[tactic(auto, unfolding(model::specs::Questions::has_header))]
 pub fn has_header(bytes: &[u8]) -> bool
     ensures { result ≡ has_header bytes.now }
 {
     let n = bytes.len();
-    if n < HEADER_SIZE {
-        return false;
-    }
-    if LONGEST_SCENE < n {
+    if !(HEADER_SIZE..=LONGEST_SCENE).contains(&n) {
         return false;
     }
     let h = read_header(bytes);
-    if h.version != VERSION {
-        return false;
-    }
-    if h.reserved != 0 {
-        return false;
-    }
-    h.whole == n
+    h.version == VERSION && h.reserved == 0 && h.whole == n
 }
 
 // the section begins at a place and holds whole records, not more than a limit
+#[tactic(auto, unfolding(model::specs::Questions::is_section))]
 fn is_section(s: Section, start: usize, step: usize, most: usize) -> bool
     requires { 0 < step }
     ensures { result ≡ is_section start step most (section_of s) }
 {
-    if s.offset != start {
-        return false;
-    }
-    if s.size % step != 0 {
-        return false;
-    }
-    s.size / step <= most
+    s.offset == start && s.size % step == 0 && s.size / step <= most
 }
 
 // question 2
+#[tactic(auto, unfolding(model::specs::Questions::has_sections))]
 pub fn has_sections(bytes: &[u8]) -> bool
     requires { 32 ≤ length bytes.now }
     ensures { result ≡ has_sections bytes.now }
 {
-    let h = read_header(bytes);
-    let nodes = h.nodes;
-    let patches = h.patches;
-    let corners = h.corners;
-    if !is_section(nodes, HEADER_SIZE, NODE_SIZE, MOST_NODES) {
-        return false;
-    }
-    if !is_section(patches, nodes.offset + nodes.size, PATCH_SIZE, MOST_PATCHES) {
-        return false;
-    }
-    if !is_section(
+    let Header {
+        nodes,
+        patches,
         corners,
-        patches.offset + patches.size,
-        CORNER_SIZE,
-        MOST_CORNERS,
-    ) {
-        return false;
-    }
-    corners.offset + corners.size == h.whole
+        whole,
+        ..
+    } = read_header(bytes);
+    is_section(nodes, HEADER_SIZE, NODE_SIZE, MOST_NODES)
+        && is_section(patches, nodes.offset + nodes.size, PATCH_SIZE, MOST_PATCHES)
+        && is_section(
+            corners,
+            patches.offset + patches.size,
+            CORNER_SIZE,
+            MOST_CORNERS,
+        )
+        && corners.offset + corners.size == whole
 }

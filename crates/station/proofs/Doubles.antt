@@ -1,16 +1,16 @@
 -- A double by its bits, and what they tell of its whole number.
 use mathlib.Core.Path.{◌≡◌, refl, sym, ap, ◌∙◌, subst}
 use mathlib.Core.Logic.{◌⊎◌, inl, inr}
-use mathlib.Core.Bool.{Bool, true, false, cond, not}
+use mathlib.Core.Bool.{Bool, true, false, cond}
 use mathlib.Core.Option.{Option, none, some}
+use Rattle.std.specs.Prelude.{None, Some}
 use Prim.Native.Nat.{ℕ, zero, suc, ◌/◌, ◌%◌, ◌^◌, ◌≤◌, ◌<◌}
 use native.Mathlib.Omega.{arith}
 use lib.Dec.{T, leb, ltb, eqb, lit<}
 use lib.IntN.{ℤ, pos, neg_ℤ, nat_abs, ◌-ℤ◌, +ℤ_idl}
 use lib.Pow.{mod-mod-pow}
-use lib.Ieee.{Float, nan, inf, fin, binary64, of_fields, of_bits, to_bits, fits, is_nan, ne}
+use lib.Ieee.{Float, nan, inf, fin, binary64, of_fields, of_bits, to_bits, fits, is_nan}
 use lib.Ieee.Bits.{of_bits-to_bits}
-use lib.Ieee.Compare.{differs_from_itself, nan_differs}
 use mir.Syntax.{w64}
 use mir.Val.{SFits, to_z, of_z}
 use mir.Facts.{to_z_pos, to_z-of_z}
@@ -18,23 +18,18 @@ use borrow.Author.Tests.{le-leb, lt-leb, ltb-true, ltb-false}
 use Rattle.model.specs.Station.{signed, whole_units, or_zero}
 use Rattle.model.specs.Questions.{whole_in_range}
 use Rattle.station.specs.Bits.{size_units, SizeIs}
-use Rattle.station.specs.declared.Whole.{Whole}
 use Rattle.station.specs.Machine.{WholeIs}
 use Rattle.station.proofs.Fields.{units_by_fields}
 
-pub no_nan : (x : Float) → ne x x ≡ false → T (not (is_nan x))
-unfolding is_nan
-no_nan nan e = subst T (sym nan_differs ∙ e) tt
-no_nan (inf s) e = tt
-no_nan (fin s m k) e = tt
-
 -- a double without a whole number in range
-pub refused : {n : Option ℤ} {r : Whole} → false ≡ whole_in_range n → r.in_range ≡ false → WholeIs n r
-refused e f = record { ranged = f ∙ e; number_is = λ t. absurd (subst T (sym e) t) }
+pub refused : {n : Option ℤ} → false ≡ whole_in_range n → WholeIs n None
+refused e = record { ranged = e; number_is = tt }
 
-pub nan_out : (x : Float) → ne x x ≡ true → false ≡ whole_in_range (whole_units x)
-unfolding whole_units
-nan_out x e = rw (differs_from_itself x (subst T (sym e) tt))
+pub nan_out : (x : Float) → is_nan x ≡ true → false ≡ whole_in_range (whole_units x)
+unfolding whole_units is_nan
+nan_out nan e = refl
+nan_out (inf s) e = absurd (subst T (sym e) tt)
+nan_out (fin s m k) e = absurd (subst T (sym e) tt)
 
 size_signed : (s : Bool) (n : ℕ) → nat_abs (signed s n) ≡ n
 size_signed true zero = refl
@@ -94,10 +89,10 @@ module _ (x : Float) (held : T (fits binary64 x)) where
 
     -- a size in range, with the sign that the bits have
     pub within_is :
-        (s : Bool) {n : ℤ} → sign ≡ s → r ≤ 10000 → n ≡ signed s r → WholeIs (whole_units x) (record { in_range = true; number = n })
+        (s : Bool) {n : ℤ} → sign ≡ s → r ≤ 10000 → n ≡ signed s r → WholeIs (whole_units x) (Some n)
     within_is s {n} e h m =
         let u : whole_units x ≡ some (signed s r) = finite_units (size.finite h) ∙ rw (← size.exact h, e) in
-        record { ranged = small_in s r h ∙ ap whole_in_range (sym u); number_is = λ t. m ∙ ap or_zero (sym u) }
+        record { ranged = small_in s r h ∙ ap whole_in_range (sym u); number_is = m ∙ ap or_zero (sym u) }
 
 -- ---- the size in a word, and its opposite
 module _ (n : ℕ) (h : n ≤ 10000) where
@@ -111,7 +106,7 @@ module _ (n : ℕ) (h : n ≤ 10000) where
   opposite_fits zero l = record { sfits = lit< tt }
   opposite_fits (suc k) l = record { sfits = omega arith }
 
-  pub word_opposite_fits : SFits w64 (pos 0 -ℤ to_z w64 n)
+  word_opposite_fits : SFits w64 (pos 0 -ℤ to_z w64 n)
   word_opposite_fits = subst (SFits w64) (sym (ap (λ (z : ℤ). pos 0 -ℤ z) word_is ∙ opposite n)) (opposite_fits n h)
 
   pub word_opposite : to_z w64 (of_z w64 (pos 0 -ℤ to_z w64 n)) ≡ neg_ℤ (pos n)

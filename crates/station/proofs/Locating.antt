@@ -3,33 +3,41 @@ use mathlib.Core.Path.{◌≡◌, ◌∙◌}
 use mathlib.Core.Bool.{true, ◌&&◌}
 use lib.IntN.{ℤ}
 use lib.Ieee.{Float}
+use Rattle.std.specs.Prelude.{None, Some}
 use Rattle.model.specs.Vector.{Vec, vec}
 use Rattle.model.specs.Station.{units, metres, whole_units}
 use Rattle.model.specs.Questions.{whole_in_range, station_in_range}
-use Rattle.model.proofs.Tests.{both}
 use Rattle.geometry.specs.declared.Vector.{Vector}
 use Rattle.geometry.specs.Machine.{vec_of}
-use Rattle.station.specs.declared.Whole.{Whole}
 use Rattle.station.specs.Machine.{WholeIs, LocatedAt}
 
-pub at_units : {eye : Vec} {e : Vector} → vec_of e ≡ eye → LocatedAt (units eye) (record { in_range = true; eye = e })
+pub at_units : {eye : Vec} {e : Vector} → vec_of e ≡ eye → LocatedAt (units eye) (Some e)
 unfolding station_in_range
-at_units h = record { ranged = λ i. true; eye_is = λ t. h }
+at_units h = record { ranged = λ i. true; eye_is = h }
 
--- the doubles' whole numbers, and the numbers p, q and r that were stored for them
-pub at_metres :
-    {x y z : Float} {a b c : Whole} {p q r : ℤ} →
-    WholeIs (whole_units x) a → WholeIs (whole_units y) b → WholeIs (whole_units z) c →
-    p ≡ a.number → q ≡ b.number → r ≡ c.number →
-    LocatedAt (metres x y z)
-    (record { in_range = a.in_range && b.in_range && c.in_range; eye = record { x = p; y = q; z = r } })
-unfolding station_in_range
-at_metres {x} {y} {z} h k l e f g =
-    record {
-      ranged = λ i. h.ranged i && k.ranged i && l.ranged i;
-      eye_is =
-          λ t.
-          let m = (both (whole_in_range (whole_units x) && whole_in_range (whole_units y)) (whole_in_range (whole_units z))).0 t in
-          let n = (both (whole_in_range (whole_units x)) (whole_in_range (whole_units y))).0 m.0 in
-          λ i. vec ((e ∙ h.number_is n.0) i) ((f ∙ k.number_is n.1) i) ((g ∙ l.number_is m.1) i);
-    }
+-- a double out of range leaves the station without an eye
+module _ {x y z : Float} where
+  pub first_out : WholeIs (whole_units x) None → LocatedAt (metres x y z) None
+  unfolding station_in_range
+  first_out h = record { ranged = λ i. h.ranged i && whole_in_range (whole_units y) && whole_in_range (whole_units z); eye_is = tt }
+
+  pub second_out : {a : ℤ} → WholeIs (whole_units x) (Some a) → WholeIs (whole_units y) None → LocatedAt (metres x y z) None
+  unfolding station_in_range
+  second_out h k = record { ranged = λ i. h.ranged i && k.ranged i && whole_in_range (whole_units z); eye_is = tt }
+
+  pub third_out : {a b : ℤ} → WholeIs (whole_units x) (Some a) → WholeIs (whole_units y) (Some b) → WholeIs (whole_units z) None → LocatedAt (metres x y z) None
+  unfolding station_in_range
+  third_out h k l = record { ranged = λ i. h.ranged i && k.ranged i && l.ranged i; eye_is = tt }
+
+  -- the doubles' whole numbers, and the numbers p, q and r that were stored for them
+  pub at_metres :
+      {a b c p q r : ℤ} →
+      WholeIs (whole_units x) (Some a) → WholeIs (whole_units y) (Some b) → WholeIs (whole_units z) (Some c) →
+      p ≡ a → q ≡ b → r ≡ c →
+      LocatedAt (metres x y z) (Some (record { x = p; y = q; z = r }))
+  unfolding station_in_range
+  at_metres h k l e f g =
+      record {
+        ranged = λ i. h.ranged i && k.ranged i && l.ranged i;
+        eye_is = λ i. vec ((e ∙ h.number_is) i) ((f ∙ k.number_is) i) ((g ∙ l.number_is) i);
+      }

@@ -24,19 +24,14 @@ pub enum Station {
     Metres(Metres),
 }
 
-// A double's whole number of units; any number where there is none in range.
-#[derive(Clone, Copy)]
-struct Whole {
-    in_range: bool,
-    number: i64,
-}
+// the bit of a double's sign
+const SIGN: u64 = 9223372036854775808;
 
-// What a station stands for: its eye; any eye where a double of it is not finite or out of range.
-#[derive(Clone, Copy)]
-pub struct Located {
-    pub in_range: bool,
-    pub eye: Vector,
-}
+// the bit of its digits that is not among its bits
+const LEADING: u64 = 4503599627370496;
+
+// units that are in range
+const MOST: u64 = 10000;
 
 // p / 2 ^ shift to the nearest whole number, halfway to the even one
 fn rounded(p: u64, shift: u64) -> u64
@@ -61,73 +56,50 @@ fn size_of(bits: u64) -> u64
     requires { bits < 2 ^ 63 }
     ensures { SizeIs bits result }
 {
-    let exponent = bits / 4503599627370496;
+    let exponent = bits / LEADING;
     if 1029 <= exponent {
         return 10001;
     }
     if exponent < 1014 {
         return 0;
     }
-    let digits = bits % 4503599627370496 + 4503599627370496;
+    let digits = bits % LEADING + LEADING;
     rounded(200 * digits, 1075 - exponent)
 }
 
-// By the bits alone, since a product of doubles would be rounded before it is rounded. A NaN has no bits that can be told, so it is asked for first.
-fn whole_units(x: f64) -> Whole
+// A double's whole number of units, where it has one in range. By the bits alone, since a product of doubles would be rounded before it is rounded. A NaN has no bits that
+// can be told, so it is asked for first.
+fn whole_units(x: f64) -> Option<i64>
     ensures { WholeIs (whole_units x) result }
 {
-    if x != x {
-        return Whole {
-            in_range: false,
-            number: 0,
-        };
+    if x.is_nan() {
+        return None;
     }
-    let bits = f64::to_bits(x);
-    let size = size_of(bits % 9223372036854775808);
-    if 10000 < size {
-        return Whole {
-            in_range: false,
-            number: 0,
-        };
+    let bits = x.to_bits();
+    let size = size_of(bits % SIGN);
+    if MOST < size {
+        return None;
     }
     let n = size as i64;
-    if 9223372036854775808 <= bits {
-        return Whole {
-            in_range: true,
-            number: 0 - n,
-        };
-    }
-    Whole {
-        in_range: true,
-        number: n,
-    }
+    if SIGN <= bits { Some(-n) } else { Some(n) }
 }
 
-fn located_in_metres(m: Metres) -> Located
+fn located_in_metres(m: Metres) -> Option<Vector>
     ensures { LocatedAt (metres m.x m.y m.z) result }
 {
-    let x = whole_units(m.x);
-    let y = whole_units(m.y);
-    let z = whole_units(m.z);
-    Located {
-        in_range: x.in_range & y.in_range & z.in_range,
-        eye: Vector {
-            x: x.number,
-            y: y.number,
-            z: z.number,
-        },
-    }
+    Some(Vector {
+        x: whole_units(m.x)?,
+        y: whole_units(m.y)?,
+        z: whole_units(m.z)?,
+    })
 }
 
-// question 15, and the eye
-pub fn locate(station: Station) -> Located
+// Question 15, and the eye: none where a double of the station is not finite or out of range.
+pub fn locate(station: Station) -> Option<Vector>
     ensures { LocatedAt (station_of station) result }
 {
     match station {
-        Station::Units(x, y, z) => Located {
-            in_range: true,
-            eye: vector(x, y, z),
-        },
+        Station::Units(x, y, z) => Some(vector(x, y, z)),
         Station::Metres(m) => located_in_metres(m),
     }
 }

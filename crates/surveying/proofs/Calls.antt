@@ -5,6 +5,7 @@ use Prim.Native.Nat.{ℕ, ◌<◌}
 use native.Mathlib.Omega.{arith}
 use lib.Dec.{T, ltb→lt}
 use lib.ListN.{length}
+use Rattle.std.specs.Prelude.{None, Some}
 use Rattle.model.specs.Vector.{Vec}
 use Rattle.model.specs.View.{View}
 use Rattle.model.specs.Station.{Station, eye_of, view_at}
@@ -16,11 +17,11 @@ use Rattle.model.specs.Questions.{point_in_range, tile_in_window, counter_below_
 use Rattle.model.specs.Survey.{call_picture, call_counts, call_patch_cells, call_unlit, call_lit, call_counter}
 use Rattle.model.proofs.Answers.{AcceptedCall, accepted_call}
 use Rattle.model.proofs.CallLimits.{ViewBounded, view_bounded, AxesBounded, axes_bounded, LengthsRight, lengths_right}
+use Rattle.geometry.specs.declared.Vector.{Vector}
 use Rattle.geometry.specs.Machine.{vec_of}
 use Rattle.geometry.proofs.Sizes.{parts_bounded}
 use Rattle.camera.specs.declared.Camera.{Camera}
 use Rattle.camera.specs.Machine.{camera_of, view_of}
-use Rattle.station.specs.declared.Located.{Located}
 use Rattle.station.specs.Machine.{LocatedAt}
 use Rattle.contract.specs.Contract.{lent_of, call_on, results, left_by, Surveyed}
 use Rattle.contract.proofs.Refusal.{left_old}
@@ -58,17 +59,21 @@ module _
       fitting : LengthsRight v.camera (length (decode bytes).patches) (lengths_of before)
       fitting = lengths_right v.camera (length (decode bytes).patches) (lengths_of before) yes.lengths
 
-      module _ {l : Located} (located : LocatedAt s l) where
+      -- the station has an eye
+      pub somewhere : LocatedAt s None → ⊥
+      somewhere located = subst T (sym located.ranged) yes.station
+
+      module _ {eye : Vector} (located : LocatedAt s (Some eye)) where
         -- the eye that painting sees from is the station's
-        same_eye : vec_of l.eye ≡ eye_of s
-        same_eye = located.eye_is yes.station
+        same_eye : vec_of eye ≡ eye_of s
+        same_eye = located.eye_is
 
         -- what painting asks
-        pub paintable : PaintingAsked bytes l.eye camera before.picture before.unlit before.lit before.patch_counts before.counts
+        pub paintable : PaintingAsked bytes eye camera before.picture before.unlit before.lit before.patch_counts before.counts
         paintable =
             record {
               accepted = yes.scene;
-              near = parts_bounded 10000 l.eye (omega arith) (subst (λ (e : Vec). T (point_in_range e)) (sym same_eye) view.point);
+              near = parts_bounded 10000 eye (omega arith) (subst (λ (e : Vec). T (point_in_range e)) (sym same_eye) view.point);
               aimed =
                   record {
                     right_bounded = parts_bounded 100 camera.axes.right (omega arith) axes.right_short;
@@ -93,7 +98,7 @@ module _
             }
 
         pub rendered_from :
-            {cells unlit lit booked totals : List ℕ} → Rendered bytes (view_of l.eye camera) cells unlit lit booked totals → Rendered bytes v cells unlit lit booked totals
+            {cells unlit lit booked totals : List ℕ} → Rendered bytes (view_of eye camera) cells unlit lit booked totals → Rendered bytes v cells unlit lit booked totals
         rendered_from {cells} {unlit} {lit} {booked} {totals} h =
             subst (λ (e : Vec). Rendered bytes (record { eye = e; camera = camera_of camera }) cells unlit lit booked totals) same_eye h
 

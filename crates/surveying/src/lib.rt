@@ -42,10 +42,13 @@ pub fn survey_from(
     if verdict != 0 {
         return verdict;
     }
-    let located = locate(station);
+    // question 15 has said yes
+    let Some(eye) = locate(station) else {
+        unreachable!()
+    };
     paint(
         scene,
-        located.eye,
+        eye,
         camera,
         picture,
         unlit,

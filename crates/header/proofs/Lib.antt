@@ -1,3 +1,0 @@
--- Laws of the header.
-mod HeaderMade
-mod HeaderTests
