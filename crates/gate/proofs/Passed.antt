@@ -3,23 +3,16 @@ use mathlib.Core.Path.{◌≡◌}
 use mathlib.Core.Bool.{true}
 use mathlib.Core.List.{List}
 use Prim.Native.Nat.{ℕ}
-use lib.Dec.{T}
 use Rattle.model.specs.Format.{decode}
 use Rattle.model.specs.Questions.{coordinates_in_range, children_proper, runs_proper}
 use Rattle.model.proofs.Tests.{is_true}
 use Rattle.format.specs.declared.layout.Layout.{Layout}
-use Rattle.format.specs.Layout.{LaidOut, RunsInside}
+use Rattle.format.specs.Layout.{LaidOut}
 use Rattle.scene.proofs.RunTables.{runs_inside}
 use Rattle.convexity.specs.Cornered.{Cornered}
 use Rattle.checked.specs.Checked.{Checked}
 
 module _ {bytes : List ℕ} {l : Layout} (laid : LaidOut bytes l) where
-  pub in_range : coordinates_in_range (decode bytes) ≡ true → LaidOut bytes l × T (coordinates_in_range (decode bytes))
-  in_range t = (laid, is_true t)
-
-  pub runs_within : runs_proper (decode bytes) ≡ true → LaidOut bytes l × RunsInside bytes l
-  runs_within t = (laid, runs_inside laid t)
-
   pub cornered : coordinates_in_range (decode bytes) ≡ true → runs_proper (decode bytes) ≡ true → Cornered bytes l
   cornered t runs = record { laid = laid; inside = runs_inside laid runs; coordinates = is_true t }
 

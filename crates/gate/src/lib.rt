@@ -1,50 +1,57 @@
 // The questions on a scene, 1 to 9, put in order to any byte string.
 #![tactic(auto)]
 
-ghost use Rattle.std.specs.Prelude.{◌≡◌};
+ghost use Rattle.std.specs.Prelude.{◌≡◌, IfOk};
 ghost use Rattle.model.specs.Questions.{scene_answer};
+ghost use Rattle.refusal.specs.Refusal.{answer_of};
 
+use checked::CheckedScene;
 use children::children_proper;
 use convexity::patches_proper;
 use coordinates::coordinates_in_range;
 use division::planes_divide;
-use format::layout::read_layout;
+use format::scene::Scene;
 use header::{has_header, has_sections};
+use refusal::Refusal;
 use scene::panels::panels_proper;
 use scene::planes::planes_proper;
 use scene::runs::runs_proper;
 
-// The number of the first question that says no, or 0.
-pub fn scene_answer(bytes: &[u8]) -> u32
-    ensures { result ≡ scene_answer bytes.now }
+// The scene that the bytes are, or the refusal by the first question that says no.
+pub fn check_scene(bytes: &[u8]) -> Result<CheckedScene<'_>, Refusal>
+    ensures answered { answer_of result ≡ scene_answer bytes.now }
+    ensures same { IfOk result (λ scene. scene.bytes.now ≡ bytes.now) }
 {
     if !has_header(bytes) {
-        return 1;
+        return Err(Refusal::Header);
     }
     if !has_sections(bytes) {
-        return 2;
+        return Err(Refusal::Sections);
     }
-    let l = read_layout(bytes);
-    if !coordinates_in_range(bytes, l) {
-        return 3;
+    let scene = Scene::read(bytes);
+    if !coordinates_in_range(&scene) {
+        return Err(Refusal::Coordinates);
     }
-    if !planes_proper(bytes, l) {
-        return 4;
+    if !planes_proper(&scene) {
+        return Err(Refusal::Planes);
     }
-    if !children_proper(bytes, l) {
-        return 5;
+    if !children_proper(&scene) {
+        return Err(Refusal::Children);
     }
-    if !runs_proper(bytes, l) {
-        return 6;
+    if !runs_proper(&scene) {
+        return Err(Refusal::Runs);
     }
-    if !panels_proper(bytes, l) {
-        return 7;
+    if !panels_proper(&scene) {
+        return Err(Refusal::Panels);
     }
-    if !patches_proper(bytes, l) {
-        return 8;
+    if !patches_proper(scene.bytes, scene.layout) {
+        return Err(Refusal::Patches);
     }
-    if !planes_divide(bytes, l) {
-        return 9;
+    if !planes_divide(scene.bytes, scene.layout) {
+        return Err(Refusal::Division);
     }
-    0
+    Ok(CheckedScene {
+        bytes: scene.bytes,
+        layout: scene.layout,
+    })
 }

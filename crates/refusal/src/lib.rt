@@ -1,7 +1,7 @@
 // What a call is refused for: the question that said no first. C is told its number.
 #![tactic(auto)]
 
-ghost use Rattle.std.specs.Prelude.{◌≡◌, true, false, MatchResult};
+ghost use Rattle.std.specs.Prelude.{◌≡◌};
 ghost use Rattle.refusal.specs.Refusal.{refusal_number, answer_of};
 
 #[derive(Clone, Copy, PartialEq, Eq, Debug)]
@@ -29,13 +29,6 @@ impl Refusal {
     {
         self as u32
     }
-}
-
-// a question's answer, where no is a refusal
-pub fn ask(yes: bool, refusal: Refusal) -> Result<(), Refusal>
-    ensures { MatchResult result (λ _. yes ≡ true) (λ e. (yes ≡ false) × (e ≡ refusal)) }
-{
-    if yes { Ok(()) } else { Err(refusal) }
 }
 
 // what C is answered: 0, or the number of the question that said no
