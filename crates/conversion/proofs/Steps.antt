@@ -23,6 +23,7 @@ use Rattle.segments.proofs.Rows.{row_congr}
 use Rattle.segments.proofs.Tallies.{tally_congr}
 use Rattle.segments.proofs.Painting.{painted_congr}
 use Rattle.format.specs.declared.layout.Layout.{Layout}
+use Rattle.checked.specs.Checked.{Checked}
 use Rattle.spans.specs.declared.Span.{Span}
 use Rattle.spans.specs.Span.{covers, Limited}
 use Rattle.edges.specs.declared.Sight.{Sight}
@@ -110,12 +111,11 @@ module _
     pub entry : get_or order k 0 < length booked
     entry = omega (arith, number, asked.entries)
 
-    pub sighting : Sighting bytes l (get_or order k 0) s.eye s.raster planes
-    sighting =
+    pub sighting : Checked bytes l → Sighting bytes l (get_or order k 0) s.eye s.raster planes
+    sighting readable =
         record {
-          scene = asked.paintable.checked;
           number = number;
-          proper = numbered_proper asked.paintable.checked asked.paintable.proper (get_or order k 0) number;
+          proper = numbered_proper readable asked.paintable.proper (get_or order k 0) number;
           eye_bounded = asked.paintable.sight.eye_bounded;
           planes_of = asked.planes_of;
           width_limit = omega (arith, asked.paintable.narrow);

@@ -5,7 +5,6 @@ use Rattle.model.specs.Questions.{patches_proper}
 use Rattle.geometry.specs.Machine.{vec_of}
 use Rattle.geometry.specs.Raster.{line_at}
 use Rattle.format.specs.declared.layout.Layout.{Layout}
-use Rattle.checked.specs.Checked.{Checked}
 use Rattle.edges.specs.declared.Sight.{Sight}
 use Rattle.edges.specs.Edges.{SightBounded}
 use Rattle.reach.specs.declared.RasterPlanes.{RasterPlanes}
@@ -16,7 +15,6 @@ use Rattle.conversion.specs.Booked.{Booked}
 
 -- a scene and a walk that can be painted as it is seen
 pub record Paintable (bytes : List ℕ) (l : Layout) (s : Sight) (order : List ℕ) : Type 0 where
-  pub checked : Checked bytes l
   pub proper : T (patches_proper (decode bytes))
   pub sight : SightBounded s
   pub narrow : s.raster.width ≤ 256

@@ -5,9 +5,8 @@ ghost use Rattle.std.specs.Prelude.{Bool, ℕ, ◌+◌, ◌*◌, ◌≤◌, leng
 ghost use Rattle.conversion.specs.Canvas.{UnlitSets, RowsAsked, in_rows, RowsPaintedOver};
 ghost use Rattle.conversion.specs.Progress.{PatchAsked, WalkPainted};
 
-use checked::patch_record;
+use checked::CheckedScene;
 use edges::{Sight, patch_edges};
-use format::layout::Layout;
 use geometry::EdgeFunction;
 use reach::{RasterPlanes, beside_columns, patch_rows};
 use scanline::lay_patch;
@@ -48,8 +47,7 @@ fn convert_rows(
 
 // Paints patch k of a walk in the rows that it reaches, and books the cells that it newly lit to it. One that no row or no column can meet has no edge functions worked out.
 pub fn paint_patch(
-    bytes: &[u8],
-    l: Layout,
+    scene: &CheckedScene,
     order: &[u16],
     k: usize,
     sight: Sight,
@@ -59,33 +57,28 @@ pub fn paint_patch(
     picture: &mut [u16],
     booked: &mut [u32],
 )
-    requires { PatchAsked bytes.now l order.now k sight planes rows.old words.old picture.old booked.old }
-    ensures { WalkPainted bytes.now sight order.now rows.new words.new picture.new booked.new (k + 1) }
+    requires { PatchAsked scene.now.bytes.now scene.now.layout order.now k sight planes rows.old words.old picture.old booked.old }
+    ensures { WalkPainted scene.now.bytes.now sight order.now rows.new words.new picture.new booked.new (k + 1) }
 {
     let n = order[k] as usize;
-    let reach = patch_rows(bytes, l, n, sight.eye, sight.raster, planes);
-    if reach.end <= reach.first {
-        return;
+    let reach = patch_rows(scene, n, sight.eye, sight.raster, planes);
+    if reach.first < reach.end && !beside_columns(scene, n, sight.eye, sight.raster, planes) {
+        let panel = scene.patch_record(n).panel;
+        let mut edges = [EdgeFunction {
+            start: 0,
+            slope: 0,
+            drop: 0,
+        }; 8];
+        let kept = patch_edges(scene, n, sight, reach, &mut edges);
+        let lit = convert_rows(
+            &edges[..kept.count],
+            panel,
+            kept.reach,
+            sight.raster.width,
+            rows,
+            words,
+            picture,
+        );
+        booked[n] += lit;
     }
-    if beside_columns(bytes, l, n, sight.eye, sight.raster, planes) {
-        return;
-    }
-    let panel = patch_record(bytes, l, n).panel;
-    let mut edges = [EdgeFunction {
-        start: 0,
-        slope: 0,
-        drop: 0,
-    }; 8];
-    let kept = patch_edges(bytes, l, n, sight, reach, &mut edges);
-    let width = sight.raster.width;
-    let lit = convert_rows(
-        &edges[..kept.count],
-        panel,
-        kept.reach,
-        width,
-        rows,
-        words,
-        picture,
-    );
-    booked[n] = booked[n] + lit;
 }

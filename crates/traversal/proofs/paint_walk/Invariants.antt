@@ -1,12 +1,7 @@
 -- `paint_walk` meets its contract: the first k patches are painted, and the rows before row `top` are full.
-use Prim.Native.Nat.{◌-◌}
-use lib.ListN.{length}
 use Rattle.traversal.proofs.Walking.{Going}
 use Rattle.traversal.proofs.paint_walk.Given as goal
 
 abbrev pub invariant-loop-k : goal.invariant-loop-k
 invariant-loop-k l =
-    Going l.bytes l.sight l.order l.rows l.words l.initial.picture l.picture l.initial.booked l.booked l.top l.k
-
-abbrev pub decreases-loop-k : goal.decreases-loop-k
-decreases-loop-k l = length l.order - l.k
+    Going l.scene.bytes.now l.sight l.order l.rows l.words l.initial.picture l.picture l.initial.booked l.booked l.top l.k
