@@ -1,10 +1,13 @@
 -- Question 8 over the table of patches, and what questions 3 and 6 tell of each patch.
 use mathlib.Core.Path.{◌≡◌, sym, ap, ◌∙◌, subst}
-use mathlib.Core.List.{List}
+use mathlib.Core.Bool.{Bool}
+use mathlib.Core.List.{List, map}
 use Prim.Native.Nat.{ℕ, ◌+◌, ◌<◌}
+use native.Mathlib.Nat.{zero-add}
 use native.Mathlib.Omega.{arith}
 use lib.ListN.{length}
-use Rattle.model.specs.Lists.{every}
+use Rattle.std.specs.List.{list_all, range_with_len}
+use Rattle.model.specs.Lists.{every, range}
 use Rattle.model.specs.Vector.{origin}
 use Rattle.model.specs.Patch as model
 use Rattle.model.specs.Format.{decode, patch_numbered}
@@ -16,26 +19,32 @@ use Rattle.format.specs.declared.patch.Patch.{Patch}
 use Rattle.format.specs.Layout.{LaidOut, patch_number, corner_number}
 use Rattle.format.specs.Patch.{PatchIs, corner_of, patch_of}
 use Rattle.model.specs.Bounds.{VecWithin}
-use Rattle.model.proofs.Tables.{length_table}
+use Rattle.model.proofs.Tables.{length_table, same_table}
 use Rattle.format.proofs.Decoded.{table_patch, patch_table_lem, patch_numbered_lem, patch_corners}
-use Rattle.model.proofs.Loops.{IsEvery, every_entry}
+use Rattle.format.proofs.Ranges.{all_numbered}
 use Rattle.format.proofs.InRange.{corner_within}
 use Rattle.convexity.specs.Cornered.{Cornered}
 use Rattle.polygons.specs.Bounds.{PatchBounded}
 use Rattle.polygons.specs.Tests.{patch_proper}
 use Rattle.polygons.proofs.Corners.{corner_in, count_in}
 
-pub patches_asked :
-    {bytes : List ℕ} {l : Layout} →
-    LaidOut bytes l →
-    IsEvery l.patches (λ (k : ℕ). patch_proper (patch_numbered (decode bytes) k)) (patches_proper (decode bytes))
-unfolding patches_proper
-patches_asked {bytes} {l} laid =
-    let whole = every_entry patch_proper (λ (k : ℕ). format.patch_of (decode bytes).corners (patch_number bytes l k)) l.patches (ap (every patch_proper) (patch_table_lem laid)) in
-    record {
-      one_no = λ k h e. whole.one_no k h (sym (ap patch_proper (patch_numbered_lem laid k h)) ∙ e);
-      all_yes = λ g. whole.all_yes (λ k h. sym (ap patch_proper (patch_numbered_lem laid k h)) ∙ g k h);
-    }
+module _ {bytes : List ℕ} {l : Layout} (laid : LaidOut bytes l) where
+  abbrev listed : ℕ → model.Patch
+  listed k = format.patch_of (decode bytes).corners (patch_number bytes l k)
+
+  patches_in_turn : patches_proper (decode bytes) ≡ every patch_proper (map (patch_numbered (decode bytes)) (range 0 l.patches))
+  unfolding patches_proper
+  patches_in_turn =
+      ap (every patch_proper)
+      (patch_table_lem laid
+      ∙ same_table listed (patch_numbered (decode bytes)) 0 0 l.patches
+      (λ k h. ap listed (zero-add k) ∙ sym (patch_numbered_lem laid k h) ∙ ap (patch_numbered (decode bytes)) (sym (zero-add k))))
+
+  pub patches_asked :
+      {asked : Bool} →
+      asked ≡ list_all (λ (k : ℕ). patch_proper (patch_numbered (decode bytes) k)) (range_with_len 0 l.patches) →
+      asked ≡ patches_proper (decode bytes)
+  patches_asked a = all_numbered patch_proper (patch_numbered (decode bytes)) 0 l.patches a patches_in_turn
 
 -- a patch in hand has the corners that its record's run names
 module _ {bytes : List ℕ} {l : Layout} (c : Cornered bytes l) {k : ℕ} {p : Patch} (h : k < l.patches)

@@ -7,57 +7,52 @@ ghost use Rattle.model.specs.Questions.{patches_proper};
 ghost use Rattle.polygons.specs.Tests.{patch_proper};
 ghost use Rattle.convexity.specs.Cornered.{Cornered, corners_from};
 
-use format::layout::{Layout, corner, patch_record};
 use format::patch::read_patch;
+use format::scene::Scene;
 use polygons::patch_proper;
 use small_polygons::four::four_proper;
 use small_polygons::three::three_proper;
 
 // Three and four corners of the table, from a place on. One function of N corners would need a loop that fills an array, and ask N for which test it calls.
-fn three_from(bytes: &[u8], l: Layout, first: usize) -> bool
-    requires { Cornered bytes.now l × (first + 3 ≤ l.corners) }
-    ensures { result ≡ patch_proper (corners_from bytes.now l first 3) }
+fn three_from(scene: &Scene, first: usize) -> bool
+    requires { Cornered scene.now.bytes.now scene.now.layout × (first + 3 ≤ scene.now.layout.corners) }
+    ensures { result ≡ patch_proper (corners_from scene.now.bytes.now scene.now.layout first 3) }
 {
-    let a = corner(bytes, l, first);
-    let b = corner(bytes, l, first + 1);
-    let c = corner(bytes, l, first + 2);
+    let a = scene.corner(first);
+    let b = scene.corner(first + 1);
+    let c = scene.corner(first + 2);
     three_proper(a, b, c)
 }
 
-fn four_from(bytes: &[u8], l: Layout, first: usize) -> bool
-    requires { Cornered bytes.now l × (first + 4 ≤ l.corners) }
-    ensures { result ≡ patch_proper (corners_from bytes.now l first 4) }
+fn four_from(scene: &Scene, first: usize) -> bool
+    requires { Cornered scene.now.bytes.now scene.now.layout × (first + 4 ≤ scene.now.layout.corners) }
+    ensures { result ≡ patch_proper (corners_from scene.now.bytes.now scene.now.layout first 4) }
 {
-    let a = corner(bytes, l, first);
-    let b = corner(bytes, l, first + 1);
-    let c = corner(bytes, l, first + 2);
-    let d = corner(bytes, l, first + 3);
+    let a = scene.corner(first);
+    let b = scene.corner(first + 1);
+    let c = scene.corner(first + 2);
+    let d = scene.corner(first + 3);
     four_proper(a, b, c, d)
 }
 
 // the patch by its number
-fn numbered_proper(bytes: &[u8], l: Layout, k: usize) -> bool
-    requires { Cornered bytes.now l × (k < l.patches) }
-    ensures { result ≡ patch_proper (patch_numbered (decode bytes.now) k) }
+fn numbered_proper(scene: &Scene, k: usize) -> bool
+    requires { Cornered scene.now.bytes.now scene.now.layout × (k < scene.now.layout.patches) }
+    ensures { result ≡ patch_proper (patch_numbered (decode scene.now.bytes.now) k) }
 {
-    let run = patch_record(bytes, l, k).corners;
+    let run = scene.patch_record(k).corners;
     if run.count == 4 {
-        return four_from(bytes, l, run.first);
+        return four_from(scene, run.first);
     }
     if run.count == 3 {
-        return three_from(bytes, l, run.first);
+        return three_from(scene, run.first);
     }
-    patch_proper(read_patch(bytes, l, k))
+    patch_proper(read_patch(scene, k))
 }
 
-pub fn patches_proper(bytes: &[u8], l: Layout) -> bool
-    requires { Cornered bytes.now l }
-    ensures { result ≡ patches_proper (decode bytes.now) }
+pub fn patches_proper(scene: &Scene) -> bool
+    requires { Cornered scene.now.bytes.now scene.now.layout }
+    ensures { result ≡ patches_proper (decode scene.now.bytes.now) }
 {
-    for k in 0..l.patches {
-        if !numbered_proper(bytes, l, k) {
-            return false;
-        }
-    }
-    true
+    (0..scene.layout.patches).all(|k| numbered_proper(scene, k))
 }

@@ -19,4 +19,4 @@ pub returns : goal.returns
 returns c =
     c.four_proper.ensures
     ∙ ap patch_proper
-    (four_in c.args.bytes.now c.args.l c.args.first c.corner-a.ensures c.corner-b.ensures c.corner-c.ensures c.corner-d.ensures)
+    (four_in c.args.scene.now.bytes.now c.args.scene.now.layout c.args.first c.corner-a.ensures c.corner-b.ensures c.corner-c.ensures c.corner-d.ensures)

@@ -18,4 +18,4 @@ pub returns : goal.returns
 returns c =
     c.three_proper.ensures
     ∙ ap patch_proper
-    (three_in c.args.bytes.now c.args.l c.args.first c.corner-a.ensures c.corner-b.ensures c.corner-c.ensures)
+    (three_in c.args.scene.now.bytes.now c.args.scene.now.layout c.args.first c.corner-a.ensures c.corner-b.ensures c.corner-c.ensures)
