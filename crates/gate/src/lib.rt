@@ -44,7 +44,7 @@ pub fn check_scene(bytes: &[u8]) -> Result<CheckedScene<'_>, Refusal>
     if !panels_proper(&scene) {
         return Err(Refusal::Panels);
     }
-    if !patches_proper(scene.bytes, scene.layout) {
+    if !patches_proper(&scene) {
         return Err(Refusal::Patches);
     }
     if !planes_divide(scene.bytes, scene.layout) {
