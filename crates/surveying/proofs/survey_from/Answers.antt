@@ -16,8 +16,8 @@ returns c =
     (rendered_from _ _ _ lent c.survey_answer-verdict.ensures c.if-verdict-ne0.false c.in-Some.ensures c.paint.ensures)
     c.next_counter.ensures
 
-pub prove-unreachable-requires : goal.prove-unreachable-requires
-prove-unreachable-requires c =
+pub unreachable-requires : goal.unreachable-requires
+unreachable-requires c =
     let a = c.args in
     let lent : Lent = lent_of a.picture.now a.counts.now a.patch_counts.now a.unlit.now a.lit.now a.counter.now in
     somewhere _ _ _ lent c.survey_answer-verdict.ensures c.if-verdict-ne0.false c.in_default.ensures
