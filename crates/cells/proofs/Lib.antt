@@ -1,6 +1,6 @@
 -- This serves the functions' proofs.
 mod Painting
--- For callers that clear cells or a table in a loop.
+-- For callers: a list of zeros,
 pub mod Clearing
 -- and the numbers of a table, added.
 pub mod Adding

@@ -1,150 +1,127 @@
--- The loops that paint a run of cells.
+-- A run of cells, painted in a part of a row: its first cells are.
 use mathlib.Core.Path.{◌≡◌, sym, ap, ◌∙◌}
 use mathlib.Core.Logic.{◌⊎◌, inl, inr}
-use mathlib.Core.Bool.{false, cond, ◌&&◌, and-false}
+use mathlib.Core.Bool.{Bool, cond, and-false}
 use mathlib.Core.List.{List}
-use Prim.Native.Nat.{ℕ, suc, ◌+◌, ◌-◌, ◌≤◌, ◌<◌, min, max}
-use native.Mathlib.Decide.{ℕ_discrete}
+use Prim.Native.Nat.{ℕ, suc, ◌+◌, ◌-◌, ◌≤◌, ◌<◌, min}
 use native.Mathlib.Omega.{arith}
-use lib.Dec.{leb, ltb}
-use lib.ListN.{length, get_or, set, length-set}
+use lib.Dec.{ltb}
+use lib.ListN.{length, get_or, take, drop, set, replicate, length-set, length-take, length-drop, length-replicate, get_or-append}
 use lib.Seq.{get_or-set_same, get_or-set_other}
 use borrow.Author.Tests.{lt-ltb, le-ltb, le-leb, lt-leb}
+use borrow.Rule.Slice.PartMut.{put_mid, mid_of, same_len_mid}
+use Rattle.std.proofs.lemmas.List.{get_or-replicate, get_or-append_right, get_or-take, get_or-drop}
+use native.Mathlib.Decide.{ℕ_discrete}
 use Rattle.segments.specs.Columns.{in_span, painted}
 use Rattle.model.proofs.Tests.{lt_or_ge}
 use Rattle.segments.proofs.Tests.{same_le}
 use Rattle.segments.proofs.Painting.{painted_length, painted_at, painted_is, painted_congr, painted_none}
 
--- The loop that paints the columns from `from` on and below `end`: those below i are painted.
-pub record PaintedTo (from end panel : ℕ) (cells₀ cells : List ℕ) (i : ℕ) : Type 0 where
-  pub place : from ≤ i
-  pub bound : i ≤ max from end
-  pub cells_are : cells ≡ painted (λ (j : ℕ). leb from j && ltb j i) panel cells₀
+-- the first `count` cells of a part
+abbrev pub front : ℕ → ℕ → List ℕ → List ℕ
+front count panel part = painted (λ (i : ℕ). ltb i count) panel part
 
-pub paint_starts : (from end panel : ℕ) (cells : List ℕ) → PaintedTo from end panel cells cells from
-paint_starts from end panel cells =
-    record {
-      place = omega arith;
-      bound = omega arith;
-      cells_are = sym (painted_none (λ (j : ℕ). leb from j && ltb j from) panel cells (λ j h. none j (lt_or_ge j from)));
-    }
-  where
-    none : (j : ℕ) → (j < from) ⊎ (from ≤ j) → (leb from j && ltb j from) ≡ false
-    none j (inl h) = rw (lt-leb from j h)
-    none j (inr h) = rw (le-ltb j from h, and-false)
+-- so are they where the panel alone is left
+pub front_all : (count panel : ℕ) (part part' : List ℕ) → length part ≡ count → part' ≡ replicate (length part) panel → part' ≡ front count panel part
+front_all count panel part part' l e =
+    painted_is (λ (i : ℕ). ltb i count) panel part part' (rw e (length-replicate (length part) panel))
+    (λ j h. rw (e, lt-ltb j count (omega arith)) (get_or-replicate (length part) j panel 0 h))
 
-module _ {from end panel : ℕ} {cells₀ cells : List ℕ} {i : ℕ} (inv : PaintedTo from end panel cells₀ cells i) where
-  pub paint_length : length cells ≡ length cells₀
-  paint_length = rw inv.cells_are (painted_length (λ (j : ℕ). leb from j && ltb j i) panel cells₀)
+-- the loop that writes a part's cells one after the other: those before cell i are written
+pub record FrontTo (count panel : ℕ) (part₀ part : List ℕ) (i : ℕ) : Type 0 where
+  pub cells_are : part ≡ front (min i count) panel part₀
 
-  pub paint_goes : i < end → end ≤ length cells₀ → PaintedTo from end panel cells₀ (set cells i panel) (i + 1)
-  paint_goes h k =
-      record {
-        place = omega (arith, inv.place);
-        bound = omega (arith, inv.bound);
-        cells_are =
-            painted_is (λ (j : ℕ). leb from j && ltb j (i + 1)) panel cells₀ (set cells i panel)
-            (length-set cells i panel ∙ paint_length) (λ j l. cell j l (ℕ_discrete j i));
-      }
-    where
-      cell :
-          (j : ℕ) → j < length cells₀ → Dec (j ≡ i) →
-          get_or (set cells i panel) j 0 ≡ cond (leb from j && ltb j (i + 1)) panel (get_or cells₀ j 0)
-      cell j l (yes e) =
-          rw (e, le-leb from i inv.place, lt-ltb i (i + 1) (omega arith)) (get_or-set_same cells i panel 0 (omega (arith, paint_length)))
-      cell j l (no n) =
-          get_or-set_other cells i j panel 0 n
-          ∙ ap (λ (xs : List ℕ). get_or xs j 0) inv.cells_are
-          ∙ painted_at (λ (m : ℕ). leb from m && ltb m i) panel cells₀ j l
-          ∙ rw (same_le (suc j) i (suc j) (i + 1) (λ a. omega arith) (λ a. omega arith))
+pub front_starts : (count panel : ℕ) (part : List ℕ) → FrontTo count panel part part 0
+front_starts count panel part =
+    record { cells_are = sym (painted_none (λ (j : ℕ). ltb j (min 0 count)) panel part (λ j h. le-ltb j (min 0 count) (omega arith))) }
 
-  pub paint_ends : (to : ℕ) → end ≡ to + 1 → end ≤ i → cells ≡ painted (in_span from to) panel cells₀
-  paint_ends to e h =
-      inv.cells_are
-      ∙ painted_congr (λ (j : ℕ). leb from j && ltb j i) (in_span from to) panel cells₀ (λ j l. same j (lt_or_ge j from))
-    where
-      same : (j : ℕ) → (j < from) ⊎ (from ≤ j) → (leb from j && ltb j i) ≡ in_span from to j
-      same j (inl b) = rw (lt-leb from j b)
-      same j (inr b) = rw (le-leb from j b) (same_le (suc j) i j to (λ a. omega (arith, inv.bound)) (λ a. omega arith))
-
--- The loop that writes eight cells, of which it paints those below `from + count`: i of them are written.
-pub record EightTo (from count panel : ℕ) (cells₀ cells : List ℕ) (i : ℕ) : Type 0 where
-  pub bound : i ≤ 8
-  pub cells_are : cells ≡ painted (λ (j : ℕ). leb from j && ltb j (from + min i count)) panel cells₀
-
-pub eight_starts : (from count panel : ℕ) (cells : List ℕ) → EightTo from count panel cells cells 0
-eight_starts from count panel cells =
-    record {
-      bound = omega arith;
-      cells_are =
-          sym (painted_none (λ (j : ℕ). leb from j && ltb j (from + min 0 count)) panel cells (λ j h. none j (lt_or_ge j from)));
-    }
-  where
-    none : (j : ℕ) → (j < from) ⊎ (from ≤ j) → (leb from j && ltb j (from + min 0 count)) ≡ false
-    none j (inl h) = rw (lt-leb from j h)
-    none j (inr h) = rw (le-ltb j (from + min 0 count) (omega arith), and-false)
-
-module _ {from count panel : ℕ} {cells₀ cells : List ℕ} {i : ℕ} (inv : EightTo from count panel cells₀ cells i) where
-  pub eight_length : length cells ≡ length cells₀
-  eight_length = rw inv.cells_are (painted_length (λ (j : ℕ). leb from j && ltb j (from + min i count)) panel cells₀)
+module _ {count panel : ℕ} {part₀ part : List ℕ} {i : ℕ} (inv : FrontTo count panel part₀ part i) (b : i < length part₀) where
+  front_length : length part ≡ length part₀
+  front_length = rw inv.cells_are (painted_length (λ (j : ℕ). ltb j (min i count)) panel part₀)
 
   -- a cell before its turn is as it was
-  unpainted : from + i < length cells₀ → get_or cells (from + i) 0 ≡ get_or cells₀ (from + i) 0
-  unpainted h =
-      ap (λ (xs : List ℕ). get_or xs (from + i) 0) inv.cells_are
-      ∙ painted_at (λ (m : ℕ). leb from m && ltb m (from + min i count)) panel cells₀ (from + i) h
-      ∙ rw (le-ltb (from + i) (from + min i count) (omega arith), and-false)
+  unpainted : get_or part i 0 ≡ get_or part₀ i 0
+  unpainted =
+      ap (λ (xs : List ℕ). get_or xs i 0) inv.cells_are
+      ∙ painted_at (λ (m : ℕ). ltb m (min i count)) panel part₀ i b
+      ∙ rw (le-ltb i (min i count) (omega arith))
 
-  pub eight_goes :
-      {cell written : ℕ} → i < 8 → from + 8 ≤ length cells₀ → cell ≡ get_or cells (from + i) 0 →
-      written ≡ cond (ltb i count) panel cell → EightTo from count panel cells₀ (set cells (from + i) written) (i + 1)
-  eight_goes {cell} {written} h k c w =
+  goes : (cell : ℕ) → cell ≡ cond (ltb i count) panel (get_or part₀ i 0) → FrontTo count panel part₀ (set part i cell) (i + 1)
+  goes cell w =
       record {
-        bound = omega arith;
         cells_are =
-            painted_is (λ (j : ℕ). leb from j && ltb j (from + min (i + 1) count)) panel cells₀ (set cells (from + i) written)
-            (length-set cells (from + i) written ∙ eight_length) (λ j l. at j l (ℕ_discrete j (from + i)));
+            painted_is (λ (j : ℕ). ltb j (min (i + 1) count)) panel part₀ (set part i cell) (length-set part i cell ∙ front_length)
+            (λ j h. at j h (ℕ_discrete j i));
       }
     where
-      here :
-          (i < count) ⊎ (count ≤ i) →
-          written ≡ cond (leb from (from + i) && ltb (from + i) (from + min (i + 1) count)) panel (get_or cells₀ (from + i) 0)
-      here (inl l) = w ∙ rw (lt-ltb i count l, le-leb from (from + i) (omega arith), lt-ltb (from + i) (from + min (i + 1) count) (omega arith))
-      here (inr l) =
-          w ∙ rw (le-ltb i count l, le-ltb (from + i) (from + min (i + 1) count) (omega arith), and-false) (c ∙ unpainted (omega arith))
-
-      same :
-          (j : ℕ) → (j ≡ from + i → ⊥) → (j < from) ⊎ (from ≤ j) →
-          (leb from j && ltb j (from + min i count)) ≡ (leb from j && ltb j (from + min (i + 1) count))
-      same j n (inl b) = rw (lt-leb from j b)
-      same j n (inr b) =
-          rw (le-leb from j b)
-          (same_le (suc j) (from + min i count) (suc j) (from + min (i + 1) count) (λ a. omega arith) (λ a. later j n b a))
-        where
-          later : (j : ℕ) → (j ≡ from + i → ⊥) → from ≤ j → j < from + min (i + 1) count → j < from + min i count
-          later j n b a = apart (lt_or_ge j (from + i))
-            where
-              apart : (j < from + i) ⊎ (from + i ≤ j) → j < from + min i count
-              apart (inl l) = omega arith
-              apart (inr l) = absurd (n (omega arith))
-
-      at :
-          (j : ℕ) → j < length cells₀ → Dec (j ≡ from + i) →
-          get_or (set cells (from + i) written) j 0
-          ≡ cond (leb from j && ltb j (from + min (i + 1) count)) panel (get_or cells₀ j 0)
-      at j l (yes e) = rw e (get_or-set_same cells (from + i) written 0 (omega (arith, eight_length)) ∙ here (lt_or_ge i count))
-      at j l (no n) =
-          get_or-set_other cells (from + i) j written 0 n
+      at : (j : ℕ) → j < length part₀ → Dec (j ≡ i) → get_or (set part i cell) j 0 ≡ cond (ltb j (min (i + 1) count)) panel (get_or part₀ j 0)
+      at j h (yes e) =
+          rw e (get_or-set_same part i cell 0 (omega (arith, front_length))
+          ∙ w
+          ∙ ap (λ (t : Bool). cond t panel (get_or part₀ i 0)) (same_le (suc i) count (suc i) (min (i + 1) count) (λ a. omega arith) (λ a. omega arith)))
+      at j h (no n) =
+          get_or-set_other part i j cell 0 n
           ∙ ap (λ (xs : List ℕ). get_or xs j 0) inv.cells_are
-          ∙ painted_at (λ (m : ℕ). leb from m && ltb m (from + min i count)) panel cells₀ j l
-          ∙ rw (same j n (lt_or_ge j from))
+          ∙ painted_at (λ (m : ℕ). ltb m (min i count)) panel part₀ j h
+          ∙ ap (λ (t : Bool). cond t panel (get_or part₀ j 0)) (same_le (suc j) (min i count) (suc j) (min (i + 1) count) (λ a. omega arith) (λ a. omega (arith, n)))
 
-  pub eight_ends : (to : ℕ) → from ≤ to → to < from + 8 → count ≡ to - from + 1 → 8 ≤ i → cells ≡ painted (in_span from to) panel cells₀
-  eight_ends to a b e h =
-      inv.cells_are
-      ∙ painted_congr (λ (j : ℕ). leb from j && ltb j (from + min i count)) (in_span from to) panel cells₀ (λ j l. same j (lt_or_ge j from))
+  pub front_painted : i < count → FrontTo count panel part₀ (set part i panel) (i + 1)
+  front_painted h = goes panel (rw (lt-ltb i count h))
+
+  pub front_kept : count ≤ i → FrontTo count panel part₀ (set part i (get_or part i 0)) (i + 1)
+  front_kept h = goes (get_or part i 0) (unpainted ∙ rw (le-ltb i count h))
+
+pub front_ends :
+    {count panel : ℕ} {part₀ part : List ℕ} {i : ℕ} → FrontTo count panel part₀ part i → length part₀ ≤ i → part ≡ front count panel part₀
+front_ends {count} {panel} {part₀} {part} {i} inv h =
+    inv.cells_are
+    ∙ painted_congr (λ (j : ℕ). ltb j (min i count)) (λ (j : ℕ). ltb j count) panel part₀
+    (λ j b. same_le (suc j) (min i count) (suc j) count (λ a. omega arith) (λ a. omega arith))
+
+-- a part of the row, whose first cells are painted
+module _ (from count k panel : ℕ) (cells part : List ℕ) (inside : from + k ≤ length cells) (few : count ≤ k) (part_is : part ≡ front count panel (mid_of from k cells)) where
+  part_length : length part ≡ k
+  part_length =
+      ap length part_is ∙ painted_length (λ (i : ℕ). ltb i count) panel (mid_of from k cells) ∙ simp (length-take, length-drop) (omega arith)
+
+  whole_length : length (put_mid from k cells part) ≡ length cells
+  whole_length = same_len_mid from k cells part (ap length part_is ∙ painted_length (λ (i : ℕ). ltb i count) panel (mid_of from k cells))
+
+  lead : length (take from cells) ≡ from
+  lead = simp length-take (omega arith)
+
+  before_part : (j : ℕ) → j < from → get_or (put_mid from k cells part) j 0 ≡ get_or cells j 0
+  before_part j h = get_or-append (take from cells) _ 0 j (omega (arith, lead)) ∙ get_or-take from cells j 0 h
+
+  in_part : (j : ℕ) → from ≤ j → j < from + k → get_or (put_mid from k cells part) j 0 ≡ get_or part (j - from) 0
+  in_part j a b = get_or-append_right (take from cells) _ from j 0 lead a ∙ get_or-append part _ 0 (j - from) (omega (arith, part_length))
+
+  after_part : (j : ℕ) → from + k ≤ j → get_or (put_mid from k cells part) j 0 ≡ get_or cells j 0
+  after_part j a =
+      get_or-append_right (take from cells) _ from j 0 lead (omega arith)
+      ∙ get_or-append_right part _ k (j - from) 0 part_length (omega arith)
+      ∙ get_or-drop k (drop from cells) (j - from - k) 0
+      ∙ get_or-drop from cells (k + (j - from - k)) 0
+      ∙ ap (λ (n : ℕ). get_or cells n 0) (omega arith)
+
+  pub span_painted : (first to : ℕ) → from ≡ first → to + 1 ≡ from + count → put_mid from k cells part ≡ painted (in_span first to) panel cells
+  span_painted first to f e =
+      rw (← f)
+      (painted_is (in_span from to) panel cells (put_mid from k cells part) whole_length (λ j h. at j h (lt_or_ge j from) (lt_or_ge j (from + k))))
     where
-      same : (j : ℕ) → (j < from) ⊎ (from ≤ j) → (leb from j && ltb j (from + min i count)) ≡ in_span from to j
-      same j (inl u) = rw (lt-leb from j u)
-      same j (inr u) =
-          rw (le-leb from j u) (same_le (suc j) (from + min i count) j to (λ x. omega arith) (λ x. omega arith))
+      inner : (j : ℕ) → from ≤ j → j < from + k → get_or part (j - from) 0 ≡ cond (ltb (j - from) count) panel (get_or cells j 0)
+      inner j a b =
+          ap (λ (xs : List ℕ). get_or xs (j - from) 0) part_is
+          ∙ painted_at (λ (i : ℕ). ltb i count) panel (mid_of from k cells) (j - from) (omega (arith, length-take k (drop from cells), length-drop from cells))
+          ∙ ap (λ (c : ℕ). cond (ltb (j - from) count) panel c)
+          (get_or-take k (drop from cells) (j - from) 0 (omega arith) ∙ get_or-drop from cells (j - from) 0 ∙ ap (λ (n : ℕ). get_or cells n 0) (omega arith))
+
+      at : (j : ℕ) → j < length cells → (j < from) ⊎ (from ≤ j) → (j < from + k) ⊎ (from + k ≤ j) →
+          get_or (put_mid from k cells part) j 0 ≡ cond (in_span from to j) panel (get_or cells j 0)
+      at j h (inl a) _ = before_part j a ∙ rw (lt-leb from j a)
+      at j h (inr a) (inl b) =
+          in_part j a b
+          ∙ inner j a b
+          ∙ rw (le-leb from j a)
+          (ap (λ (t : Bool). cond t panel (get_or cells j 0)) (same_le (suc (j - from)) count j to (λ x. omega arith) (λ x. omega arith)))
+      at j h (inr a) (inr b) = after_part j b ∙ rw (lt-leb j to (omega arith), and-false)

@@ -24,18 +24,13 @@ pub struct Swept {
 fn segments_before(row: &[u16; 256], column: u16) -> usize
     ensures { AllBefore row.now column result }
 {
-    let mut k: usize = 0;
-    while k < 128 {
+    for k in 0..128 {
         let p = pair_at(row, k);
-        if p.count == 0 {
+        if p.count == 0 || usize::from(column) < usize::from(p.offset) + usize::from(p.count) {
             return k;
         }
-        if (column as usize) < p.offset as usize + p.count as usize {
-            return k;
-        }
-        k += 1;
     }
-    k
+    128
 }
 
 // The segments are looked at in order, up to the first that ends at or after the span's end. There are at most 128. The cells
@@ -51,9 +46,8 @@ pub fn sweep(row: &mut [u16; 256], cells: &mut [u16], first: u16, last: u16, pan
 {
     let before = segments_before(row, first);
     let mut k = before;
-    let mut looked = before;
     let mut lit: u16 = 0;
-    while looked < 128 {
+    for looked in before..128 {
         let p = pair_at(row, k);
         if p.count == 0 {
             return Swept {
@@ -63,18 +57,13 @@ pub fn sweep(row: &mut [u16; 256], cells: &mut [u16], first: u16, last: u16, pan
         }
         let s = lay_on(row, cells, k, first, last, panel);
         lit += s.lit;
-        if s.go {
-            k = s.next;
-            looked += 1;
-        } else {
+        let Some(next) = s.next else {
             return Swept {
                 lit,
                 looked: looked as u16 + 1,
             };
-        }
+        };
+        k = next;
     }
-    Swept {
-        lit,
-        looked: looked as u16,
-    }
+    Swept { lit, looked: 128 }
 }

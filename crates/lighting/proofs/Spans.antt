@@ -173,11 +173,16 @@ module _ (first last : ℕ) where
 -- ---- a span of a row, below the width
 
 module _ (width first last : ℕ) {words : List ℕ} where
-  pub lights_none : ((i : ℕ) → i < width → in_span first last i ≡ false) → LightsBelow width first last words words
-  lights_none none unlit e = e ∙ map_congr width _ _ (λ i h. sym (rw (none i h) (and-true (unlit i))))
+  -- it has no column there
+  pub lights_none : min (last + 1) width ≤ first → LightsBelow width first last words words
+  lights_none h unlit e = e ∙ map_congr width _ _ (λ i b. sym (rw (none i b (lt_or_ge i first)) (and-true (unlit i))))
+    where
+      none : (i : ℕ) → i < width → (i < first) ⊎ (first ≤ i) → in_span first last i ≡ false
+      none i b (inl a) = span_ahead first last i a
+      none i b (inr a) = span_behind first last i (omega arith)
 
-  -- its last column below the width
-  pub lights_within : {words' : List ℕ} (end : ℕ) → end + 1 ≡ width → width ≤ last → Lights first end words words' → LightsBelow width first last words words'
-  lights_within end w h lit unlit e =
+  -- its last column there is `end`
+  pub lights_within : {words' : List ℕ} (end : ℕ) → end + 1 ≡ min (last + 1) width → Lights first end words words' → LightsBelow width first last words words'
+  lights_within end w lit unlit e =
       lit width unlit (omega arith) e
-      ∙ map_congr width _ _ (λ i b. ap (λ (t : Bool). unlit i && not (leb first i && t)) (le-leb i end (omega arith) ∙ sym (le-leb i last (omega arith))))
+      ∙ map_congr width _ _ (λ i b. ap (λ (t : Bool). unlit i && not (leb first i && t)) (same_le i end i last (λ a. omega arith) (λ a. omega arith)))

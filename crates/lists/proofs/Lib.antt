@@ -1,4 +1,2 @@
--- A row copied,
-mod Copying
--- and rows one after the other.
+-- Rows one after the other.
 pub mod Written

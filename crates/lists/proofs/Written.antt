@@ -13,17 +13,13 @@ use Rattle.lists.specs.Writing.{WritingAsked, row_after_row}
 
 -- ---- one row
 
--- a place of `width` numbers is as long as a row of `width` numbers
-pub as_the_row : {place row width : ℕ} → row ≡ width → place ≡ width → place ≡ row
-as_the_row e f = f ∙ sym e
-
 -- a part of a list, from `start` on and `width` long, in the place that it was taken from
-put_back : (start width : ℕ) (list row : List ℕ) → put_mid start (start + width - start) list row ≡ take start list ++ (row ++ drop (start + width) list)
+put_back : {A : Type 0} (start width : ℕ) (list row : List A) → put_mid start (start + width - start) list row ≡ take start list ++ (row ++ drop (start + width) list)
 put_back start width list row =
     let e : start + width - start ≡ width = omega arith in
     rw (e, drop-drop width start list)
 
-module _ (width j : ℕ) (row list : List ℕ) (room : j * width + width ≤ length list) (e : length row ≡ width) where
+module _ {A : Type 0} (width j : ℕ) (row list : List A) (room : j * width + width ≤ length list) (e : length row ≡ width) where
   front : length (take (j * width) list) ≡ j * width
   front = length-take-le (j * width) list (omega arith)
 
@@ -40,7 +36,7 @@ module _ (width j : ℕ) (row list : List ℕ) (room : j * width + width ≤ len
 
 -- ---- all rows
 
-pub last_row : (row : ℕ → List ℕ) (a n : ℕ) → flatten (map row (range a (suc n))) ≡ flatten (map row (range a n)) ++ row (a + n)
+pub last_row : {A : Type 0} (row : ℕ → List A) (a n : ℕ) → flatten (map row (range a (suc n))) ≡ flatten (map row (range a n)) ++ row (a + n)
 unfolding flatten
 last_row row a zero = append-nil (row a) ∙ ap row (sym (add-zero a))
 last_row row a (suc n) =
@@ -50,23 +46,23 @@ last_row row a (suc n) =
     ∙ ap (λ (m : ℕ). (row a ++ flatten (map row (range (suc a) n))) ++ row m) e
 
 -- the rows before row j are written
-pub record WrittenUpTo (width height : ℕ) (rows : List (List ℕ)) (list : List ℕ) (j : ℕ) : Type 0 where
+pub record WrittenUpTo {A : Type 0} (width height : ℕ) (rows : List (List A)) (list : List A) (j : ℕ) : Type 0 where
   pub bound : j ≤ height
   pub long : length list ≡ height * width
   pub before_are : take (j * width) list ≡ row_after_row j rows
 
-module _ {width height : ℕ} {rows : List (List ℕ)} where
-  pub writing_starts : {list : List ℕ} → WritingAsked width height rows list → WrittenUpTo width height rows list 0
+module _ {A : Type 0} {width height : ℕ} {rows : List (List A)} where
+  pub writing_starts : {list : List A} → WritingAsked width height rows list → WrittenUpTo width height rows list 0
   unfolding flatten
   writing_starts {list} asked =
       record { bound = omega arith; long = asked.room; before_are = ap (λ (n : ℕ). take n list) (zero-mul width) }
 
-  module _ {list : List ℕ} {j : ℕ} (inv : WrittenUpTo width height rows list j) where
+  module _ {list : List A} {j : ℕ} (inv : WrittenUpTo width height rows list j) where
     pub row_fits : j < height → j * width + width ≤ length list
     row_fits h = omega (arith, inv.long, mul-le-mul_right width h)
 
     pub writing_goes :
-        {row : List ℕ} → j < height → ((k : ℕ) → k < height → length (get_or rows k []) ≡ width) → row ≡ get_or rows j [] →
+        {row : List A} → j < height → ((k : ℕ) → k < height → length (get_or rows k []) ≡ width) → row ≡ get_or rows j [] →
         WrittenUpTo width height rows (put_mid (j * width) (j * width + width - j * width) list row) (j + 1)
     writing_goes {row} h each e =
         let f : length row ≡ width = ap length e ∙ each j h in

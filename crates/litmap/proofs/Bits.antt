@@ -13,7 +13,6 @@ use Rattle.model.specs.Lists.{range, add_if, tally}
 use Rattle.model.specs.Map.{first_of, bit_of}
 use Rattle.model.proofs.Bits.{bit_zero, bit_suc, digit}
 use Rattle.model.proofs.LitMap.{tally_same, first_same}
-use Rattle.litmap.specs.Words.{OnesIs, ClearIs}
 
 -- ---- the complement of k bits
 not_digit : (n m : ℕ) → n % 2 + m % 2 ≡ 1 → eqb (n % 2) 1 ≡ not (eqb (m % 2) 1)
@@ -79,6 +78,17 @@ ones_tally (suc k) n h =
     (tally_same (bit_of (n / 2)) (bit_of n) 0 1 k (λ j h. sym (ap (bit_of n) (omega arith) ∙ bit_suc n (0 + j))))
 
 -- ---- the two counts of a word as the machine has them
+
+-- the bits of a word that are set
+pub record OnesIs (word r : ℕ) : Type 0 where
+  pub is : r ≡ tally (bit_of word) (range 0 64)
+  pub few : r ≤ 64
+
+-- its first bit that is clear, 64 where none is
+pub record ClearIs (word r : ℕ) : Type 0 where
+  pub is : r ≡ first_of (λ (b : ℕ). not (bit_of word b)) 0 64
+  pub few : r ≤ 64
+
 pub ones_is : (w : ℕ) → Fits w64 w → OnesIs w (ones w)
 ones_is w h = record { is = ones_tally 64 w h.fits; few = ones-le 64 w h.fits }
 

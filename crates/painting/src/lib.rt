@@ -8,10 +8,9 @@ ghost use Rattle.conversion.specs.Booked.{Booked};
 ghost use Rattle.traversal.specs.Walk.{walk_of};
 ghost use Rattle.painting.specs.Picture.{PictureAsked, RowsPainted};
 
-use cells::{clear, clear_table};
 use edges::Sight;
 use format::layout::Layout;
-use lists::{write_maps, write_rows};
+use lists::write_rows;
 use traversal::paint_walk;
 
 // Paints the walk on fresh rows and writes them to the lent lists when it is done.
@@ -31,8 +30,9 @@ pub fn paint_rows(
     ensures counted { Booked (vec_of sight.eye) (line_at sight.raster) (patch_numbered (decode bytes.now)) order.now
         sight.raster.width booked.new sight.raster.height }
 {
-    clear_table(booked);
-    clear(picture);
+    // patches that no row shows are never booked: their entries are 0 from here on, whatever the table held
+    booked.fill(0);
+    picture.fill(0);
     let row = rows::fresh(sight.raster.width as u16);
     let mut rows = [row; 128];
     let mut words = [[0u64; 4]; 128];
@@ -41,5 +41,5 @@ pub fn paint_rows(
     );
     let height = sight.raster.height;
     write_rows(&rows, height, unlit);
-    write_maps(&words, height, lit);
+    write_rows(&words, height, lit);
 }

@@ -11,7 +11,7 @@ use Rattle.segments.specs.Segments.{Ordered, none, more, row_from, segment_at, w
 use Rattle.segments.proofs.Segments.{segment_path}
 use Rattle.segments.proofs.Rows.{zeros, take_zeros, numbers_length}
 use Rattle.segments.proofs.Numbers.{shaped, number_after, pair_set}
-use Rattle.pairs.specs.Pairs.{Tidy, Carry, Carried, CarriesEight, Settles, Inserts}
+use Rattle.pairs.specs.Pairs.{Tidy, Carry, Carried, Carries, Inserts}
 use Rattle.pairs.proofs.Moves.{read_segment}
 
 tidy_zeros : (n : ℕ) → Tidy (zeros n)
@@ -104,67 +104,42 @@ carry_starts {width} {k} {row} {done} {rest} s held room =
     }
 
 -- The loops: the pair p is in hand, for pair k + i or pair i.
-pub record Eight (row₀ : List ℕ) (k : ℕ) (s : Segment) (row : List ℕ) (p : Segment) (i : ℕ) : Type 0 where
-  pub bound : i ≤ 8
-  pub carries : (total : List ℕ) → Carry total k s row₀ → Carry total (k + i) p row
-  pub reads : 0 < i → (total : List ℕ) → Carry total k s row₀ → Carried total (k + i) p row
+pub carries_none : (row : List ℕ) (k : ℕ) (s : Segment) → Carries k 0 s row row s
+carries_none row k s = record { carries = λ total g. rw (add-zero k) g; reads = λ h. absurd (omega arith) }
 
-pub record Rest (row₀ : List ℕ) (k : ℕ) (s : Segment) (row : List ℕ) (p : Segment) (i : ℕ) : Type 0 where
-  pub carries : (total : List ℕ) → Carry total k s row₀ → Carry total i p row
+pub carries_more :
+    {row₀ row row' : List ℕ} {k i offset count : ℕ} {s p : Segment} → Carries k i s row₀ row p → k + i < 128 →
+    Reads row (k + i) offset count → row' ≡ written row (k + i) p → Carries k (i + 1) s row₀ row' (record { offset = offset; count = count })
+carries_more {row₀} {row} {row'} {k} {i} {offset} {count} {s} inv h r w =
+    let q : Segment = record { offset = offset; count = count } in
+    let e : k + i + 1 ≡ k + (i + 1) = omega arith in
+    let next : (total : List ℕ) → Carry total k s row₀ → Carried total (k + (i + 1)) q row' =
+    λ total g. rw e at (carried (inv.carries total g) h r w) in
+    record { carries = λ total g. (next total g).on; reads = λ _ total g. next total g }
 
 pub record Inserting (row₀ : List ℕ) (k : ℕ) (s : Segment) (row : List ℕ) (p : Segment) (i : ℕ) : Type 0 where
   pub carries :
       (width : ℕ) (done rest : List Segment) → Holds width k row₀ done rest → length done + length rest < 128 →
       Carry (row_from (done ++ s ∷ rest)) i p row
 
-pub eight_starts : (row₀ : List ℕ) (k : ℕ) (s : Segment) → Eight row₀ k s row₀ s 0
-eight_starts row₀ k s =
-    record {
-      bound = omega arith;
-      carries = λ total g. rw (add-zero k) g;
-      reads = λ h. absurd (omega arith);
-    }
+pub insert_starts : (row₀ : List ℕ) (k : ℕ) (s : Segment) → Inserting row₀ k s row₀ s (k + 8 * 0)
+insert_starts row₀ k s =
+    let e : k + 8 * 0 ≡ k = omega arith in record { carries = λ width done rest held room. rw e (carry_starts s held room) }
 
 module _ {row₀ : List ℕ} {k : ℕ} {s : Segment} {row : List ℕ} {p : Segment} {i : ℕ} where
-  pub eight_goes :
-      {row' : List ℕ} {offset count : ℕ} → Eight row₀ k s row p i → k ≤ 120 → i < 8 → Reads row (k + i) offset count →
-      row' ≡ written row (k + i) p → Eight row₀ k s row' (record { offset = offset; count = count }) (i + 1)
-  eight_goes {row'} {offset} {count} inv b h r w =
-      let q : Segment = record { offset = offset; count = count } in
-      let e : k + i + 1 ≡ k + (i + 1) = omega arith in
-      let next : (total : List ℕ) → Carry total k s row₀ → Carried total (k + (i + 1)) q row' =
-      λ total g. rw e at (carried (inv.carries total g) (omega arith) r w) in
-      record {
-        bound = omega arith;
-        carries = λ total g. (next total g).on;
-        reads = λ _ total g. next total g;
-      }
-
-  pub eight_ends : Eight row₀ k s row p i → 8 ≤ i → CarriesEight k s row₀ row p
-  eight_ends inv h =
-      let e : i ≡ 8 = omega (arith, inv.bound) in
-      record { carries = λ total g. rw e at (inv.reads (omega arith) total g) }
-
-  pub rest_goes :
-      {row' : List ℕ} {offset count : ℕ} → Rest row₀ k s row p i → i < 128 → Reads row i offset count →
-      row' ≡ written row i p → Rest row₀ k s row' (record { offset = offset; count = count }) (i + 1)
-  rest_goes inv h r w = record { carries = λ total g. (carried (inv.carries total g) h r w).on }
-
-  pub rest_ends : Rest row₀ k s row p i → 128 ≤ i → Settles k s row₀ row
-  rest_ends inv h = record { settles = λ total g. settled (inv.carries total g) h }
-
-  pub insert_ends : {row' : List ℕ} {q : Segment} → Inserting row₀ k s row p i → CarriesEight i p row row' q → q.count ≡ 0 → Inserts k s row₀ row'
+  pub insert_ends : {row' : List ℕ} {q : Segment} → Inserting row₀ k s row p i → Carries i 8 p row row' q → q.count ≡ 0 → Inserts k s row₀ row'
   insert_ends inv c e =
-      record { inserts = λ width done rest held room. unused (c.carries _ (inv.carries width done rest held room)) e }
+      record { inserts = λ width done rest held room. unused (c.reads (omega arith) _ (inv.carries width done rest held room)) e }
 
-  pub insert_goes : {row' : List ℕ} {q : Segment} → Inserting row₀ k s row p i → CarriesEight i p row row' q → Inserting row₀ k s row' q (i + 8)
-  insert_goes inv c = record { carries = λ width done rest held room. (c.carries _ (inv.carries width done rest held room)).on }
+  pub insert_goes : {row' : List ℕ} {q : Segment} → Inserting row₀ k s row p i → Carries i 8 p row row' q → (m : ℕ) → m ≡ i + 8 → Inserting row₀ k s row' q m
+  insert_goes inv c m e = record { carries = λ width done rest held room. rw e (c.carries _ (inv.carries width done rest held room)) }
 
-  pub insert_settles : {row' : List ℕ} → Inserting row₀ k s row p i → Settles i p row row' → Inserts k s row₀ row'
-  insert_settles inv c = record { inserts = λ width done rest held room. c.settles _ (inv.carries width done rest held room) }
-
-pub rest_starts : (row₀ : List ℕ) (k : ℕ) (s : Segment) → Rest row₀ k s row₀ s k
-rest_starts row₀ k s = record { carries = λ total g. g }
-
-pub insert_starts : (row₀ : List ℕ) (k : ℕ) (s : Segment) → Inserting row₀ k s row₀ s k
-insert_starts row₀ k s = record { carries = λ width done rest held room. carry_starts s held room }
+  -- the rest, up to the row's last pair; a place beyond the row has none
+  pub insert_settles :
+      {row' : List ℕ} {q : Segment} (j n : ℕ) → Inserting row₀ k s row p i → Carries j n p row row' q → (k < 128 → j ≡ i) → 128 ≤ j + n →
+      Inserts k s row₀ row'
+  insert_settles j n inv c e h =
+      record {
+        inserts = λ width done rest held room.
+            settled (c.carries _ (rw (e (omega (arith, held.place))) (inv.carries width done rest held room))) h;
+      }

@@ -10,7 +10,7 @@ use Rattle.segments.specs.Segments.{row_from, segment_at, written, Holds, Reads}
 use Rattle.segments.proofs.Segments.{segment_path, tail_ordered}
 use Rattle.segments.proofs.Rows.{zeros, numbers_length}
 use Rattle.segments.proofs.Numbers.{shaped, number_after, pair_set}
-use Rattle.pairs.specs.Pairs.{Tidy, Gap, Shifted, ShiftsEight, Closes, Removes}
+use Rattle.pairs.specs.Pairs.{Tidy, Gap, Shifted, Shifts, Removes}
 use Rattle.pairs.proofs.Moves.{read_segment}
 use Rattle.pairs.proofs.Carrying.{tidy_row}
 
@@ -118,57 +118,37 @@ gap_opens {width} {k} {row} {done} {s} {rest} held =
     }
 
 -- The loops: pair k + i or pair i is to be overwritten, and the last pair moved is of this count.
-pub record Eight (row₀ : List ℕ) (k : ℕ) (row : List ℕ) (count i : ℕ) : Type 0 where
-  pub bound : i ≤ 8
-  pub shifts : (total : List ℕ) → Gap total k row₀ → Gap total (k + i) row
-  pub reads : 0 < i → (total : List ℕ) → Gap total k row₀ → Shifted total (k + i) count row
+pub shifts_none : (row : List ℕ) (k count : ℕ) → Shifts k 0 row row count
+shifts_none row k count = record { shifts = λ total g. rw (add-zero k) g; reads = λ h. absurd (omega arith) }
 
-pub record Rest (row₀ : List ℕ) (k : ℕ) (row : List ℕ) (i : ℕ) : Type 0 where
-  pub shifts : (total : List ℕ) → Gap total k row₀ → Gap total i row
+pub shifts_more :
+    {row₀ row row' : List ℕ} {k i last offset count : ℕ} → Shifts k i row₀ row last → k + i < 127 → Reads row (k + i + 1) offset count →
+    row' ≡ written row (k + i) (record { offset = offset; count = count }) → Shifts k (i + 1) row₀ row' count
+shifts_more {row₀} {row} {row'} {k} {i} {last} {offset} {count} inv h r w =
+    let e : k + i + 1 ≡ k + (i + 1) = omega arith in
+    let next : (total : List ℕ) → Gap total k row₀ → Shifted total (k + (i + 1)) count row' =
+    λ total g. rw e at (shifted (inv.shifts total g) h r w) in
+    record { shifts = λ total g. (next total g).on; reads = λ _ total g. next total g }
 
 pub record Removing (row₀ : List ℕ) (k : ℕ) (row : List ℕ) (i : ℕ) : Type 0 where
   pub gaps :
       (width : ℕ) (done : List Segment) (s : Segment) (rest : List Segment) → Holds width k row₀ done (s ∷ rest) →
       Gap (row_from (done ++ rest)) i row
 
-pub eight_starts : (row₀ : List ℕ) (k count : ℕ) → Eight row₀ k row₀ count 0
-eight_starts row₀ k count =
-    record { bound = omega arith; shifts = λ total g. rw (add-zero k) g; reads = λ h. absurd (omega arith) }
+pub remove_starts : (row₀ : List ℕ) (k : ℕ) → Removing row₀ k row₀ (k + 8 * 0)
+remove_starts row₀ k =
+    let e : k + 8 * 0 ≡ k = omega arith in record { gaps = λ width done s rest held. rw e (gap_opens held) }
 
 module _ {row₀ : List ℕ} {k : ℕ} {row : List ℕ} {i : ℕ} where
-  pub eight_goes :
-      {row' : List ℕ} {last offset count : ℕ} → Eight row₀ k row last i → k < 120 → i < 8 → Reads row (k + i + 1) offset count →
-      row' ≡ written row (k + i) (record { offset = offset; count = count }) → Eight row₀ k row' count (i + 1)
-  eight_goes {row'} {last} {offset} {count} inv b h r w =
-      let e : k + i + 1 ≡ k + (i + 1) = omega arith in
-      let next : (total : List ℕ) → Gap total k row₀ → Shifted total (k + (i + 1)) count row' =
-      λ total g. rw e at (shifted (inv.shifts total g) (omega arith) r w) in
-      record { bound = omega arith; shifts = λ total g. (next total g).on; reads = λ _ total g. next total g }
+  pub remove_ends : {row' : List ℕ} {count : ℕ} → Removing row₀ k row i → Shifts i 8 row row' count → count ≡ 0 → Removes k row₀ row'
+  remove_ends inv c e = record { removes = λ width done s rest held. unused (c.reads (omega arith) _ (inv.gaps width done s rest held)) e }
 
-  pub eight_ends : {count : ℕ} → Eight row₀ k row count i → 8 ≤ i → ShiftsEight k row₀ row count
-  eight_ends inv h =
-      let e : i ≡ 8 = omega (arith, inv.bound) in
-      record { shifts = λ total g. rw e at (inv.reads (omega arith) total g) }
+  pub remove_goes : {row' : List ℕ} {count : ℕ} → Removing row₀ k row i → Shifts i 8 row row' count → (m : ℕ) → m ≡ i + 8 → Removing row₀ k row' m
+  remove_goes inv c m e = record { gaps = λ width done s rest held. rw e (c.shifts _ (inv.gaps width done s rest held)) }
 
-  pub rest_goes :
-      {row' : List ℕ} {offset count : ℕ} → Rest row₀ k row i → i < 127 → Reads row (i + 1) offset count →
-      row' ≡ written row i (record { offset = offset; count = count }) → Rest row₀ k row' (i + 1)
-  rest_goes inv h r w = record { shifts = λ total g. (shifted (inv.shifts total g) h r w).on }
-
-  pub rest_ends : {row' : List ℕ} → Rest row₀ k row i → 127 ≤ i → row' ≡ written row 127 (record { offset = 0; count = 0 }) → Closes k row₀ row'
-  rest_ends inv h w = record { closes = λ total g. w ∙ closed (inv.shifts total g) h }
-
-  pub remove_ends : {row' : List ℕ} {count : ℕ} → Removing row₀ k row i → ShiftsEight i row row' count → count ≡ 0 → Removes k row₀ row'
-  remove_ends inv c e = record { removes = λ width done s rest held. unused (c.shifts _ (inv.gaps width done s rest held)) e }
-
-  pub remove_goes : {row' : List ℕ} {count : ℕ} → Removing row₀ k row i → ShiftsEight i row row' count → Removing row₀ k row' (i + 8)
-  remove_goes inv c = record { gaps = λ width done s rest held. (c.shifts _ (inv.gaps width done s rest held)).on }
-
-  pub remove_closes : {row' : List ℕ} → Removing row₀ k row i → Closes i row row' → Removes k row₀ row'
-  remove_closes inv c = record { removes = λ width done s rest held. c.closes _ (inv.gaps width done s rest held) }
-
-pub rest_starts : (row₀ : List ℕ) (k : ℕ) → Rest row₀ k row₀ k
-rest_starts row₀ k = record { shifts = λ total g. g }
-
-pub remove_starts : (row₀ : List ℕ) (k : ℕ) → Removing row₀ k row₀ k
-remove_starts row₀ k = record { gaps = λ width done s rest held. gap_opens held }
+  -- the rest, up to the row's last pair
+  pub remove_closes :
+      {row' row'' : List ℕ} {count : ℕ} (j n : ℕ) → Removing row₀ k row i → Shifts j n row row' count → j ≡ i → 127 ≤ j + n →
+      row'' ≡ written row' 127 (record { offset = 0; count = 0 }) → Removes k row₀ row''
+  remove_closes j n inv c e h w =
+      record { removes = λ width done s rest held. w ∙ closed (c.shifts _ (rw e (inv.gaps width done s rest held))) h }

@@ -2,6 +2,11 @@
 use Rattle.std.specs.Prelude.{◌≡◌, List, [], ◌∷◌, ◌++◌, ℕ, ◌+◌, ◌*◌, ◌<◌, length, take, replicate}
 use Rattle.model.specs.Row.{Segment}
 use Rattle.segments.specs.Segments.{row_from, Holds}
+use Rattle.pairs.specs.declared.Pair.{Pair}
+
+-- the segment that a pair of the code is
+abbrev pub segment : Pair → Segment
+segment p = record { offset = p.offset; count = p.count }
 
 -- the segment `s` now stands in the row as number k
 pub record Inserts (k : ℕ) (s : Segment) (row row' : List ℕ) : Type 0 where
@@ -36,13 +41,10 @@ pub record Carried (total : List ℕ) (i : ℕ) (p : Segment) (row : List ℕ) :
   pub on : Carry total i p row
   pub read : Tidy (p.offset ∷ p.count ∷ on.after)
 
--- the pair p was put into pair k, and each of the next seven pairs took the place of the one after it; the last one, q, is in hand
-pub record CarriesEight (k : ℕ) (p : Segment) (row row' : List ℕ) (q : Segment) : Type 0 where
-  pub carries : (total : List ℕ) → Carry total k p row → Carried total (k + 8) q row'
-
--- the pair p was put into pair k, and all that stood there and after it follows
-pub record Settles (k : ℕ) (p : Segment) (row row' : List ℕ) : Type 0 where
-  pub settles : (total : List ℕ) → Carry total k p row → row' ≡ total
+-- the pair p was put into pair k, and each of the n pairs from there on took the place of the one after it; the last one, q, is in hand
+pub record Carries (k n : ℕ) (p : Segment) (row row' : List ℕ) (q : Segment) : Type 0 where
+  pub carries : (total : List ℕ) → Carry total k p row → Carry total (k + n) q row'
+  pub reads : 0 < n → (total : List ℕ) → Carry total k p row → Carried total (k + n) q row'
 
 -- pair i of the row is to be overwritten by the numbers after it: the row is then to be `total`, which ends with an unused pair
 pub record Gap (total : List ℕ) (i : ℕ) (row : List ℕ) : Type 0 where
@@ -62,10 +64,7 @@ pub record Shifted (total : List ℕ) (i count : ℕ) (row : List ℕ) : Type 0 
   pub count_is : count ≡ on.y
   pub read : Tidy (on.x ∷ on.y ∷ on.after)
 
--- each of the eight pairs after pair k took the place of the one before it, and the last of them is of this count
-pub record ShiftsEight (k : ℕ) (row row' : List ℕ) (count : ℕ) : Type 0 where
-  pub shifts : (total : List ℕ) → Gap total k row → Shifted total (k + 8) count row'
-
--- all pairs after pair k did, and the last pair is unused
-pub record Closes (k : ℕ) (row row' : List ℕ) : Type 0 where
-  pub closes : (total : List ℕ) → Gap total k row → row' ≡ total
+-- each of the n pairs after pair k took the place of the one before it, and the last of them is of this count
+pub record Shifts (k n : ℕ) (row row' : List ℕ) (count : ℕ) : Type 0 where
+  pub shifts : (total : List ℕ) → Gap total k row → Gap total (k + n) row'
+  pub reads : 0 < n → (total : List ℕ) → Gap total k row → Shifted total (k + n) count row'

@@ -1,10 +1,10 @@
 // The pairs of a row: read, written, put in and taken out.
 #![tactic(auto)]
 
-ghost use Rattle.std.specs.Prelude.{◌≤◌, ◌<◌, ◌≡◌, length};
+ghost use Rattle.std.specs.Prelude.{◌+◌, ◌≤◌, ◌<◌, ◌≡◌, length};
 ghost use Rattle.segments.specs.Segments.{Reads, written};
 ghost use Rattle.model.specs.Row.{used_pairs};
-ghost use Rattle.pairs.specs.Pairs.{Inserts, Removes, CarriesEight, Settles, ShiftsEight, Closes};
+ghost use Rattle.pairs.specs.Pairs.{segment, Carries, Inserts, Shifts, Removes};
 
 // A segment, as a row holds it.
 #[derive(Clone, Copy)]
@@ -23,115 +23,75 @@ pub fn pair_at(row: &[u16; 256], k: usize) -> Pair
     }
 }
 
-pub fn set_pair(row: &mut [u16; 256], k: usize, offset: u16, count: u16)
+pub fn set_pair(row: &mut [u16; 256], k: usize, p: Pair)
     requires { k < 128 }
-    ensures { row.new ≡ written row.old k (record { offset = offset; count = count }) }
+    ensures { row.new ≡ written row.old k (segment p) }
 {
-    row[2 * k] = offset;
-    row[2 * k + 1] = count;
+    row[2 * k] = p.offset;
+    row[2 * k + 1] = p.count;
 }
 
-// Puts a pair into pair k, and each of the next seven pairs into the place after its own; the last of the eight that stood there is returned. There is
-// no jump in it: all eight are moved at once.
-fn carry_eight(row: &mut [u16; 256], k: usize, offset: u16, count: u16) -> Pair
-    requires { k ≤ 120 }
-    ensures { CarriesEight k (record { offset = offset; count = count }) row.old row.new
-        (record { offset = result.offset; count = result.count }) }
+// Puts a pair into pair k, and each of the n pairs from there on, but for the last, into the place after its own; the last of the n is returned. It is inlined, so
+// that eight are moved at once, with no jump between them.
+#[inline]
+fn carry(row: &mut [u16; 256], k: usize, n: usize, mut p: Pair) -> Pair
+    requires { k + n ≤ 128 }
+    ensures { Carries k n (segment p) row.old row.new (segment result) }
 {
-    let mut o = offset;
-    let mut c = count;
-    let mut i: usize = 0;
-    while i < 8 {
-        let p = pair_at(row, k + i);
-        set_pair(row, k + i, o, c);
-        o = p.offset;
-        c = p.count;
-        i += 1;
+    for i in 0..n {
+        let q = pair_at(row, k + i);
+        set_pair(row, k + i, p);
+        p = q;
     }
-    Pair {
-        offset: o,
-        count: c,
-    }
+    p
 }
 
-// The same for all pairs from k on.
-fn carry_rest(row: &mut [u16; 256], k: usize, offset: u16, count: u16)
-    ensures { Settles k (record { offset = offset; count = count }) row.old row.new }
+// Each pair from k on moves to the next place: eight at a time, until an unused one comes into hand, and then those that are left.
+pub fn insert(row: &mut [u16; 256], k: usize, mut p: Pair)
+    ensures { Inserts k (segment p) row.old row.new }
 {
-    let mut o = offset;
-    let mut c = count;
-    let mut i = k;
-    while i < 128 {
-        let p = pair_at(row, i);
-        set_pair(row, i, o, c);
-        o = p.offset;
-        c = p.count;
-        i += 1;
-    }
-}
-
-// Each pair from k on moves to the next place.
-pub fn insert(row: &mut [u16; 256], k: usize, offset: u16, count: u16)
-    ensures { Inserts k (record { offset = offset; count = count }) row.old row.new }
-{
-    let mut o = offset;
-    let mut c = count;
-    let mut i = k;
-    while i <= 120 {
-        let p = carry_eight(row, i, o, c);
+    let left = 128usize.saturating_sub(k);
+    for j in 0..left / 8 {
+        p = carry(row, k + 8 * j, 8, p);
         if p.count == 0 {
             return;
         }
-        o = p.offset;
-        c = p.count;
-        i += 8;
     }
-    carry_rest(row, i, o, c);
+    carry(row, 128 - left % 8, left % 8, p);
 }
 
-// Each of the eight pairs after k moves to the place before it; the count of the last is returned. There is no jump in it.
-fn shift_eight(row: &mut [u16; 256], k: usize) -> u16
-    requires { k < 120 }
-    ensures { ShiftsEight k row.old row.new result }
+// Each of the n pairs after k moves to the place before it; the count of the last is returned, 0 if there is none. It is inlined, as `carry` is.
+#[inline]
+fn shift(row: &mut [u16; 256], k: usize, n: usize) -> u16
+    requires { k + n < 128 }
+    ensures { Shifts k n row.old row.new result }
 {
-    let mut c: u16 = 0;
-    let mut i: usize = 0;
-    while i < 8 {
+    let mut count = 0;
+    for i in 0..n {
         let p = pair_at(row, k + i + 1);
-        set_pair(row, k + i, p.offset, p.count);
-        c = p.count;
-        i += 1;
+        set_pair(row, k + i, p);
+        count = p.count;
     }
-    c
+    count
 }
 
-// The same for all pairs after k.
-fn shift_rest(row: &mut [u16; 256], k: usize)
-    ensures { Closes k row.old row.new }
-{
-    let mut i = k;
-    while i < 127 {
-        let p = pair_at(row, i + 1);
-        set_pair(row, i, p.offset, p.count);
-        i += 1;
-    }
-    set_pair(row, 127, 0, 0);
-}
-
-// Each pair after k moves to the place before it.
+// Each pair after k moves to the place before it: eight at a time, until an unused one was moved, and then those that are left.
 pub fn remove(row: &mut [u16; 256], k: usize)
     requires { k < 128 }
     ensures { Removes k row.old row.new }
 {
-    let mut i = k;
-    while i < 120 {
-        let count = shift_eight(row, i);
-        if count == 0 {
+    let left = 127 - k;
+    for j in 0..left / 8 {
+        if shift(row, k + 8 * j, 8) == 0 {
             return;
         }
-        i += 8;
     }
-    shift_rest(row, i);
+    shift(row, 127 - left % 8, left % 8);
+    let unused = Pair {
+        offset: 0,
+        count: 0,
+    };
+    set_pair(row, 127, unused);
 }
 
 // A row's used pairs, as that part of the row.
@@ -139,13 +99,10 @@ pub fn used_part(row: &[u16]) -> &[u16]
     requires { length row.now ≡ 256 }
     ensures { result.now ≡ used_pairs row.now }
 {
-    let mut i: usize = 0;
-    while i < 256 {
-        let count = row[i + 1];
-        if count == 0 {
-            return &row[..i];
+    for k in 0..128 {
+        if row[2 * k + 1] == 0 {
+            return &row[..2 * k];
         }
-        i += 2;
     }
     row
 }

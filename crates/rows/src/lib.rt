@@ -41,10 +41,9 @@ fn light_new(words: &mut [u64; 4], lit: u16, width: usize, first: u16, last: u16
     ensures { (unlit : ℕ → Bool) → lit ≡ tally (λ (i : ℕ). unlit i && in_span first last i) (range 0 width) →
         words.old ≡ map_row width unlit → words.new ≡ map_row width (after_span unlit first last) }
 {
-    if lit == 0 {
-        return;
+    if lit != 0 {
+        light(words, width, first, last);
     }
-    light(words, width, first, last);
 }
 
 // Lays the span of the columns `first` to `last` on a row, in place, and paints the panel into those that were unlit.
@@ -72,18 +71,17 @@ pub fn lay(
         let width = cells.len();
         let swept = sweep(row, cells, first, last, panel);
         light_new(words, swept.lit, width, first, last);
-        let count = row[1];
-        return Laid {
-            full: count == 0,
+        Laid {
+            full: row[1] == 0,
             lit: swept.lit,
             looked: swept.looked,
-        };
-    }
-    let count = row[1];
-    Laid {
-        full: count == 0,
-        lit: 0,
-        looked: 0,
+        }
+    } else {
+        Laid {
+            full: row[1] == 0,
+            lit: 0,
+            looked: 0,
+        }
     }
 }
 
@@ -92,9 +90,7 @@ pub fn used_pairs(unlit: &[u16], row: usize) -> &[u16]
     ensures { result.now ≡ used_part unlit.now row }
 {
     if unlit.len() / 256 <= row {
-        return &unlit[0..0];
+        return &unlit[..0];
     }
-    let start = 256 * row;
-    let end = start + 256;
-    used_part(&unlit[start..end])
+    used_part(&unlit[256 * row..256 * row + 256])
 }

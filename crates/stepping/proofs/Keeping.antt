@@ -78,10 +78,12 @@ module _
   ends_by a = ltb-false (suc last) (offset + count) (sym met.after_is ∙ a)
 
   pub keeps_both :
-      before ≡ true → after ≡ true → {row₁ row' : List ℕ} → row₁ ≡ written row k (prior first offset) →
-      Inserts (k + 1) (later last offset count) row₁ row' → Keeps k first last row row'
+      before ≡ true → after ≡ true → {row₁ row' : List ℕ} {p q : Segment} → p ≡ prior first offset → row₁ ≡ written row k p →
+      q ≡ later last offset count → Inserts (k + 1) q row₁ row' → Keeps k first last row row'
   unfolding remains
-  keeps_both b a {row₁} {row'} w i =
+  keeps_both b a {row₁} {row'} {p} {q} e v f j =
+      let w : row₁ ≡ written row k (prior first offset) = v ∙ ap (written row k) e in
+      let i : Inserts (k + 1) (later last offset count) row₁ row' = subst (λ (t : Segment). Inserts (k + 1) t row₁ row') f j in
       by_list (prior first offset ∷ later last offset count ∷ []) row'
       (rw (before_some first last s (starts_after b) met.starts, after_some first last s met.ends (ends_before a)))
       (λ width done rest held few.
@@ -98,22 +100,22 @@ module _
       ∙ ap row_from (sym (further done (prior first offset) (later last offset count ∷ rest))))
 
   pub keeps_before :
-      before ≡ true → after ≡ false → {row' : List ℕ} → row' ≡ written row k (prior first offset) →
+      before ≡ true → after ≡ false → {row' : List ℕ} {p : Segment} → p ≡ prior first offset → row' ≡ written row k p →
       Keeps k first last row row'
   unfolding remains
-  keeps_before b a {row'} w =
+  keeps_before b a {row'} e w =
       by_list (prior first offset ∷ []) row'
       (rw (before_some first last s (starts_after b) met.starts, after_none first last s (ends_by a)))
-      (λ width done rest held few. w ∙ held_written held (prior first offset))
+      (λ width done rest held few. w ∙ ap (written row k) e ∙ held_written held (prior first offset))
 
   pub keeps_after :
-      before ≡ false → after ≡ true → {row' : List ℕ} → row' ≡ written row k (later last offset count) →
+      before ≡ false → after ≡ true → {row' : List ℕ} {q : Segment} → q ≡ later last offset count → row' ≡ written row k q →
       Keeps k first last row row'
   unfolding remains
-  keeps_after b a {row'} w =
+  keeps_after b a {row'} e w =
       by_list (later last offset count ∷ []) row'
       (rw (before_none first last s (starts_by b), after_some first last s met.ends (ends_before a)))
-      (λ width done rest held few. w ∙ held_written held (later last offset count))
+      (λ width done rest held few. w ∙ ap (written row k) e ∙ held_written held (later last offset count))
 
   pub keeps_none : before ≡ false → after ≡ false → {row' : List ℕ} → Removes k row row' → Keeps k first last row row'
   unfolding remains

@@ -1,42 +1,32 @@
 // A span of columns is laid on one segment of a row.
 #![tactic(auto)]
 
-ghost use Rattle.std.specs.Prelude.{◌≡◌, cond, ◌+◌, ◌<◌, min, max};
+ghost use Rattle.std.specs.Prelude.{◌≡◌, ◌-◌, ◌≤◌};
 ghost use Rattle.segments.specs.Segments.{segment_at};
+ghost use Rattle.pairs.specs.Pairs.{segment};
 ghost use Rattle.stepping.specs.Step.{Overlaps, Keeps, Reached, Steps};
 
 use cells::paint;
-use pairs::{insert, pair_at, remove, set_pair};
+use pairs::{Pair, insert, pair_at, remove, set_pair};
 use positions::{Action, action_for};
 
-// The next segment to look at, whether the span may meet it, and how many cells of this one the span lit.
 #[derive(Clone, Copy)]
 pub struct Step {
-    pub next: usize,
-    pub go: bool,
+    // The next segment to look at, if the span may meet it.
+    pub next: Option<usize>,
+    // How many cells of this one the span lit.
     pub lit: u16,
 }
 
-fn larger(a: u16, b: u16) -> u16
-    ensures { result ≡ max a b }
+// The columns from `start` on and before `end`.
+fn columns(start: u16, end: u16) -> Pair
+    requires { start ≤ end }
+    ensures { segment result ≡ record { offset = start; count = end - start } }
 {
-    if a < b { b } else { a }
-}
-
-fn smaller(a: u16, b: u16) -> u16
-    ensures { result ≡ min a b }
-{
-    if a < b { a } else { b }
-}
-
-fn advanced(k: usize, before: bool) -> usize
-    requires { k < 128 }
-    ensures { result ≡ cond before (k + 1) k }
-{
-    if before {
-        return k + 1;
+    Pair {
+        offset: start,
+        count: end - start,
     }
-    k
 }
 
 // What the span leaves of segment k, which it meets. The end is read first: the columns after the span keep it.
@@ -46,20 +36,15 @@ fn keep(row: &mut [u16; 256], k: usize, first: u16, last: u16, a: Action)
 {
     let p = pair_at(row, k);
     let end = p.offset + p.count;
-    if a.before {
-        set_pair(row, k, p.offset, first - p.offset);
-        if a.after {
-            let start = last + 1;
-            insert(row, k + 1, start, end - start);
+    match (a.before, a.after) {
+        (true, true) => {
+            set_pair(row, k, columns(p.offset, first));
+            insert(row, k + 1, columns(last + 1, end));
         }
-        return;
+        (true, false) => set_pair(row, k, columns(p.offset, first)),
+        (false, true) => set_pair(row, k, columns(last + 1, end)),
+        (false, false) => remove(row, k),
     }
-    if a.after {
-        let start = last + 1;
-        set_pair(row, k, start, end - start);
-        return;
-    }
-    remove(row, k);
 }
 
 pub fn lay_on(
@@ -72,27 +57,20 @@ pub fn lay_on(
 ) -> Step
     requires { Reached k first last row.old cells.old }
     ensures { Steps k first last panel row.old cells.old
-        row.new cells.new result.next result.go result.lit }
+        row.new cells.new result.next result.lit }
 {
     let p = pair_at(row, k);
     let max = p.offset + (p.count - 1);
     let a = action_for(first, last, p.offset, max);
-    let next = advanced(k, a.before);
+    let next = a.next.then_some(k + usize::from(a.before));
     if a.paint {
-        let from = larger(first, p.offset);
-        let to = smaller(last, max);
+        let from = first.max(p.offset);
+        let to = last.min(max);
         let lit = to - from + 1;
         paint(cells, from, to, panel);
         keep(row, k, first, last, a);
-        return Step {
-            next,
-            go: a.next,
-            lit,
-        };
-    }
-    Step {
-        next,
-        go: a.next,
-        lit: 0,
+        Step { next, lit }
+    } else {
+        Step { next, lit: 0 }
     }
 }

@@ -11,17 +11,11 @@ pub struct Columns {
     pub last: u16,
 }
 
-// Every other column, from 1 up to 255. The test comes before the product, so that no k is too large for it.
+// Every other column, from 1 up to 255. The bounds come before the product, so that no k is too large for it.
 fn worst_column(k: usize) -> u16
     ensures { result ≡ worst_column k }
 {
-    if k == 0 {
-        return 1;
-    }
-    if 128 < k {
-        return 255;
-    }
-    (2 * k - 1) as u16
+    (2 * k.max(1).min(128) - 1) as u16
 }
 
 // The k-th span, from 1 on; 0 is taken as 1.
@@ -44,12 +38,10 @@ pub fn worst_looks(n: u32) -> u64
     let mut row = rows::fresh(256);
     let mut words = [0u64; 4];
     let mut looked: u64 = 0;
-    let mut k: usize = 0;
-    while k < n as usize {
-        k += 1;
-        let span = worst_span(k);
+    for k in 0..n as usize {
+        let span = worst_span(k + 1);
         let laid = rows::lay(&mut row, &mut words, &mut cells, span.first, span.last, 1);
-        looked += laid.looked as u64;
+        looked += u64::from(laid.looked);
     }
     looked
 }

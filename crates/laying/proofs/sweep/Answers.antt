@@ -1,5 +1,5 @@
 -- `sweep` meets its contract: before each turn the span has been laid on the segments before number k.
-use mathlib.Core.Path.{◌∙◌}
+use mathlib.Core.Path.{◌≡◌}
 use native.Mathlib.Omega.{arith}
 use Rattle.laying.proofs.Passing.{passes}
 use Rattle.laying.proofs.Sweeps.{sweep_ends, sweep_out, sweep_reached, sweep_fits, sweep_stops, sweep_goes}
@@ -23,36 +23,20 @@ lay_on-s-requires c = sweep_reached c.requires.0 c.pair_at-p.ensures c.loop-look
 
 pub loop-looked-preserved : goal.loop-looked-preserved
 loop-looked-preserved c =
-    sweep_goes c.requires.0 c.pair_at-p.ensures c.lay_on-s.ensures c.loop-looked.invariant.on c.loop-looked-test.true c.if-p-eq0.false c.if-s.true
+    sweep_goes c.requires.0 c.pair_at-p.ensures c.lay_on-s.ensures c.loop-looked.invariant.on c.loop-looked-test.true c.if-p-eq0.false c.in-Some.is
 
-pub shape_of-cells-else-s : goal.shape_of-cells-else-s
-shape_of-cells-else-s c = c.lay_on-s.auto.cells ∙ c.loop-looked.invariant.on.width
-
-pub returns-else-s : goal.returns-else-s
-returns-else-s c =
-    let w = sweep_stops c.requires.0 c.pair_at-p.ensures c.lay_on-s.ensures c.loop-looked.invariant.on c.loop-looked-test.true c.if-p-eq0.false c.if-s.false in
+pub returns-in_default : goal.returns-in_default
+returns-in_default c =
+    let w = sweep_stops c.requires.0 c.pair_at-p.ensures c.lay_on-s.ensures c.loop-looked.invariant.on c.loop-looked-test.true c.if-p-eq0.false c.in_default.is in
     record { laid = w.0; counted = w.1.0; looked = w.1.1 }
-
-pub shape_of-cells : goal.shape_of-cells
-shape_of-cells c = c.loop-looked.invariant.on.width
 
 pub returns : goal.returns
 returns c =
+    let e : c.loop-looked.looked ≡ 128 = omega (arith, c.segments_before-before.ensures.before.few) in
     let w = sweep_out c.requires.0 c.loop-looked.invariant.on c.loop-looked-test.false in
-    record { laid = w.0; counted = w.1.0; looked = w.1.1 }
+    record { laid = w.0; counted = w.1.0; looked = rw e at w.1.1 }
 
 -- the counts of a turn
 
 pub overflow_add-lit : goal.overflow_add-lit
 overflow_add-lit c = omega (arith, sweep_fits c.loop-looked.invariant.on c.lay_on-s.ensures)
-
--- no more than 128 are looked at
-
-pub overflow_cast-result : goal.overflow_cast-result
-overflow_cast-result c = record { fits = omega arith }
-
-pub overflow_cast-result-else-s : goal.overflow_cast-result-else-s
-overflow_cast-result-else-s c = record { fits = omega arith }
-
-pub overflow_cast-result-2 : goal.overflow_cast-result-2
-overflow_cast-result-2 c = record { fits = omega (arith, c.loop-looked.invariant.on.left) }

@@ -1,5 +1,6 @@
 -- `paint_rows` meets its contract.
 use mathlib.Core.Path.{◌∙◌}
+use native.Mathlib.Omega.{arith}
 use lib.ListN.{length}
 use Rattle.painting.proofs.Fresh.{walk_fresh}
 use Rattle.painting.proofs.Joining.{rows_writable, maps_writable, rows_painted}
@@ -9,21 +10,21 @@ pub paint_walk-requires : goal.paint_walk-requires
 paint_walk-requires c =
     record {
       paintable = c.requires.paintable;
-      cells = c.clear.auto.cells ∙ c.requires.framed.cells;
-      entries = c.clear_table.auto.booked ∙ c.requires.entries;
+      cells = c.fill-2.auto.self ∙ c.requires.framed.cells;
+      entries = c.fill.auto.self ∙ c.requires.entries;
       fresh =
           walk_fresh c.args.bytes.now c.args.sight c.args.order.now (length c.args.picture.now) (length c.args.booked.now)
-          c.requires.framed.low c.fresh-row.ensures.fresh c.requires.framed.cells c.clear.ensures c.clear_table.ensures;
+          c.requires.framed.low c.fresh-row.ensures.fresh c.requires.framed.cells (c.fill-2.ensures.after (λ y h. h)) (c.fill.ensures.after (λ y h. h));
     }
 
 pub write_rows-requires : goal.write_rows-requires
 write_rows-requires c =
-    rows_writable c.paint_walk.ensures c.requires.framed.low c.requires.framed.rows
+    (omega arith, (omega arith, rows_writable c.paint_walk.ensures c.requires.framed.low c.requires.framed.rows))
 
-pub write_maps-requires : goal.write_maps-requires
-write_maps-requires c =
-    maps_writable c.paint_walk.ensures c.requires.framed.low c.requires.framed.words
+pub write_rows-requires-2 : goal.write_rows-requires-2
+write_rows-requires-2 c =
+    (omega arith, (omega arith, maps_writable c.paint_walk.ensures c.requires.framed.low c.requires.framed.words))
 
 pub returns : goal.returns
 returns c =
-    let whole = c.paint_walk.ensures in record { painted = rows_painted whole (c.paint_walk.auto.picture ∙ c.clear.auto.cells ∙ c.requires.framed.cells) c.write_rows.ensures c.write_maps.ensures; counted = whole.booked_are }
+    let whole = c.paint_walk.ensures in record { painted = rows_painted whole (c.paint_walk.auto.picture ∙ c.fill-2.auto.self ∙ c.requires.framed.cells) c.write_rows.ensures c.write_rows-2.ensures; counted = whole.booked_are }

@@ -28,8 +28,8 @@ returns-then-first-last c =
           (λ unlit r. c.light_new.ensures unlit (e.counted unlit r) (words_now c.requires unlit r));
     }
 
-pub returns : goal.returns
-returns c =
+pub returns-else-first-last : goal.returns-else-first-last
+returns-else-first-last c =
     let w = length c.args.cells.now in
     let l = lays_nothing c.args.first c.args.last c.if-first-last.false c.args.panel in
     let n = lights_nothing c.args.first c.args.last c.if-first-last.false w in

@@ -1,31 +1,22 @@
 -- `keep` meets its contract: each of its four arms leaves what the span leaves.
-use native.Mathlib.Omega.{arith}
-use Rattle.stepping.proofs.Keeping.{starts_after, ends_before, keeps_both, keeps_before, keeps_after, keeps_none}
+use Rattle.stepping.proofs.Keeping.{keeps_both, keeps_before, keeps_after, keeps_none}
 use Rattle.stepping.proofs.keep.Goals as goal
 
-pub overflow_sub-first : goal.overflow_sub-first
-overflow_sub-first c = omega (arith, starts_after c.requires c.pair_at-p.ensures c.if-a.true)
+pub returns-in-true-true : goal.returns-in-true-true
+returns-in-true-true c =
+    keeps_both c.requires c.pair_at-p.ensures c.in-true-true.is-0 c.in-true-true.is-1 c.columns.ensures c.set_pair.ensures
+    c.columns-in-true-true.ensures c.insert.ensures
 
-pub overflow_add-start : goal.overflow_add-start
-overflow_add-start c = omega (arith, ends_before c.requires c.pair_at-p.ensures c.if-a-2.true)
+pub returns-in-true-false : goal.returns-in-true-false
+returns-in-true-false c =
+    keeps_before c.requires c.pair_at-p.ensures c.in-true-false.is-0 c.in-true-false.is-1 c.columns-in-true-false.ensures
+    c.set_pair-in-true-false.ensures
 
-pub overflow_sub-end : goal.overflow_sub-end
-overflow_sub-end c = omega (arith, ends_before c.requires c.pair_at-p.ensures c.if-a-2.true)
+pub returns-in-false-true : goal.returns-in-false-true
+returns-in-false-true c =
+    keeps_after c.requires c.pair_at-p.ensures c.in-false-true.is-0 c.in-false-true.is-1 c.columns-in-false-true.ensures
+    c.set_pair-in-false-true.ensures
 
-pub returns-then-a-2 : goal.returns-then-a-2
-returns-then-a-2 c = keeps_both c.requires c.pair_at-p.ensures c.if-a.true c.if-a-2.true c.set_pair.ensures c.insert.ensures
-
-pub returns-else-a-2 : goal.returns-else-a-2
-returns-else-a-2 c = keeps_before c.requires c.pair_at-p.ensures c.if-a.true c.if-a-2.false c.set_pair.ensures
-
-pub overflow_add-start-then-a-3 : goal.overflow_add-start-then-a-3
-overflow_add-start-then-a-3 c = omega (arith, ends_before c.requires c.pair_at-p.ensures c.if-a-3.true)
-
-pub overflow_sub-end-then-a-3 : goal.overflow_sub-end-then-a-3
-overflow_sub-end-then-a-3 c = omega (arith, ends_before c.requires c.pair_at-p.ensures c.if-a-3.true)
-
-pub returns-then-a-3 : goal.returns-then-a-3
-returns-then-a-3 c = keeps_after c.requires c.pair_at-p.ensures c.if-a.false c.if-a-3.true c.set_pair-then-a-3.ensures
-
-pub returns : goal.returns
-returns c = keeps_none c.requires c.pair_at-p.ensures c.if-a.false c.if-a-3.false c.remove.ensures
+pub returns-in-false-false : goal.returns-in-false-false
+returns-in-false-false c =
+    keeps_none c.requires c.pair_at-p.ensures c.in-false-false.is-0 c.in-false-false.is-1 c.remove.ensures

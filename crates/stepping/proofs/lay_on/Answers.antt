@@ -7,18 +7,19 @@ use Rattle.stepping.proofs.lay_on.Goals as goal
 
 pub overflow_sub-lit : goal.overflow_sub-lit
 overflow_sub-lit c =
-    omega (arith, run_placed c.requires c.pair_at-p.ensures c.action_for-a.ensures c.larger-from.ensures c.smaller-to.ensures c.if-a.true)
+    omega (arith, run_placed c.requires c.pair_at-p.ensures c.action_for-a.ensures c.max-from.ensures c.min-to.ensures c.if-a.true)
 
 pub paint-requires : goal.paint-requires
-paint-requires c = run_placed c.requires c.pair_at-p.ensures c.action_for-a.ensures c.larger-from.ensures c.smaller-to.ensures c.if-a.true
+paint-requires c = run_placed c.requires c.pair_at-p.ensures c.action_for-a.ensures c.max-from.ensures c.min-to.ensures c.if-a.true
 
 pub keep-requires : goal.keep-requires
 keep-requires c = overlaps c.requires c.pair_at-p.ensures c.action_for-a.ensures c.if-a.true
 
+pub returns-else-a : goal.returns-else-a
+returns-else-a c =
+    steps_missed c.requires c.pair_at-p.ensures c.action_for-a.ensures c.from.ensures c.then_some-next.ensures c.if-a.false
+
 pub returns-then-a : goal.returns-then-a
 returns-then-a c =
-    steps_met c.requires c.pair_at-p.ensures c.action_for-a.ensures c.advanced-next.ensures
-    c.larger-from.ensures c.smaller-to.ensures c.if-a.true c.paint.ensures c.keep.ensures
-
-pub returns : goal.returns
-returns c = steps_missed c.requires c.pair_at-p.ensures c.action_for-a.ensures c.advanced-next.ensures c.if-a.false
+    steps_met c.requires c.pair_at-p.ensures c.action_for-a.ensures c.from.ensures c.then_some-next.ensures c.max-from.ensures c.min-to.ensures
+    c.if-a.true c.paint.ensures c.keep.ensures

@@ -7,9 +7,6 @@ use Rattle.worst_case.proofs.worst_looks.Goals as goal
 pub loop-k-init : goal.loop-k-init
 loop-k-init c = starts _ refl c.fresh-row.ensures.fresh
 
-pub overflow_add-k : goal.overflow_add-k
-overflow_add-k c = record { fits = omega (arith, c.ranges.n.fits) }
-
 pub lay-laid-requires : goal.lay-laid-requires
 lay-laid-requires c = under_work c.loop-k.invariant
 
@@ -20,7 +17,7 @@ pub loop-k-preserved : goal.loop-k-preserved
 loop-k-preserved c =
     let s = c.worst_span-span.ensures in
     let e = c.lay-laid.ensures in
-    goes_on c.loop-k.invariant s.0 s.1 e.laid e.reported e.mapped c.loop-k-test.true
+    rw c.from-looked.ensures (goes_on c.loop-k.invariant s.0 s.1 e.laid e.reported e.mapped c.loop-k-test.true)
 
 pub returns : goal.returns
 returns c = let e = ends c.loop-k.invariant c.loop-k-test.false in record { laid = e.0; reached = e.1 }

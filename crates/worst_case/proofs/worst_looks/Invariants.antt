@@ -1,10 +1,6 @@
 -- `worst_looks` meets its contract: before each turn row and words are those of the spans laid so far, and the sum is theirs.
-use Prim.Native.Nat.{◌-◌}
 use Rattle.worst_case.proofs.Laying.{Laying}
 use Rattle.worst_case.proofs.worst_looks.Given as goal
 
 abbrev pub invariant-loop-k : goal.invariant-loop-k
 invariant-loop-k l = Laying l.n l.row l.words l.cells l.looked l.k
-
-abbrev pub decreases-loop-k : goal.decreases-loop-k
-decreases-loop-k l = l.n - l.k
