@@ -1,5 +1,5 @@
 -- A walk is painted patch after patch, until it is done or every row is full.
-use mathlib.Core.Path.{◌≡◌, refl, ap, subst, ◌∙◌}
+use mathlib.Core.Path.{◌≡◌, refl, subst, ◌∙◌}
 use mathlib.Core.Logic.{◌⊎◌, inl, inr, ⊎_elim}
 use mathlib.Core.Bool.{false}
 use mathlib.Core.List.{List, [], map}
@@ -7,6 +7,8 @@ use Prim.Native.Nat.{ℕ, ◌+◌, ◌≤◌, ◌<◌}
 use native.Mathlib.Omega.{arith}
 use lib.ListN.{length, get_or, take, drop, take-append-drop}
 use lib.Seq.{take_all}
+use Rattle.std.specs.Prelude.{Option, None, Some}
+use Rattle.std.specs.Option.{MatchOption, unwrap_or}
 use Rattle.model.specs.Format.{decode, patch_numbered}
 use Rattle.model.proofs.Tests.{lt_or_ge}
 use Rattle.geometry.specs.Machine.{vec_of}
@@ -17,24 +19,22 @@ use Rattle.scanline.proofs.WalkPainted.{row_full, walk_ends, full_more}
 use Rattle.conversion.specs.Booked.{Booked}
 use Rattle.conversion.specs.Progress.{WalkPainted}
 use Rattle.conversion.proofs.PatchBooked.{full_booked}
-use Rattle.traversal.specs.Walk.{FullUpTo, WholePainted}
+use Rattle.traversal.specs.Walk.{FullUpTo, FirstOpen, WholePainted}
 
--- ---- full rows, one after the other
+-- ---- the first row that is not full
 
-pub full_none : (rows : List (List ℕ)) {from height : ℕ} → from ≤ height → FullUpTo rows from height from
-full_none rows h = record { above = omega arith; below = h; full = λ j a b. absurd (omega arith) }
+module _ (rows : List (List ℕ)) where
+  abbrev pub IsFull : ℕ → Type 0
+  IsFull j = get_or (get_or rows j []) 1 0 ≡ 0
 
-pub one_more_full :
-    {rows : List (List ℕ)} {from height j : ℕ} → FullUpTo rows from height j → j < height → get_or (get_or rows j []) 1 0 ≡ 0 → FullUpTo rows from height (j + 1)
-one_more_full {rows} {from} {height} {j} inv h e =
-    record {
-      above = omega (arith, inv.above);
-      below = omega arith;
-      full = λ m a b.
-          ⊎_elim (λ (l : m < j). inv.full m a l)
-          (λ (l : j ≤ m). let z : m ≡ j = omega arith in ap (λ (n : ℕ). get_or (get_or rows n []) 1 0) z ∙ e)
-          (lt_or_ge m j);
-    }
+  pub open_found :
+      {from height : ℕ} → from ≤ height → (found : Option ℕ) →
+      MatchOption found ((j : ℕ) → from ≤ j → j < height → IsFull j)
+      (λ r. (from ≤ r) × (r < height) × (IsFull r → ⊥) × ((j : ℕ) → from ≤ j → j < r → IsFull j)) →
+      FirstOpen rows from height (unwrap_or found height)
+  open_found h None full = record { before = record { above = h; below = omega arith; full = full }; is_open = λ l. absurd (omega arith) }
+  open_found h (Some r) m =
+      record { before = record { above = m.0; below = omega (arith, m.1); full = m.3 }; is_open = λ l. m.2 }
 
 -- ---- the walk
 

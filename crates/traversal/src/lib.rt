@@ -14,12 +14,7 @@ fn first_open(rows: &[[u16; 256]; 128], from: usize, height: usize) -> usize
     requires { (from ≤ height) × (height ≤ 128) }
     ensures { FirstOpen rows.now from height result }
 {
-    for j in from..height {
-        if rows[j][1] != 0 {
-            return j;
-        }
-    }
-    height
+    (from..height).find(|j| rows[*j][1] != 0).unwrap_or(height)
 }
 
 // Patch after patch, until the walk is done or every row is full: what comes after cannot be seen.
@@ -41,10 +36,8 @@ pub fn paint_walk(
     for k in 0..order.len() {
         top = first_open(rows, top, height);
         if top == height {
-            break;
+            return;
         }
-        paint_patch(
-            scene, order, k, sight, planes, rows, words, picture, booked,
-        );
+        paint_patch(scene, order, k, sight, planes, rows, words, picture, booked);
     }
 }
