@@ -5,7 +5,7 @@
 
 ghost use Rattle.std.specs.Prelude.{◌≤◌, length};
 
-use console::{Got, read_all, tell};
+use console::read_all;
 use little_endian::u16_at;
 use row_lines::lay_and_write;
 
@@ -18,35 +18,27 @@ fn lay_spans(rt: &HostRuntime, spans: &[u8], cells: &mut [u16])
 {
     let mut row = rows::fresh(cells.len() as u16);
     let mut words = [0u64; 4];
-    let mut number: u16 = 0;
-    let mut at = 0;
-    while 4 <= spans.len() - at {
-        number += 1;
-        let first = u16_at(spans, at) as u16;
-        let last = u16_at(spans, at + 2) as u16;
-        lay_and_write(
+    for (i, span) in spans.chunks_exact(4).enumerate() {
+        let number = i as u16 + 1;
+        let _written = lay_and_write(
             &mut rt.stdout(),
             &mut rt.stderr(),
             number as u32,
             &mut row,
             &mut words,
             cells,
-            first,
-            last,
+            u16_at(span, 0) as u16,
+            u16_at(span, 2) as u16,
             number,
             b"rows_laid: a row could not be written\n",
         );
-        at += 4;
     }
 }
 
 fn main(rt: HostRuntime) {
     let mut input = [0u8; INPUT_ROOM];
-    let Got::Bytes(n) = read_all(&mut rt.stdin(), &mut input) else {
-        tell(
-            &mut rt.stderr(),
-            b"rows_laid: standard input cannot be read\n",
-        );
+    let Ok(n) = read_all(&mut rt.stdin(), &mut input) else {
+        let _told = eprintln!(rt; "rows_laid: standard input cannot be read");
         return;
     };
     if n < 2 {

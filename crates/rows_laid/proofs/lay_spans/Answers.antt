@@ -1,13 +1,13 @@
-use mathlib.Core.Path.{refl, ◌∙◌}
-use native.Mathlib.Omega.{arith}
+-- `lay_spans` is safe: a fresh row is a row, and it and its words stay such as spans are laid.
+use Rattle.std.proofs.Common.{refl, ◌∙◌, arith}
 use Rattle.rows.proofs.Laws.{work_fresh, work_laid}
 use Rattle.rows_laid.proofs.lay_spans.Goals as goal
 
-pub loop-at-init : goal.loop-at-init
-loop-at-init c = (refl, omega arith, work_fresh refl (omega (arith, c.requires.cells_len_bound)) c.fresh-row.ensures.fresh, refl)
+pub loop-i-init : goal.loop-i-init
+loop-i-init c = (work_fresh refl (omega (arith, c.requires.cells_len_bound)) c.fresh-row.ensures.fresh, refl)
 
-pub loop-at-preserved : goal.loop-at-preserved
-loop-at-preserved c =
-    let i = c.loop-at.invariant in
-    let l = c.lay_and_write in
-    (omega (arith, i.0), omega (arith, c.loop-at-test.true, i.1), work_laid i.2 l.ensures.laid l.ensures.mapped, l.auto.cells ∙ i.3)
+pub loop-i-preserved : goal.loop-i-preserved
+loop-i-preserved c =
+    let i = c.loop-i.invariant in
+    let l = c.lay_and_write-written in
+    (work_laid i.0 l.ensures.laid l.ensures.mapped, l.auto.cells ∙ i.1)
