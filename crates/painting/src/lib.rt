@@ -8,15 +8,14 @@ ghost use Rattle.conversion.specs.Booked.{Booked};
 ghost use Rattle.traversal.specs.Walk.{walk_of};
 ghost use Rattle.painting.specs.Picture.{PictureAsked, RowsPainted};
 
+use checked::CheckedScene;
 use edges::Sight;
-use format::layout::Layout;
 use lists::write_rows;
 use traversal::paint_walk;
 
 // Paints the walk on fresh rows and writes them to the lent lists when it is done.
 pub fn paint_rows(
-    bytes: &[u8],
-    l: Layout,
+    scene: &CheckedScene,
     order: &[u16],
     sight: Sight,
     picture: &mut [u16],
@@ -24,10 +23,10 @@ pub fn paint_rows(
     lit: &mut [u64],
     booked: &mut [u32],
 )
-    requires { PictureAsked bytes.now l sight order.now picture.old unlit.old lit.old booked.old }
-    ensures painted { RowsPainted (vec_of sight.eye) (line_at sight.raster) (walk_of bytes.now order.now)
+    requires { PictureAsked scene.now.bytes.now scene.now.layout sight order.now picture.old unlit.old lit.old booked.old }
+    ensures painted { RowsPainted (vec_of sight.eye) (line_at sight.raster) (walk_of scene.now.bytes.now order.now)
         sight.raster.width sight.raster.height picture.new unlit.new lit.new }
-    ensures counted { Booked (vec_of sight.eye) (line_at sight.raster) (patch_numbered (decode bytes.now)) order.now
+    ensures counted { Booked (vec_of sight.eye) (line_at sight.raster) (patch_numbered (decode scene.now.bytes.now)) order.now
         sight.raster.width booked.new sight.raster.height }
 {
     // patches that no row shows are never booked: their entries are 0 from here on, whatever the table held
@@ -36,9 +35,7 @@ pub fn paint_rows(
     let row = rows::fresh(sight.raster.width as u16);
     let mut rows = [row; 128];
     let mut words = [[0u64; 4]; 128];
-    paint_walk(
-        bytes, l, order, sight, &mut rows, &mut words, picture, booked,
-    );
+    paint_walk(scene, order, sight, &mut rows, &mut words, picture, booked);
     let height = sight.raster.height;
     write_rows(&rows, height, unlit);
     write_rows(&words, height, lit);

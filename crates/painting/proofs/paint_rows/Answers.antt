@@ -13,7 +13,7 @@ paint_walk-requires c =
       cells = c.fill-2.auto.self ∙ c.requires.framed.cells;
       entries = c.fill.auto.self ∙ c.requires.entries;
       fresh =
-          walk_fresh c.args.bytes.now c.args.sight c.args.order.now (length c.args.picture.now) (length c.args.booked.now)
+          walk_fresh c.args.scene.now.bytes.now c.args.sight c.args.order.now (length c.args.picture.now) (length c.args.booked.now)
           c.requires.framed.low c.fresh-row.ensures.fresh c.requires.framed.cells (c.fill-2.ensures.after (λ y h. h)) (c.fill.ensures.after (λ y h. h));
     }
 
