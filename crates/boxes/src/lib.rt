@@ -49,7 +49,7 @@ pub fn narrow(v: Vector) -> Corner
     }
 }
 
-// the corner of the least box of two corners where it begins
+// The lesser of two corners' parts on each axis. One function for this and the greater would be told which at each of its four calls, and be no plainer.
 fn least_corner(u: Corner, v: Corner) -> Corner
     requires { Bounded 10000 (wide u) × Bounded 10000 (wide v) }
     ensures { ExtremeCorner upward u v result }
@@ -61,7 +61,7 @@ fn least_corner(u: Corner, v: Corner) -> Corner
     }
 }
 
-// and where it ends
+// and the greater
 fn greatest_corner(u: Corner, v: Corner) -> Corner
     requires { Bounded 10000 (wide u) × Bounded 10000 (wide v) }
     ensures { ExtremeCorner downward u v result }
