@@ -7,6 +7,7 @@ use lib.Dec.{lit<}
 use lib.IntN.{ℤ, pos, ◌-ℤ◌, ◌*ℤ◌}
 use lib.Signed.{◌<ℤ◌, ◌≤ℤ◌, clash_ℤ}
 use mir.Syntax.{w64}
+use mir.Val.{to_z, of_z}
 use Rattle.integer.specs.Magnitude.{Within}
 use Rattle.integer.proofs.Magnitude.{within_stored}
 use Rattle.integer.proofs.Identity.{ring, reify}
@@ -16,7 +17,9 @@ use Rattle.model.specs.Vector.{Vec}
 use Rattle.model.specs.Patch.{Patch}
 use Rattle.geometry.specs.Machine.{Bounded}
 use Rattle.geometry.specs.declared.Vector.{Vector}
+use Rattle.boxes.specs.Boxes.{wide}
 use Rattle.boxes.specs.Enclosed.{Along}
+use Rattle.boxes.specs.declared.Corner.{Corner}
 use Rattle.box_sides.specs.Beyond.{EndBy, CornerBy, Free, rising, falling}
 use Rattle.boxes.proofs.BoxLaws.{stored, same}
 
@@ -26,12 +29,16 @@ end_within : {n low high r : ℤ} {m : ℕ} → EndBy n low high r → Within m 
 end_within (rising h e) a b = subst (Within _) (sym e) a
 end_within (falling h e) a b = subst (Within _) (sym e) b
 
--- on three axes, where each number passed through a word
+-- a number that passed through a word
+abbrev pub word : ℤ → ℤ
+word z = to_z w64 (of_z w64 z)
+
+-- on three axes, where the normal's part passed through a word and each end through two bytes
 pub corner_by :
-    {normal low high : Vector} {x y z : ℤ} → Bounded 800000000 normal → Bounded 10000 low → Bounded 10000 high →
-    EndBy (stored normal.x) (stored low.x) (stored high.x) x →
-    EndBy (stored normal.y) (stored low.y) (stored high.y) y →
-    EndBy (stored normal.z) (stored low.z) (stored high.z) z →
+    {normal : Vector} {low high : Corner} {x y z : ℤ} → Bounded 800000000 normal → Bounded 10000 (wide low) → Bounded 10000 (wide high) →
+    EndBy (word normal.x) (stored low.x) (stored high.x) x →
+    EndBy (word normal.y) (stored low.y) (stored high.y) y →
+    EndBy (word normal.z) (stored low.z) (stored high.z) z →
     CornerBy normal low high (record { x = stored x; y = stored y; z = stored z })
 corner_by n l h a b c =
     record {
@@ -42,11 +49,11 @@ corner_by n l h a b c =
   where
     axis :
         {n low high r : ℤ} → Within 800000000 n → Within 10000 low → Within 10000 high →
-        EndBy (stored n) (stored low) (stored high) r → EndBy n low high (stored r)
+        EndBy (word n) (stored low) (stored high) r → EndBy n low high (stored r)
     axis n l h (rising s e) = rising (subst (λ (z : ℤ). pos 0 ≤ℤ z) (within_stored w64 n (lit< tt)) s) (ap stored (e ∙ same l) ∙ same l)
     axis n l h (falling s e) = falling (subst (λ (z : ℤ). z ≤ℤ pos 0) (within_stored w64 n (lit< tt)) s) (ap stored (e ∙ same h) ∙ same h)
 
-pub corner_bounded : {normal low high r : Vector} {m : ℕ} → CornerBy normal low high r → Bounded m low → Bounded m high → Bounded m r
+pub corner_bounded : {normal : Vector} {low high r : Corner} {m : ℕ} → CornerBy normal low high r → Bounded m (wide low) → Bounded m (wide high) → Bounded m (wide r)
 corner_bounded c a b =
     record {
       x_within = end_within c.x_end a.x_within b.x_within;

@@ -3,51 +3,54 @@ use mathlib.Core.Path.{◌≡◌, refl, sym, ap, ap₂, subst, ◌∙◌}
 use mathlib.Core.Logic.{◌⊎◌}
 use mathlib.Core.Bool.{Bool, true, false, not, ◌&&◌, ◌||◌, beq, true≢false}
 use mathlib.Core.List.{List, [], ◌∷◌, Memᴰ}
-use Prim.Native.Nat.{ℕ, ◌≤◌, ◌<◌}
-use native.Mathlib.Omega.{arith}
 use lib.Dec.{lit<}
-use lib.IntN.{ℤ, pos, neg_ℤ, ◌-ℤ◌, +ℤ_idl}
+use lib.IntN.{ℤ, pos, neg_ℤ, ◌-ℤ◌}
 use lib.Signed.{◌<ℤ◌, ◌≤ℤ◌}
 use mir.Syntax.{w64}
 use Rattle.integer.specs.Magnitude.{Within}
 use Rattle.integer.proofs.Magnitude.{within_stored}
+use Rattle.integer.proofs.Machine.{machine, exact}
 use Rattle.integer.proofs.Identity.{ring, reify}
 use Rattle.integer.proofs.Order.{<_by, ≤_by, lt_lt_z, le_lt_z}
 use Rattle.model.specs.Lists.{any}
 use Rattle.model.specs.Patch.{Patch}
 use Rattle.model.proofs.Tests.{is_true, any_true, true_of}
 use Rattle.geometry.specs.Machine.{vec_of, NumberIs}
-use Rattle.geometry.specs.declared.Vector.{Vector}
 use Rattle.halfspaces.specs.Sides.{side_of, on_negative, on_positive, held}
-use Rattle.boxes.specs.Enclosed.{Encloses, extent_at}
-use Rattle.box_sides.specs.Beyond.{CornerBy, Free, FreeAxis, LeastNumber, AllHeld, Settled}
+use Rattle.boxes.specs.Boxes.{wide}
+use Rattle.boxes.specs.Enclosed.{Encloses}
+use Rattle.box_sides.specs.Beyond.{CornerBy, Free, FreeAxis, LeastNumber, AllHeld}
 use Rattle.boxes.specs.declared.Bounds.{Bounds}
+use Rattle.boxes.specs.declared.Corner.{Corner}
 use Rattle.boxes.specs.declared.Extent.{Extent}
 use Rattle.halfspaces.specs.declared.planes.Plane.{Plane}
 use Rattle.halfspaces.specs.declared.planes.Sides.{Sides}
 use Rattle.boxes.proofs.BoxLaws.{stored, same}
+use Rattle.box_sides.proofs.BoxCorners.{word}
 use Rattle.box_sides.proofs.BoxTold.{Told, front_beyond, behind_beyond}
 
 -- ---- what the machine finds, where each number passed through a word
 
-module _ (s : Plane) (m : Vector) {z : ℤ} (is : NumberIs 48000000000000 (side_of s (vec_of m)) z) where
-  value_is : stored z ≡ side_of s (vec_of m)
+module _ (s : Plane) (m : Corner) {z : ℤ} (is : NumberIs 48000000000000 (side_of s (vec_of (wide m))) z) where
+  value_is : word z ≡ side_of s (vec_of (wide m))
   value_is = within_stored w64 is.bounded (lit< tt) ∙ is.value
 
-  pub least_in_front : {b : Bounds} {front : Bool} → front ≡ true → CornerBy s.normal b.low b.high m → LeastNumber b s front (stored z)
+  pub least_in_front : {b : Bounds} {front : Bool} → front ≡ true → CornerBy s.normal b.low b.high m → LeastNumber b s front (word z)
   least_in_front y k = record { in_front = λ e. (m, k, sym value_is); behind = λ e. absurd (true≢false (sym y ∙ e)) }
 
-  pub least_behind :
-      {b : Bounds} {front : Bool} {r : ℤ} → front ≡ false → CornerBy s.normal b.high b.low m → stored r ≡ r → r ≡ pos 0 -ℤ stored z → LeastNumber b s front (stored r)
-  least_behind n k e d =
+  turned_is : word (pos 0 -ℤ word z) ≡ neg_ℤ z
+  turned_is = let h : Within 48000000000000 z = is.bounded in exact w64 (search machine depth 40 fits 20000, tt, refl)
+
+  pub least_behind : {b : Bounds} {front : Bool} → front ≡ false → CornerBy s.normal b.high b.low m → LeastNumber b s front (word (pos 0 -ℤ word z))
+  least_behind n k =
       record {
         in_front = λ y. absurd (true≢false (sym y ∙ n));
-        behind = λ y. (m, k, sym (e ∙ d ∙ ap (λ (v : ℤ). pos 0 -ℤ v) value_is ∙ +ℤ_idl (neg_ℤ (side_of s (vec_of m)))));
+        behind = λ y. (m, k, sym (turned_is ∙ ap neg_ℤ is.value));
       }
 
 pub free_stored :
     {n low high il ih : ℤ} {r : Bool} → Within 800000000 n → Within 10000 low → Within 10000 high → Within 10000 il → Within 10000 ih →
-    FreeAxis (stored n) (stored low) (stored high) (stored il) (stored ih) r → r ≡ true → Free n low high il ih
+    FreeAxis (word n) (stored low) (stored high) (stored il) (stored ih) r → r ≡ true → Free n low high il ih
 free_stored {n} {low} {high} {il} {ih} a b c d e f y =
     let g = f.says y in
     record {
@@ -104,26 +107,9 @@ module _ (s : Plane) (wanted : Sides) where
           (any_passes (on_negative s) p.corners b.one_above_lem.1 (lt_lt_z (turned-< (side_of s b.one_above_lem.0) b.one_above_lem.2)) ∙ sym (n ∙ ap not y))
           (none_passes (on_positive s) p.corners (λ c m. le_lt_z (turned-≤ (side_of s c) (b.none_below c m))) ∙ sym y)
 
--- ---- the extent of a node
-
-module _ {nodes k : ℕ} {boxes : List ℤ} (s : Plane) (wanted : Sides) where
-  pub settled_none : nodes ≤ k → Settled nodes k boxes s wanted true
-  settled_none h = record { a_node = λ e. absurd (true≢false e); says = λ e i. absurd (omega arith) }
-
-  pub settled_by : {e : Extent} {r : Bool} → k < nodes → e ≡ extent_at boxes k → AllHeld e s wanted r → Settled nodes k boxes s wanted r
-  settled_by h e held =
-      record {
-        a_node = λ n. h;
-        says = λ y i p f. held.says y p (subst (λ (c : Extent). Encloses c p) (sym e) f);
-      }
-
 -- two sides that differ
 pub opposite : (a b : Bool) → beq a b ≡ false → a ≡ not b
 opposite true true e = e
 opposite true false e = refl
 opposite false true e = refl
 opposite false false e = sym e
-
--- a test that says no promises nothing
-pub nothing_said : {A : Type 0} → false ≡ true → A
-nothing_said e = absurd (true≢false (sym e))

@@ -10,7 +10,9 @@ use Rattle.model.specs.Patch.{Patch}
 use Rattle.geometry.specs.Machine.{vec_of}
 use Rattle.geometry.specs.declared.Vector.{Vector}
 use Rattle.halfspaces.specs.Sides.{side_of}
+use Rattle.boxes.specs.Boxes.{wide}
 use Rattle.boxes.specs.Enclosed.{Encloses}
+use Rattle.boxes.specs.declared.Corner.{Corner}
 use Rattle.box_sides.specs.Beyond.{CornerBy, Free, SomeFree, x_free, y_free, z_free}
 use Rattle.boxes.specs.declared.Extent.{Extent}
 use Rattle.halfspaces.specs.declared.planes.Plane.{Plane}
@@ -91,19 +93,19 @@ module _ {e : Extent} {p : Patch} (i : Encloses e p) where
   z_in : (c : Vec) → Memᴰ c p.corners → (e.outer.low.z ≤ℤ c.z) × (c.z ≤ℤ e.outer.high.z)
   z_in c j = let b = i.corners_in c j in (b.low_most.z_most, b.high_least.z_most)
 
-  pub front_beyond : (s : Plane) {m : Vector} → CornerBy s.normal e.outer.low e.outer.high m → Told e s.normal (side_of s (vec_of m)) → Beyond (side_of s) p
+  pub front_beyond : (s : Plane) {m : Corner} → CornerBy s.normal e.outer.low e.outer.high m → Told e s.normal (side_of s (vec_of (wide m))) → Beyond (side_of s) p
   front_beyond s {m} k =
-      told (side_of s) _ _ _ (front_sum s (vec_of m)) (front_part (λ (c : Vec). c.x) x_in i.x_along k.x_end)
+      told (side_of s) _ _ _ (front_sum s (vec_of (wide m))) (front_part (λ (c : Vec). c.x) x_in i.x_along k.x_end)
       (front_part (λ (c : Vec). c.y) y_in i.y_along k.y_end)
       (front_part (λ (c : Vec). c.z) z_in i.z_along k.z_end)
       i.x_along.up.0
       i.x_along.up.1
 
   pub behind_beyond :
-      (s : Plane) {m : Vector} → CornerBy s.normal e.outer.high e.outer.low m → Told e s.normal (neg_ℤ (side_of s (vec_of m))) →
+      (s : Plane) {m : Corner} → CornerBy s.normal e.outer.high e.outer.low m → Told e s.normal (neg_ℤ (side_of s (vec_of (wide m)))) →
       Beyond (λ (c : Vec). neg_ℤ (side_of s c)) p
   behind_beyond s {m} k =
-      told (λ (c : Vec). neg_ℤ (side_of s c)) _ _ _ (behind_sum s (vec_of m)) (behind_part (λ (c : Vec). c.x) x_in i.x_along k.x_end)
+      told (λ (c : Vec). neg_ℤ (side_of s c)) _ _ _ (behind_sum s (vec_of (wide m))) (behind_part (λ (c : Vec). c.x) x_in i.x_along k.x_end)
       (behind_part (λ (c : Vec). c.y) y_in i.y_along k.y_end)
       (behind_part (λ (c : Vec). c.z) z_in i.z_along k.z_end)
       i.x_along.up.0

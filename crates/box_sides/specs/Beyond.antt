@@ -3,8 +3,10 @@ use Rattle.std.specs.Prelude.{◌≡◌, ◌⊎◌, Bool, true, false, List, ℕ
 use Rattle.model.specs.Patch.{Patch}
 use Rattle.geometry.specs.Machine.{vec_of}
 use Rattle.geometry.specs.declared.Vector.{Vector}
+use Rattle.boxes.specs.Boxes.{wide}
 use Rattle.boxes.specs.Enclosed.{Encloses, extent_at}
 use Rattle.boxes.specs.declared.Bounds.{Bounds}
+use Rattle.boxes.specs.declared.Corner.{Corner}
 use Rattle.boxes.specs.declared.Extent.{Extent}
 use Rattle.halfspaces.specs.Sides.{side_of, held}
 use Rattle.halfspaces.specs.declared.planes.Plane.{Plane}
@@ -15,7 +17,7 @@ pub data EndBy (n low high r : ℤ) : Type 0 where
   rising : pos 0 ≤ℤ n → r ≡ low → EndBy n low high r
   falling : n ≤ℤ pos 0 → r ≡ high → EndBy n low high r
 
-pub record CornerBy (normal low high r : Vector) : Type 0 where
+pub record CornerBy (normal : Vector) (low high r : Corner) : Type 0 where
   pub x_end : EndBy normal.x low.x high.x r.x
   pub y_end : EndBy normal.y low.y high.y r.y
   pub z_end : EndBy normal.z low.z high.z r.z
@@ -40,14 +42,14 @@ pub record FreeSays (e : Extent) (normal : Vector) (r : Bool) : Type 0 where
 
 -- r is the number of the box's corner that the normal chooses: its side number for the front, else the opposite
 pub record LeastNumber (b : Bounds) (s : Plane) (front : Bool) (r : ℤ) : Type 0 where
-  pub in_front : front ≡ true → (m : Vector) × CornerBy s.normal b.low b.high m × (side_of s (vec_of m) ≡ r)
-  pub behind : front ≡ false → (m : Vector) × CornerBy s.normal b.high b.low m × (neg_ℤ (side_of s (vec_of m)) ≡ r)
+  pub in_front : front ≡ true → (m : Corner) × CornerBy s.normal b.low b.high m × (side_of s (vec_of (wide m)) ≡ r)
+  pub behind : front ≡ false → (m : Corner) × CornerBy s.normal b.high b.low m × (neg_ℤ (side_of s (vec_of (wide m))) ≡ r)
 
 -- yes is said only where every patch enclosed is held
 pub record AllHeld (e : Extent) (s : Plane) (wanted : Sides) (r : Bool) : Type 0 where
   pub says : r ≡ true → (p : Patch) → Encloses e p → held s wanted p ≡ true
 
 -- no is said only where there is a node k, and yes only where every patch in its extent is held
-pub record Settled (nodes k : ℕ) (boxes : List ℤ) (s : Plane) (wanted : Sides) (r : Bool) : Type 0 where
+pub record Settled (nodes k : ℕ) (boxes : List Extent) (s : Plane) (wanted : Sides) (r : Bool) : Type 0 where
   pub a_node : r ≡ false → k < nodes
   pub says : r ≡ true → k < nodes → (p : Patch) → Encloses (extent_at boxes k) p → held s wanted p ≡ true

@@ -2,31 +2,28 @@
 #![tactic(auto)]
 
 ghost use Rattle.geometry.specs.Machine.{Bounded};
-ghost use Rattle.boxes.specs.Boxes.{BoxBounded};
+ghost use Rattle.boxes.specs.Boxes.{wide, BoxBounded};
 ghost use Rattle.boxes.specs.Enclosed.{ExtentBounded, ChildExtent};
 ghost use Rattle.halfspaces.specs.Sides.{PlaneBounded};
 ghost use Rattle.box_sides.specs.Beyond.{EndBy, CornerBy, FreeAxis, FreeSays, LeastNumber, AllHeld, Settled};
 
-use boxes::{Bounds, Extent, extent_at};
+use boxes::{Bounds, Corner, Extent, wide};
 use geometry::Vector;
 use halfspaces::planes::{Plane, Sides, side_of};
 
 // the end of an axis where n · c is least
-fn end_by(n: i64, low: i64, high: i64) -> i64
+fn end_by(n: i64, low: i16, high: i16) -> i16
     ensures { EndBy n low high result }
 {
-    if n < 0 {
-        return high;
-    }
-    low
+    if n < 0 { high } else { low }
 }
 
 // the corner of a box where normal · c is least; with low and high exchanged, where it is greatest
-fn corner_by(normal: Vector, low: Vector, high: Vector) -> Vector
-    requires { Bounded 800000000 normal × Bounded 10000 low × Bounded 10000 high }
+fn corner_by(normal: Vector, low: Corner, high: Corner) -> Corner
+    requires { Bounded 800000000 normal × Bounded 10000 (wide low) × Bounded 10000 (wide high) }
     ensures { CornerBy normal low high result }
 {
-    Vector {
+    Corner {
         x: end_by(normal.x, low.x, high.x),
         y: end_by(normal.y, low.y, high.y),
         z: end_by(normal.z, low.z, high.z),
@@ -34,22 +31,10 @@ fn corner_by(normal: Vector, low: Vector, high: Vector) -> Vector
 }
 
 // along this axis, which the normal is not square to, no patch lies in an end of the outer box: each reaches down and up from the ends
-fn free_axis(n: i64, low: i64, high: i64, down: i64, up: i64) -> bool
+fn free_axis(n: i64, low: i16, high: i16, down: i16, up: i16) -> bool
     ensures { FreeAxis n low high down up result }
 {
-    if up <= low {
-        return false;
-    }
-    if high <= down {
-        return false;
-    }
-    if n < 0 {
-        return true;
-    }
-    if 0 < n {
-        return true;
-    }
-    false
+    low < up && down < high && n != 0
 }
 
 // there is such an axis, so that no patch lies wholly in a plane that only touches the outer box
@@ -59,13 +44,9 @@ fn some_free(e: Extent, normal: Vector) -> bool
 {
     let o = e.outer;
     let i = e.inner;
-    if free_axis(normal.x, o.low.x, o.high.x, i.low.x, i.high.x) {
-        return true;
-    }
-    if free_axis(normal.y, o.low.y, o.high.y, i.low.y, i.high.y) {
-        return true;
-    }
-    free_axis(normal.z, o.low.z, o.high.z, i.low.z, i.high.z)
+    free_axis(normal.x, o.low.x, o.high.x, i.low.x, i.high.x)
+        || free_axis(normal.y, o.low.y, o.high.y, i.low.y, i.high.y)
+        || free_axis(normal.z, o.low.z, o.high.z, i.low.z, i.high.z)
 }
 
 // the least number in a box: of the side numbers for the front, else of their opposites
@@ -74,11 +55,10 @@ fn least_number(b: Bounds, plane: Plane, front: bool) -> i64
     ensures { LeastNumber b plane front result }
 {
     if front {
-        let c = corner_by(plane.normal, b.low, b.high);
-        return side_of(plane, c);
+        side_of(plane, wide(corner_by(plane.normal, b.low, b.high)))
+    } else {
+        -side_of(plane, wide(corner_by(plane.normal, b.high, b.low)))
     }
-    let c = corner_by(plane.normal, b.high, b.low);
-    arithmetic::difference(0, side_of(plane, c))
 }
 
 // all patches enclosed have corners on just the side that is wanted, or on that and the plane
@@ -90,22 +70,13 @@ fn all_held(e: Extent, plane: Plane, wanted: Sides) -> bool
         return false;
     }
     let z = least_number(e.outer, plane, wanted.positive);
-    if 0 < z {
-        return true;
-    }
-    if z < 0 {
-        return false;
-    }
-    some_free(e, plane.normal)
+    0 < z || z == 0 && some_free(e, plane.normal)
 }
 
 // nothing at and below node k is left to look at: there is no such node, or its extent answers for all
-pub fn settled(nodes: usize, k: usize, plane: Plane, wanted: Sides, boxes: &[i16]) -> bool
+pub fn settled(nodes: usize, k: usize, plane: Plane, wanted: Sides, boxes: &[Extent]) -> bool
     requires { PlaneBounded plane × ChildExtent nodes k boxes.now }
     ensures { Settled nodes k boxes.now plane wanted result }
 {
-    if nodes <= k {
-        return true;
-    }
-    all_held(extent_at(boxes, k), plane, wanted)
+    nodes <= k || all_held(boxes[k], plane, wanted)
 }

@@ -1,19 +1,21 @@
 -- Boxes, and what lies in them.
-use mathlib.Core.Path.{◌≡◌, ap, subst, ◌∙◌}
+use mathlib.Core.Path.{◌≡◌, sym, subst, ◌∙◌}
 use mathlib.Core.Logic.{◌⊎◌, inl, inr}
+use mathlib.Core.Bool.{Bool, true, false, cond}
 use lib.Dec.{lit<}
 use lib.IntN.{ℤ}
-use mir.Syntax.{w16, w64}
+use lib.Signed.{lt_z, ◌≤ℤ◌, ≤ℤ_refl}
+use mir.Syntax.{w16}
 use mir.Val.{to_z, of_z}
-use lib.Signed.{≤ℤ_refl}
+use Rattle.std.specs.Int.{int_max, int_min}
 use Rattle.integer.specs.Magnitude.{Within}
 use Rattle.integer.proofs.Magnitude.{within_stored}
 use Rattle.integer.proofs.Order.{≤ℤ_trans}
 use Rattle.model.specs.Vector.{Vec}
 use Rattle.geometry.specs.Machine.{vec_of, Bounded}
-use Rattle.geometry.specs.declared.Vector.{Vector}
-use Rattle.boxes.specs.Boxes.{PartsAtMost, InBox, Covers, BoxBounded, Extreme, ExtremeCorner, upward, downward, Joined, Common}
+use Rattle.boxes.specs.Boxes.{wide, PartsAtMost, InBox, Covers, BoxBounded, Extreme, ExtremeCorner, upward, downward, Joined, Common}
 use Rattle.boxes.specs.declared.Bounds.{Bounds}
+use Rattle.boxes.specs.declared.Corner.{Corner}
 
 pub at_most_refl : (u : Vec) → PartsAtMost u u
 at_most_refl u = record { x_most = ≤ℤ_refl u.x; y_most = ≤ℤ_refl u.y; z_most = ≤ℤ_refl u.z }
@@ -23,7 +25,7 @@ at_most_trans h k =
     record { x_most = ≤ℤ_trans h.x_most k.x_most; y_most = ≤ℤ_trans h.y_most k.y_most; z_most = ≤ℤ_trans h.z_most k.z_most }
 
 pub covers_refl : (b : Bounds) → Covers b b
-covers_refl b = record { low_most = at_most_refl (vec_of b.low); high_least = at_most_refl (vec_of b.high) }
+covers_refl b = record { low_most = at_most_refl (vec_of (wide b.low)); high_least = at_most_refl (vec_of (wide b.high)) }
 
 pub covers_trans : {a b c : Bounds} → Covers a b → Covers b c → Covers a c
 covers_trans h k =
@@ -33,64 +35,53 @@ pub in_wider : {b r : Bounds} {c : Vec} → Covers b r → InBox b c → InBox r
 in_wider h i =
     record { low_most = at_most_trans h.low_most i.low_most; high_least = at_most_trans i.high_least h.high_least }
 
--- a number that passed through a word
+-- ---- the first of two corners in an order of numbers
+
+-- a part passes through two bytes
 abbrev pub stored : ℤ → ℤ
-stored z = to_z w64 (of_z w64 z)
+stored z = to_z w16 (of_z w16 z)
 
 pub same : {z : ℤ} → Within 10000 z → stored z ≡ z
-same h = within_stored w64 h (lit< tt)
-
--- the same of two bytes
-pub kept : {z r : ℤ} → Within 10000 z → r ≡ stored z → to_z w16 (of_z w16 r) ≡ z
-kept h e = ap (λ (n : ℤ). to_z w16 (of_z w16 n)) (e ∙ same h) ∙ within_stored w16 h (lit< tt)
-
--- ---- the first of two numbers in an order of numbers
+same h = within_stored w16 h (lit< tt)
 
 module _ (before : ℤ → ℤ → Type 0) where
-  pub is_extreme :
-      {a b r m : ℤ} → r ≡ m → Within 10000 m → (m ≡ a) ⊎ (m ≡ b) → before m a → before m b → Extreme before a b r
-  is_extreme e h o k l = rw e (record { to_first = k; to_second = l; one_of = o; small = h })
+  extreme : {a b r : ℤ} → Within 10000 a → Within 10000 b → before r (stored a) → before r (stored b) → (r ≡ stored a) ⊎ (r ≡ stored b) → Extreme before a b (stored r)
+  extreme {a} {b} {r} h k f g o =
+      let one : (r ≡ a) ⊎ (r ≡ b) = elim o [ inl e ↦ inl (e ∙ same h) | inr e ↦ inr (e ∙ same k) ] in
+      let small : Within 10000 r = elim one [ inl e ↦ subst (Within 10000) (sym e) h | inr e ↦ subst (Within 10000) (sym e) k ] in
+      rw (same small) (record { to_first = subst (before r) (same h) f; to_second = subst (before r) (same k) g; one_of = one; small = small })
 
-  -- where each number passed through a word
-  extreme_stored :
-      {a b r : ℤ} → Within 10000 a → Within 10000 b → Extreme before (stored a) (stored b) r → Extreme before a b (stored r)
-  extreme_stored {a} {b} {r} h k l =
-      is_extreme (same l.small) l.small (one_stored l.one_of) (subst (before r) (same h) l.to_first)
-      (subst (before r) (same k) l.to_second)
-    where
-      one_stored : (r ≡ stored a) ⊎ (r ≡ stored b) → (r ≡ a) ⊎ (r ≡ b)
-      one_stored (inl e) = inl (e ∙ same h)
-      one_stored (inr e) = inr (e ∙ same k)
-
-  pub extreme_corner :
-      {u v : Vector} {x y z : ℤ} → Bounded 10000 u → Bounded 10000 v →
-      Extreme before (stored u.x) (stored v.x) x →
-      Extreme before (stored u.y) (stored v.y) y →
-      Extreme before (stored u.z) (stored v.z) z →
-      ExtremeCorner before u v (record { x = stored x; y = stored y; z = stored z })
-  extreme_corner h k a b c =
-      record {
-        x_extreme = extreme_stored h.x_within k.x_within a;
-        y_extreme = extreme_stored h.y_within k.y_within b;
-        z_extreme = extreme_stored h.z_within k.z_within c;
-      }
-
-  extreme_bounded : {u v r : Vector} → ExtremeCorner before u v r → Bounded 10000 r
+  extreme_bounded : {u v r : Corner} → ExtremeCorner before u v r → Bounded 10000 (wide r)
   extreme_bounded l = record { x_within = l.x_extreme.small; y_within = l.y_extreme.small; z_within = l.z_extreme.small }
+
+either : {r x y : ℤ} (t : Bool) → r ≡ cond t x y → (r ≡ x) ⊎ (r ≡ y)
+either true e = inl e
+either false e = inr e
+
+turned : {r x y : ℤ} → (r ≡ x) ⊎ (r ≡ y) → (r ≡ y) ⊎ (r ≡ x)
+turned (inl e) = inr e
+turned (inr e) = inl e
+
+-- what the library's `min` and `max` say
+pub least : {a b r : ℤ} → Within 10000 a → Within 10000 b → r ≡ int_min (stored a) (stored b) → r ≤ℤ stored a → r ≤ℤ stored b → Extreme upward a b (stored r)
+least {a} {b} h k e f g = extreme upward h k f g (turned (either (lt_z (stored b) (stored a)) e))
+
+pub greatest : {a b r : ℤ} → Within 10000 a → Within 10000 b → r ≡ int_max (stored a) (stored b) → stored a ≤ℤ r → stored b ≤ℤ r → Extreme downward a b (stored r)
+greatest {a} {b} h k e f g = extreme downward h k f g (either (lt_z (stored b) (stored a)) e)
 
 -- ---- two boxes
 
-module _ {u v r : Vector} where
-  first_above : ExtremeCorner upward u v r → PartsAtMost (vec_of r) (vec_of u)
+module _ {u v r : Corner} where
+  first_above : ExtremeCorner upward u v r → PartsAtMost (vec_of (wide r)) (vec_of (wide u))
   first_above l = record { x_most = l.x_extreme.to_first; y_most = l.y_extreme.to_first; z_most = l.z_extreme.to_first }
 
-  second_above : ExtremeCorner upward u v r → PartsAtMost (vec_of r) (vec_of v)
+  second_above : ExtremeCorner upward u v r → PartsAtMost (vec_of (wide r)) (vec_of (wide v))
   second_above l = record { x_most = l.x_extreme.to_second; y_most = l.y_extreme.to_second; z_most = l.z_extreme.to_second }
 
-  first_below : ExtremeCorner downward u v r → PartsAtMost (vec_of u) (vec_of r)
+  first_below : ExtremeCorner downward u v r → PartsAtMost (vec_of (wide u)) (vec_of (wide r))
   first_below l = record { x_most = l.x_extreme.to_first; y_most = l.y_extreme.to_first; z_most = l.z_extreme.to_first }
 
-  second_below : ExtremeCorner downward u v r → PartsAtMost (vec_of v) (vec_of r)
+  second_below : ExtremeCorner downward u v r → PartsAtMost (vec_of (wide v)) (vec_of (wide r))
   second_below l = record { x_most = l.x_extreme.to_second; y_most = l.y_extreme.to_second; z_most = l.z_extreme.to_second }
 
 module _ {b c r : Bounds} where

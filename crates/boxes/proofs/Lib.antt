@@ -1,3 +1,2 @@
--- What boxes hold, and how they stand in the list.
+-- What boxes hold.
 pub mod BoxLaws
-mod BoxStores

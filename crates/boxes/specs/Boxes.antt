@@ -1,10 +1,15 @@
 -- Boxes along the axes.
-use Rattle.std.specs.Prelude.{◌≡◌, ◌⊎◌, List, ℕ, ◌+◌, ◌*◌, ℤ, pos, ◌≤ℤ◌, get_or}
+use Rattle.std.specs.Prelude.{◌≡◌, ◌⊎◌, ℤ, ◌≤ℤ◌}
 use Rattle.integer.specs.Magnitude.{Within}
 use Rattle.model.specs.Vector.{Vec}
 use Rattle.geometry.specs.Machine.{vec_of, Bounded}
 use Rattle.geometry.specs.declared.Vector.{Vector}
 use Rattle.boxes.specs.declared.Bounds.{Bounds}
+use Rattle.boxes.specs.declared.Corner.{Corner}
+
+-- the same point, in wider numbers
+abbrev pub wide : Corner → Vector
+wide c = record { x = c.x; y = c.y; z = c.z }
 
 -- on no axis is u above v
 pub record PartsAtMost (u v : Vec) : Type 0 where
@@ -14,17 +19,17 @@ pub record PartsAtMost (u v : Vec) : Type 0 where
 
 -- the point c lies in the box b
 pub record InBox (b : Bounds) (c : Vec) : Type 0 where
-  pub low_most : PartsAtMost (vec_of b.low) c
-  pub high_least : PartsAtMost c (vec_of b.high)
+  pub low_most : PartsAtMost (vec_of (wide b.low)) c
+  pub high_least : PartsAtMost c (vec_of (wide b.high))
 
 -- what lies in the box b lies in the box r
 pub record Covers (b r : Bounds) : Type 0 where
-  pub low_most : PartsAtMost (vec_of r.low) (vec_of b.low)
-  pub high_least : PartsAtMost (vec_of b.high) (vec_of r.high)
+  pub low_most : PartsAtMost (vec_of (wide r.low)) (vec_of (wide b.low))
+  pub high_least : PartsAtMost (vec_of (wide b.high)) (vec_of (wide r.high))
 
 pub record BoxBounded (b : Bounds) : Type 0 where
-  pub low_bounded : Bounded 10000 b.low
-  pub high_bounded : Bounded 10000 b.high
+  pub low_bounded : Bounded 10000 (wide b.low)
+  pub high_bounded : Bounded 10000 (wide b.high)
 
 -- ---- the box of two boxes
 
@@ -36,7 +41,7 @@ pub record Extreme (before : ℤ → ℤ → Type 0) (a b r : ℤ) : Type 0 wher
   pub small : Within 10000 r
 
 -- the same on each axis
-pub record ExtremeCorner (before : ℤ → ℤ → Type 0) (u v r : Vector) : Type 0 where
+pub record ExtremeCorner (before : ℤ → ℤ → Type 0) (u v r : Corner) : Type 0 where
   pub x_extreme : Extreme before u.x v.x r.x
   pub y_extreme : Extreme before u.y v.y r.y
   pub z_extreme : Extreme before u.z v.z r.z
@@ -57,13 +62,3 @@ pub record Joined (b c r : Bounds) : Type 0 where
 pub record Common (b c r : Bounds) : Type 0 where
   pub low_is : ExtremeCorner downward b.low c.low r.low
   pub high_is : ExtremeCorner upward b.high c.high r.high
-
--- ---- points and boxes in a list of numbers
-
--- point number i: three numbers of the list
-abbrev pub point_at : List ℤ → ℕ → Vector
-point_at boxes i = record { x = get_or boxes (3 * i) (pos 0); y = get_or boxes (3 * i + 1) (pos 0); z = get_or boxes (3 * i + 2) (pos 0) }
-
--- box number i: two points
-abbrev pub box_at : List ℤ → ℕ → Bounds
-box_at boxes i = record { low = point_at boxes (2 * i); high = point_at boxes (2 * i + 1) }

@@ -5,13 +5,13 @@ use mathlib.Core.List.{List, [], ◌∷◌, Memᴰ}
 use Prim.Native.Nat.{ℕ, ◌<◌}
 use native.Mathlib.Omega.{arith}
 use native.Mathlib.Decide.{dec_lt}
-use lib.IntN.{ℤ}
 use Rattle.model.specs.Lists.{every}
 use Rattle.model.specs.Patch.{Patch}
 use Rattle.model.specs.Tree.{contents}
 use Rattle.model.specs.Format.{decode, patch_numbered}
 use Rattle.model.proofs.Ranges.{of_map}
 use Rattle.format.specs.declared.layout.Layout.{Layout}
+use Rattle.boxes.specs.declared.Extent.{Extent}
 use Rattle.checked.specs.Checked.{tree_below}
 use Rattle.checked.proofs.Nodes.{no_node}
 use Rattle.halfspaces.specs.Sides.{held}
@@ -21,7 +21,7 @@ use Rattle.box_sides.specs.Beyond.{Settled}
 use Rattle.division.specs.Division.{Against}
 use Rattle.division.proofs.Branches.{patches_below, every_leaf}
 
-module _ {bytes : List ℕ} {l : Layout} {boxes : List ℤ} {k : ℕ} {s : Plane} (a : Against bytes l s boxes) (wanted : Sides) where
+module _ {bytes : List ℕ} {l : Layout} {boxes : List Extent} {k : ℕ} {s : Plane} (a : Against bytes l s boxes) (wanted : Sides) where
   pub settled_held : {r : Bool} → Settled l.nodes k boxes s wanted r → r ≡ true → true ≡ every (held s wanted) (patches_below bytes k)
   settled_held settled y = go (dec_lt k l.nodes)
     where

@@ -1,5 +1,5 @@
 -- Question 9 at one node, and what is known where it is asked.
-use Rattle.std.specs.Prelude.{Bool, ◌&&◌, List, map, ℕ, ◌+◌, ◌≤◌, ℤ}
+use Rattle.std.specs.Prelude.{Bool, ◌&&◌, List, map, ℕ, ◌+◌, ◌≤◌}
 use Rattle.model.specs.Lists.{every, range}
 use Rattle.model.specs.Vector as model
 use Rattle.model.specs.Vector.{turned_over}
@@ -9,18 +9,19 @@ use Rattle.model.specs.Format.{decode, patch_numbered}
 use Rattle.geometry.specs.Machine.{plane_of}
 use Rattle.format.specs.declared.records.Node.{Node}
 use Rattle.format.specs.declared.layout.Layout.{Layout}
+use Rattle.boxes.specs.declared.Extent.{Extent}
 use Rattle.checked.specs.Checked.{Checked, PointsBounded, tree_below}
 use Rattle.extents.specs.Extents.{ExtentsFrom}
 use Rattle.halfspaces.specs.Sides.{PlaneAsked}
 use Rattle.halfspaces.specs.declared.planes.Plane.{Plane}
 
 -- a checked scene with the extents of all nodes, and a plane that its patches are held against
-pub record Against (bytes : List ℕ) (l : Layout) (r : Plane) (boxes : List ℤ) : Type 0 where
+pub record Against (bytes : List ℕ) (l : Layout) (r : Plane) (boxes : List Extent) : Type 0 where
   pub asked : PlaneAsked bytes l r
   pub extents : ExtentsFrom bytes l 0 boxes
 
 -- a checked scene with the extents of all nodes, and one of its nodes
-pub record NodeAsked (bytes : List ℕ) (l : Layout) (n : Node) (boxes : List ℤ) : Type 0 where
+pub record NodeAsked (bytes : List ℕ) (l : Layout) (n : Node) (boxes : List Extent) : Type 0 where
   pub scene : Checked bytes l
   pub extents : ExtentsFrom bytes l 0 boxes
   pub points : PointsBounded n

@@ -12,6 +12,7 @@ ghost use Rattle.division.specs.Division.{Against, NodeAsked, node_divides};
 ghost use Rattle.halfspaces.specs.Sides.{held};
 
 use box_sides::settled;
+use boxes::Extent;
 use checked::node;
 use extents::fill_extents;
 use format::layout::Layout;
@@ -26,70 +27,41 @@ fn subtree_held(
     k: usize,
     plane: Plane,
     wanted: Sides,
-    boxes: &[i16],
+    boxes: &[Extent],
 ) -> bool
     requires { Against bytes.now l plane boxes.now × (k < l.nodes) }
     ensures { result ≡ every (held plane wanted) (map (patch_numbered (decode bytes.now)) (contents (tree_below bytes.now k))) }
 {
     let n = node(bytes, l, k);
-    if !run_held(bytes, l, n.patches.first, n.patches.count, plane, wanted) {
-        return false;
-    }
-    if !settled(l.nodes, n.positive, plane, wanted, boxes) {
-        if !subtree_held(bytes, l, n.positive, plane, wanted, boxes) {
-            return false;
-        }
-    }
-    if settled(l.nodes, n.negative, plane, wanted, boxes) {
-        return true;
-    }
-    subtree_held(bytes, l, n.negative, plane, wanted, boxes)
+    run_held(bytes, l, n.patches.first, n.patches.count, plane, wanted)
+        && (settled(l.nodes, n.positive, plane, wanted, boxes)
+            || subtree_held(bytes, l, n.positive, plane, wanted, boxes))
+        && (settled(l.nodes, n.negative, plane, wanted, boxes)
+            || subtree_held(bytes, l, n.negative, plane, wanted, boxes))
 }
 
 // question 9 at one node
-fn node_divides(bytes: &[u8], l: Layout, n: Node, boxes: &[i16]) -> bool
+fn node_divides(bytes: &[u8], l: Layout, n: Node, boxes: &[Extent]) -> bool
     requires { NodeAsked bytes.now l n boxes.now }
     ensures { result ≡ node_divides bytes.now n }
 {
     let plane = plane_of(n);
-    let on = Sides {
-        negative: false,
-        positive: false,
-    };
-    if !run_held(bytes, l, n.patches.first, n.patches.count, plane, on) {
-        return false;
-    }
-    let front = Sides {
-        negative: false,
-        positive: true,
-    };
-    if !settled(l.nodes, n.positive, plane, front, boxes) {
-        if !subtree_held(bytes, l, n.positive, plane, front, boxes) {
-            return false;
-        }
-    }
-    let back = Sides {
-        negative: true,
-        positive: false,
-    };
-    if settled(l.nodes, n.negative, plane, back, boxes) {
-        return true;
-    }
-    subtree_held(bytes, l, n.negative, plane, back, boxes)
+    run_held(bytes, l, n.patches.first, n.patches.count, plane, Sides::ON)
+        && (settled(l.nodes, n.positive, plane, Sides::FRONT, boxes)
+            || subtree_held(bytes, l, n.positive, plane, Sides::FRONT, boxes))
+        && (settled(l.nodes, n.negative, plane, Sides::BACK, boxes)
+            || subtree_held(bytes, l, n.negative, plane, Sides::BACK, boxes))
 }
 
 // question 9 at every node: after question 5 the tree has them all
-fn nodes_divide(bytes: &[u8], l: Layout, boxes: &[i16]) -> bool
+fn nodes_divide(bytes: &[u8], l: Layout, boxes: &[Extent]) -> bool
     requires { Checked bytes.now l × ExtentsFrom bytes.now l 0 boxes.now }
     ensures { result ≡ divides (map_tree (patch_numbered (decode bytes.now)) (tree_below bytes.now 0)) }
 {
-    let n = l.nodes;
-    let mut k = 0;
-    while k < n {
+    for k in 0..l.nodes {
         if !node_divides(bytes, l, node(bytes, l, k), boxes) {
             return false;
         }
-        k += 1;
     }
     true
 }
@@ -99,7 +71,7 @@ pub fn planes_divide(bytes: &[u8], l: Layout) -> bool
     requires { Checked bytes.now l }
     ensures { result ≡ planes_divide (decode bytes.now) }
 {
-    let mut boxes = [0i16; 12288];
+    let mut boxes = [Extent::default(); 1024];
     fill_extents(bytes, l, &mut boxes);
     nodes_divide(bytes, l, &boxes)
 }

@@ -6,7 +6,7 @@ use mathlib.Core.List.{List, Memᴰ}
 use Prim.Native.Nat.{ℕ, zero, suc, ◌+◌, ◌-◌, ◌≤◌, ◌<◌}
 use native.Mathlib.Nat.{add-zero}
 use native.Mathlib.Omega.{arith}
-use borrow.Author.Count.{below_none, below_more}
+use borrow.Author.Count.{below_more}
 use lib.IntN.{ℤ}
 use lib.Signed.{◌≤ℤ◌}
 use Rattle.integer.proofs.Order.{≤ℤ_trans, ≡→≤}
@@ -21,15 +21,13 @@ use Rattle.format.specs.Layout.{corner_number}
 use Rattle.format.specs.declared.layout.Layout.{Layout}
 use Rattle.format.specs.declared.records.Run.{Run}
 use Rattle.checked.specs.Checked.{CornersAre}
-use Rattle.boxes.specs.Boxes.{InBox, Covers, BoxBounded, Extreme, upward, downward, Joined, Common}
+use Rattle.boxes.specs.Boxes.{wide, InBox, Covers, BoxBounded, Extreme, upward, downward, Joined, Common}
 use Rattle.extents.specs.Extents.{Widened, takes_corner, Wider, takes_patch, PatchTaken}
 use Rattle.boxes.specs.Enclosed.{Along, Encloses, ExtentBounded}
 use Rattle.boxes.specs.declared.Bounds.{Bounds}
+use Rattle.boxes.specs.declared.Corner.{Corner}
 use Rattle.boxes.specs.declared.Extent.{Extent}
 use Rattle.boxes.proofs.BoxLaws.{at_most_refl, covers_refl, covers_trans, in_wider, joined_first, joined_second, joined_bounded, common_first, common_second, common_bounded}
-
-pub wider_refl : (e : Extent) → Wider e e
-wider_refl e = record { outer_covers = covers_refl e.outer; inner_covers = covers_refl e.inner }
 
 pub wider_trans : {e f g : Extent} → Wider e f → Wider f g → Wider e g
 wider_trans h k = record { outer_covers = covers_trans h.outer_covers k.outer_covers; inner_covers = covers_trans k.inner_covers h.inner_covers }
@@ -49,69 +47,47 @@ encloses_wider h e =
       z_along = along_less i.low_most.z_most i.high_least.z_most e.z_along;
     }
 
-module _ {e f : Extent} {o i : Bounds} (j : Joined e.outer f.outer o) (m : Common e.inner f.inner i) where
-  pub extent_first : Wider e (record { outer = o; inner = i })
-  extent_first = record { outer_covers = joined_first j; inner_covers = common_first m }
-
-  pub extent_second : Wider f (record { outer = o; inner = i })
-  extent_second = record { outer_covers = joined_second j; inner_covers = common_second m }
-
-  pub extent_bounded : ExtentBounded (record { outer = o; inner = i })
-  extent_bounded = record { outer_bounded = joined_bounded j; inner_bounded = common_bounded m }
+-- a corner of the scene in two bytes a part
+pub narrowed : {u : Vec} {v : Vector} {c : Corner} → wide c ≡ v → VectorIs 10000 u v → VectorIs 10000 u (wide c)
+narrowed {u} e h = subst (VectorIs 10000 u) (sym e) h
 
 -- ---- one thing after another taken in
 
--- while `count` things are taken in: the first i are
-pub record Widening {X : Type 0} (wider : X → X → Type 0) (good : X → Type 0) (takes : X → ℕ → Type 0) (count : ℕ) (b r : X) (i : ℕ) : Type 0 where
-  pub most : i ≤ count
-  pub widened : Widened wider good takes b r i
-
-module _ {X : Type 0} {wider : X → X → Type 0} {good : X → Type 0} {takes : X → ℕ → Type 0} {count : ℕ} {b : X} where
-  pub widening_none : wider b b → good b → Widening wider good takes count b b 0
-  widening_none w h = record { most = omega arith; widened = record { covers = w; bounded = h; each = below_none _ } }
-
-  widening_more :
+module _ {X : Type 0} {wider : X → X → Type 0} {good : X → Type 0} {takes : X → ℕ → Type 0} {b : X} where
+  widened_more :
       ((r s : X) → wider b r → wider r s → wider b s) →
       ((r s : X) (j : ℕ) → wider r s → takes r j → takes s j) →
       {r s : X} {i : ℕ} →
-      Widening wider good takes count b r i →
-      i < count →
+      Widened wider good takes b r i →
       wider r s →
       good s →
       takes s i →
-      Widening wider good takes count b s (i + 1)
-  widening_more trans kept {r} {s} {i} w m h bounded t =
+      Widened wider good takes b s (i + 1)
+  widened_more trans kept {r} {s} {i} w h bounded t =
       record {
-        most = omega arith;
-        widened =
-            record {
-              covers = trans r s w.widened.covers h;
-              bounded = bounded;
-              each = below_more _ i (λ j l. kept r s j h (w.widened.each j l)) t;
-            };
+        covers = trans r s w.covers h;
+        bounded = bounded;
+        each = below_more _ i (λ j l. kept r s j h (w.each j l)) t;
       }
 
-  pub widening_all : {r : X} {i : ℕ} → Widening wider good takes count b r i → count ≤ i → Widened wider good takes b r count
-  widening_all {r} {i} w h = let e : i ≡ count = omega (arith, w.most) in subst (Widened wider good takes b r) e w.widened
-
-module _ (bytes : List ℕ) (l : Layout) (first : ℕ) {count i : ℕ} where
+module _ (bytes : List ℕ) (l : Layout) (first : ℕ) {i : ℕ} where
   -- a corner, which is a box of its own
   pub corner_taken :
-      {b r s : Bounds} {c : Vector} → Widening Covers BoxBounded (takes_corner bytes l first) count b r i → i < count →
-      VectorIs 10000 (corner_number bytes l (first + i)) c → Joined r (record { low = c; high = c }) s →
-      Widening Covers BoxBounded (takes_corner bytes l first) count b s (i + 1)
-  corner_taken {s = s} {c = c} w h is j =
-      widening_more (λ r s. covers_trans) (λ r s j. in_wider) w h (joined_first j) (joined_bounded j)
+      {b r s : Bounds} {c : Corner} → Widened Covers BoxBounded (takes_corner bytes l first) b r i →
+      VectorIs 10000 (corner_number bytes l (first + i)) (wide c) → Joined r (record { low = c; high = c }) s →
+      Widened Covers BoxBounded (takes_corner bytes l first) b s (i + 1)
+  corner_taken {s = s} {c = c} w is j =
+      widened_more (λ r s. covers_trans) (λ r s j. in_wider) w (joined_first j) (joined_bounded j)
       (subst (InBox s) is.value
-      (in_wider (joined_second j) (record { low_most = at_most_refl (vec_of c); high_least = at_most_refl (vec_of c) })))
+      (in_wider (joined_second j) (record { low_most = at_most_refl (vec_of (wide c)); high_least = at_most_refl (vec_of (wide c)) })))
 
   -- a patch
   pub patch_taken :
-      {e r s : Extent} → Widening Wider ExtentBounded (takes_patch bytes first) count e r i → i < count →
+      {e r s : Extent} → Widened Wider ExtentBounded (takes_patch bytes first) e r i →
       PatchTaken r s (patch_numbered (decode bytes) (first + i)) →
-      Widening Wider ExtentBounded (takes_patch bytes first) count e s (i + 1)
-  patch_taken w h t =
-      widening_more (λ r s. wider_trans) (λ r s j. encloses_wider) w h t.wider t.bounded t.encloses
+      Widened Wider ExtentBounded (takes_patch bytes first) e s (i + 1)
+  patch_taken w t =
+      widened_more (λ r s. wider_trans) (λ r s j. encloses_wider) w t.wider t.bounded t.encloses
 
 -- two corners show how far a patch reaches along an axis
 two_along :
@@ -128,14 +104,14 @@ two_along axis {p} {u} {v} {low} {high} {low'} {high'} m n l g h k = record { up
     sinks (inr e) = (v, n, ≤ℤ_trans (≡→≤ (sym e)) h)
 
 pub patch_extent :
-    (bytes : List ℕ) (l : Layout) {e : Extent} {k : ℕ} {run : Run} {a b c : Vector} {both wide three outer inner : Bounds} →
-    CornersAre bytes l k run → VectorIs 10000 (corner_number bytes l run.first) a → VectorIs 10000 (corner_number bytes l (run.first + 1)) b →
-    VectorIs 10000 (corner_number bytes l (run.first + 2)) c →
+    (bytes : List ℕ) (l : Layout) {e : Extent} {k : ℕ} {run : Run} {a b c : Corner} {both grown three outer inner : Bounds} →
+    CornersAre bytes l k run → VectorIs 10000 (corner_number bytes l run.first) (wide a) → VectorIs 10000 (corner_number bytes l (run.first + 1)) (wide b) →
+    VectorIs 10000 (corner_number bytes l (run.first + 2)) (wide c) →
     Joined (record { low = a; high = a }) (record { low = c; high = c }) both →
-    Joined e.outer both wide → Joined wide (record { low = b; high = b }) three →
+    Joined e.outer both grown → Joined grown (record { low = b; high = b }) three →
     Widened Covers BoxBounded (takes_corner bytes l (run.first + 3)) three outer (run.count - 3) → Common e.inner both inner →
     PatchTaken e (record { outer = outer; inner = inner }) (patch_numbered (decode bytes) k)
-patch_extent bytes l {e} {k} {run} {a} {b} {c} {both} {wide} {three} {outer} {inner} are ea eb ec j o t w m =
+patch_extent bytes l {e} {k} {run} {a} {b} {c} {both} {grown} {three} {outer} {inner} are ea eb ec j o t w m =
     record {
       wider = record { outer_covers = covers_trans (joined_first o) wide_in; inner_covers = common_first m };
       bounded = record { outer_bounded = w.bounded; inner_bounded = common_bounded m };
@@ -157,16 +133,16 @@ patch_extent bytes l {e} {k} {run} {a} {b} {c} {both} {wide} {three} {outer} {in
     s : Covers inner both
     s = common_second m
 
-    wide_in : Covers wide outer
+    wide_in : Covers grown outer
     wide_in = covers_trans (joined_first t) w.covers
 
     both_in : Covers both outer
     both_in = covers_trans (joined_second o) wide_in
 
     -- a corner that was joined by itself
-    own : {v : Vector} (i : ℕ) → Covers (record { low = v; high = v }) outer → VectorIs 10000 (corner_number bytes l i) v → InBox outer (corner_number bytes l i)
+    own : {v : Corner} (i : ℕ) → Covers (record { low = v; high = v }) outer → VectorIs 10000 (corner_number bytes l i) (wide v) → InBox outer (corner_number bytes l i)
     own {v} i h is =
-        subst (InBox outer) is.value (in_wider h (record { low_most = at_most_refl (vec_of v); high_least = at_most_refl (vec_of v) }))
+        subst (InBox outer) is.value (in_wider h (record { low_most = at_most_refl (vec_of (wide v)); high_least = at_most_refl (vec_of (wide v)) }))
 
     moved : {i i' : ℕ} → i ≡ i' → InBox outer (corner_number bytes l i) → InBox outer (corner_number bytes l i')
     moved e h = subst (λ (i : ℕ). InBox outer (corner_number bytes l i)) e h
@@ -182,8 +158,8 @@ patch_extent bytes l {e} {k} {run} {a} {b} {c} {both} {wide} {three} {outer} {in
     corner_of_lem {i} low high e =
         rw (are.corners_are, e) (Memᴰ.map (corner_number bytes l) ((in_range run.first run.count i).1 (low, high)))
 
-    first : Memᴰ (vec_of a) p.corners
+    first : Memᴰ (vec_of (wide a)) p.corners
     first = corner_of_lem (omega arith) (omega (arith, are.three)) ea.value
 
-    third : Memᴰ (vec_of c) p.corners
+    third : Memᴰ (vec_of (wide c)) p.corners
     third = corner_of_lem (omega arith) (omega (arith, are.three)) ec.value

@@ -1,6 +1,6 @@
 -- The extents of the nodes: boxes that bound the corners of the patches at and below them.
 use mathlib.Core.List.{List, Memᴰ}
-use Rattle.std.specs.Prelude.{ℕ, ◌+◌, ◌*◌, ◌≤◌, ◌<◌, ℤ, length}
+use Rattle.std.specs.Prelude.{ℕ, ◌+◌, ◌≤◌, ◌<◌, length}
 use Rattle.model.specs.Patch.{Patch}
 use Rattle.model.specs.Tree.{contents}
 use Rattle.model.specs.Format.{decode, patch_numbered}
@@ -47,12 +47,12 @@ pub record ExtentOf (bytes : List ℕ) (k : ℕ) (e : Extent) : Type 0 where
   pub encloses : (j : ℕ) → Memᴰ j (contents (tree_below bytes k)) → Encloses e (patch_numbered (decode bytes) j)
 
 -- the nodes from number `first` on have their extents in the list
-pub record ExtentsFrom (bytes : List ℕ) (l : Layout) (first : ℕ) (boxes : List ℤ) : Type 0 where
-  pub room : 12 * l.nodes ≤ length boxes
+pub record ExtentsFrom (bytes : List ℕ) (l : Layout) (first : ℕ) (boxes : List Extent) : Type 0 where
+  pub room : l.nodes ≤ length boxes
   pub each : (k : ℕ) → first ≤ k → k < l.nodes → ExtentOf bytes k (extent_at boxes k)
 
 -- a checked scene whose nodes after k have their extents in the list
-pub record NodeAsked (bytes : List ℕ) (l : Layout) (k : ℕ) (boxes : List ℤ) : Type 0 where
+pub record NodeAsked (bytes : List ℕ) (l : Layout) (k : ℕ) (boxes : List Extent) : Type 0 where
   pub scene : Checked bytes l
   pub a_node : k < l.nodes
   pub below : ExtentsFrom bytes l (k + 1) boxes
@@ -68,7 +68,7 @@ pub record PatchAsked (bytes : List ℕ) (l : Layout) (k : ℕ) : Type 0 where
   pub a_patch : k < l.patches
 
 -- e widened to r by the extent of a child, where the child is a node
-pub record ChildJoined (nodes k : ℕ) (boxes : List ℤ) (e r : Extent) : Type 0 where
+pub record ChildJoined (nodes k : ℕ) (boxes : List Extent) (e r : Extent) : Type 0 where
   pub wider : Wider e r
   pub wider_child : k < nodes → Wider (extent_at boxes k) r
   pub bounded : ExtentBounded r

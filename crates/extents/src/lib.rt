@@ -1,17 +1,16 @@
 // The extents of the nodes: boxes that bound all corners at and below them.
 #![tactic(auto)]
 
-ghost use Rattle.std.specs.Prelude.{◌*◌, ◌≤◌, length};
+ghost use Rattle.std.specs.Prelude.{◌≤◌, length};
 ghost use Rattle.model.specs.Format.{decode, patch_numbered};
 ghost use Rattle.checked.specs.Checked.{Checked};
 ghost use Rattle.boxes.specs.Boxes.{Covers, BoxBounded};
 ghost use Rattle.extents.specs.Extents.{Widened, takes_corner, Wider, takes_patch, PatchTaken, ExtentOf, ExtentsFrom, NodeAsked, RunAsked, PatchAsked, ChildJoined};
 ghost use Rattle.boxes.specs.Enclosed.{ExtentBounded, ChildExtent};
 
-use boxes::{Bounds, Extent, common_box, extent_at, joined_box, store_extent};
+use boxes::{Bounds, Corner, Extent, common_box, joined_box, narrow};
 use checked::{corner, corner_run, node};
 use format::layout::Layout;
-use geometry::Vector;
 
 // the box widened to the corners of a run
 fn corners_box(bytes: &[u8], l: Layout, first: usize, count: usize, b: Bounds) -> Bounds
@@ -19,11 +18,9 @@ fn corners_box(bytes: &[u8], l: Layout, first: usize, count: usize, b: Bounds) -
     ensures { Widened Covers BoxBounded (takes_corner bytes.now l first) b result count }
 {
     let mut wide = b;
-    let mut i = 0;
-    while i < count {
-        let c = corner(bytes, l, first + i);
+    for i in 0..count {
+        let c = narrow(corner(bytes, l, first + i));
         wide = joined_box(wide, Bounds { low: c, high: c });
-        i += 1;
     }
     wide
 }
@@ -34,9 +31,9 @@ fn patch_extent(bytes: &[u8], l: Layout, k: usize, e: Extent) -> Extent
     ensures { PatchTaken e result (patch_numbered (decode bytes.now) k) }
 {
     let run = corner_run(bytes, l, k);
-    let a = corner(bytes, l, run.first);
-    let b = corner(bytes, l, run.first + 1);
-    let c = corner(bytes, l, run.first + 2);
+    let a = narrow(corner(bytes, l, run.first));
+    let b = narrow(corner(bytes, l, run.first + 1));
+    let c = narrow(corner(bytes, l, run.first + 2));
     let both = joined_box(Bounds { low: a, high: a }, Bounds { low: c, high: c });
     let wide = joined_box(joined_box(e.outer, both), Bounds { low: b, high: b });
     Extent {
@@ -51,23 +48,21 @@ fn patches_extent(bytes: &[u8], l: Layout, first: usize, count: usize, e: Extent
     ensures { Widened Wider ExtentBounded (takes_patch bytes.now first) e result count }
 {
     let mut wide = e;
-    let mut i = 0;
-    while i < count {
+    for i in 0..count {
         wide = patch_extent(bytes, l, first + i, wide);
-        i += 1;
     }
     wide
 }
 
 // the extent widened to that of a child, if there is one
-fn with_child(e: Extent, boxes: &[i16], nodes: usize, k: usize) -> Extent
+fn with_child(e: Extent, boxes: &[Extent], nodes: usize, k: usize) -> Extent
     requires { ExtentBounded e × ChildExtent nodes k boxes.now }
     ensures { ChildJoined nodes k boxes.now e result }
 {
     if nodes <= k {
         return e;
     }
-    let child = extent_at(boxes, k);
+    let child = boxes[k];
     Extent {
         outer: joined_box(e.outer, child.outer),
         inner: common_box(e.inner, child.inner),
@@ -78,12 +73,12 @@ fn with_child(e: Extent, boxes: &[i16], nodes: usize, k: usize) -> Extent
 fn no_extent() -> Extent
     ensures { ExtentBounded result }
 {
-    let lowest = Vector {
+    let lowest = Corner {
         x: -10000,
         y: -10000,
         z: -10000,
     };
-    let highest = Vector {
+    let highest = Corner {
         x: 10000,
         y: 10000,
         z: 10000,
@@ -101,7 +96,7 @@ fn no_extent() -> Extent
 }
 
 // the extent of node k, from its own patches and the extents of its children
-fn node_extent(bytes: &[u8], l: Layout, k: usize, boxes: &[i16]) -> Extent
+fn node_extent(bytes: &[u8], l: Layout, k: usize, boxes: &[Extent]) -> Extent
     requires { NodeAsked bytes.now l k boxes.now }
     ensures { ExtentOf bytes.now k result }
 {
@@ -113,14 +108,12 @@ fn node_extent(bytes: &[u8], l: Layout, k: usize, boxes: &[i16]) -> Extent
 
 // The extents of all nodes, from the last one down: children have higher numbers than their parents. An extent need not be the least one, which costs time
 // alone; what the list holds after the last node's is left free.
-pub fn fill_extents(bytes: &[u8], l: Layout, boxes: &mut [i16])
-    requires { Checked bytes.now l × (12 * l.nodes ≤ length boxes.old) }
+pub fn fill_extents(bytes: &[u8], l: Layout, boxes: &mut [Extent])
+    requires { Checked bytes.now l × (l.nodes ≤ length boxes.old) }
     ensures { ExtentsFrom bytes.now l 0 boxes.new }
 {
-    let mut k = l.nodes;
-    while 0 < k {
-        k -= 1;
+    for k in (0..l.nodes).rev() {
         let e = node_extent(bytes, l, k, boxes);
-        store_extent(boxes, k, e);
+        boxes[k] = e;
     }
 }

@@ -1,6 +1,6 @@
 -- On which sides of a plane a patch has corners, and what that says of it.
-use mathlib.Core.Path.{◌≡◌, refl, sym, ap, ap₂, subst, ◌∙◌}
-use mathlib.Core.Bool.{Bool, true, false, ◌&&◌, ◌||◌, beq, or-false}
+use mathlib.Core.Path.{◌≡◌, sym, ap, ap₂, ◌∙◌}
+use mathlib.Core.Bool.{Bool, ◌&&◌, ◌||◌, beq, or-false}
 use mathlib.Core.List.{List, [], ◌∷◌, map, map-append}
 use Prim.Native.Nat.{ℕ, ◌+◌, ◌≤◌, ◌<◌}
 use native.Mathlib.Omega.{arith}
@@ -19,12 +19,6 @@ use Rattle.halfspaces.specs.declared.planes.Sides.{Sides}
 use Rattle.model.proofs.Tests.{any_append}
 use Rattle.model.proofs.Ranges.{range_append}
 
-pub left_true : {a : Bool} (b : Bool) → a ≡ true → b ≡ (a && b)
-left_true b e = rw e
-
-pub left_false : {a : Bool} (b : Bool) → a ≡ false → a ≡ (a && b)
-left_false b e = rw e
-
 -- ---- the corners of a patch, one after another
 
 -- while the corners of a run are looked at: on which sides the first k lie
@@ -42,9 +36,6 @@ first_corners corner test first k =
     ∙ ap (λ (b : Bool). any test (map corner (range first k)) || b) (or-false (test (corner (first + k))))
 
 module _ {s : Plane} {corner : ℕ → Vec} {first count : ℕ} where
-  pub found_none : Found s corner first count (record { negative = false; positive = false }) 0
-  found_none = record { most = omega arith; sides = record { negative_is = refl; positive_is = refl } }
-
   pub found_more :
       {found r : Sides} {k : ℕ} {z : ℤ} →
       Found s corner first count found k →
@@ -61,11 +52,6 @@ module _ {s : Plane} {corner : ℕ → Vec} {first count : ℕ} where
               positive_is = j.positive_too ∙ ap₂ ◌||◌ f.sides.positive_is (ap (λ (x : ℤ). lt_z (pos 0) x) e) ∙ sym (first_corners corner (on_positive s) first k);
             };
       }
-
-  pub found_all : {found : Sides} {k : ℕ} → Found s corner first count found k → count ≤ k → SidesAre s (map corner (range first count)) found
-  found_all {found} {k} f h =
-      let e : k ≡ count = omega (arith, f.most) in
-      subst (λ (n : ℕ). SidesAre s (map corner (range first n)) found) e f.sides
 
 -- ---- a patch held to a plane
 

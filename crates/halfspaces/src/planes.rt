@@ -14,10 +14,28 @@ pub struct Plane {
 }
 
 // on which sides of a plane some corner of a patch lies
-#[derive(Clone, Copy)]
+#[derive(Clone, Copy, PartialEq)]
 pub struct Sides {
     pub negative: bool,
     pub positive: bool,
+}
+
+impl Sides {
+    // a patch on the plane, in front of it and behind it
+    pub const ON: Sides = Sides {
+        negative: false,
+        positive: false,
+    };
+
+    pub const FRONT: Sides = Sides {
+        negative: false,
+        positive: true,
+    };
+
+    pub const BACK: Sides = Sides {
+        negative: true,
+        positive: false,
+    };
 }
 
 pub fn plane_of(n: Node) -> Plane

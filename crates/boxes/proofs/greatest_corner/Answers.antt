@@ -1,8 +1,13 @@
 -- `boxes::greatest_corner` meets its contract, axis by axis.
-use Rattle.boxes.specs.Boxes.{downward}
-use Rattle.boxes.proofs.BoxLaws.{extreme_corner}
+use Rattle.boxes.proofs.BoxLaws.{greatest}
 use Rattle.boxes.proofs.greatest_corner.Goals as goal
 
 pub returns : goal.returns
 returns c =
-    extreme_corner downward c.requires.0 c.requires.1 c.greatest.ensures c.greatest-2.ensures c.greatest-3.ensures
+    let u = c.requires.0 in
+    let v = c.requires.1 in
+    record {
+      x_extreme = greatest u.x_within v.x_within c.max.ensures.value c.max.ensures.self_bound c.max.ensures.other_bound;
+      y_extreme = greatest u.y_within v.y_within c.max-2.ensures.value c.max-2.ensures.self_bound c.max-2.ensures.other_bound;
+      z_extreme = greatest u.z_within v.z_within c.max-3.ensures.value c.max-3.ensures.self_bound c.max-3.ensures.other_bound;
+    }

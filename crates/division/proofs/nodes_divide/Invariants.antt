@@ -1,5 +1,5 @@
 -- `division::nodes_divide` meets its contract.
-use Prim.Native.Nat.{ℕ, ◌-◌}
+use Prim.Native.Nat.{ℕ}
 use Rattle.division.specs.Division.{node_divides}
 use Rattle.model.proofs.Loops.{Passed}
 use Rattle.division.proofs.EveryNode.{node_in_hand}
@@ -7,6 +7,3 @@ use Rattle.division.proofs.nodes_divide.Given as goal
 
 abbrev pub invariant-loop-k : goal.invariant-loop-k
 invariant-loop-k l = Passed l.l.nodes (λ (j : ℕ). node_divides l.bytes (node_in_hand l.bytes j)) l.k
-
-abbrev pub decreases-loop-k : goal.decreases-loop-k
-decreases-loop-k l = l.n - l.k

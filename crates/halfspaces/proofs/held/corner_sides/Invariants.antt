@@ -1,11 +1,7 @@
 -- `halfspaces::held::corner_sides` meets its contract: while the loop runs, the sides of the first i corners are found.
-use Prim.Native.Nat.{◌-◌}
 use Rattle.format.specs.Layout.{corner_number}
 use Rattle.halfspaces.proofs.SidesFound.{Found}
 use Rattle.halfspaces.proofs.held.corner_sides.Given as goal
 
 abbrev pub invariant-loop-i : goal.invariant-loop-i
 invariant-loop-i l = Found l.plane (corner_number l.bytes l.l) l.first l.count l.found l.i
-
-abbrev pub decreases-loop-i : goal.decreases-loop-i
-decreases-loop-i l = l.count - l.i

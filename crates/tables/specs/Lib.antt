@@ -1,2 +1,0 @@
--- What the crate's contracts cite.
-pub mod Stored

@@ -1,2 +1,0 @@
-// Entries stored in a list of numbers. No code.
-#![tactic(auto)]
