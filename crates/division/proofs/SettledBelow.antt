@@ -12,7 +12,7 @@ use Rattle.model.specs.Format.{decode, patch_numbered}
 use Rattle.model.proofs.Ranges.{of_map}
 use Rattle.format.specs.declared.layout.Layout.{Layout}
 use Rattle.boxes.specs.declared.Extent.{Extent}
-use Rattle.checked.specs.Checked.{tree_below}
+use Rattle.checked.specs.Checked.{Checked, tree_below}
 use Rattle.checked.proofs.Nodes.{no_node}
 use Rattle.halfspaces.specs.Sides.{held}
 use Rattle.halfspaces.specs.declared.planes.Plane.{Plane}
@@ -21,7 +21,7 @@ use Rattle.box_sides.specs.Beyond.{Settled}
 use Rattle.division.specs.Division.{Against}
 use Rattle.division.proofs.Branches.{patches_below, every_leaf}
 
-module _ {bytes : List ℕ} {l : Layout} {boxes : List Extent} {k : ℕ} {s : Plane} (a : Against bytes l s boxes) (wanted : Sides) where
+module _ {bytes : List ℕ} {l : Layout} {boxes : List Extent} {k : ℕ} {s : Plane} (w : Checked bytes l) (a : Against bytes l s boxes) (wanted : Sides) where
   pub settled_held : {r : Bool} → Settled l.nodes k boxes s wanted r → r ≡ true → true ≡ every (held s wanted) (patches_below bytes k)
   settled_held settled y = go (dec_lt k l.nodes)
     where
@@ -35,4 +35,4 @@ module _ {bytes : List ℕ} {l : Layout} {boxes : List Extent} {k : ℕ} {s : Pl
           (every_passes (patches_below bytes k)
           (of_map (λ (p : Patch). held s wanted p ≡ true) (patch_numbered (decode bytes)) (contents (tree_below bytes k))
           (λ j m. settled.says y h (patch_numbered (decode bytes) j) ((a.extents.each k (omega arith) h).encloses j m))))
-      go (no h) = every_leaf (held s wanted) bytes k (no_node bytes l a.asked.scene k (omega arith))
+      go (no h) = every_leaf (held s wanted) bytes k (no_node bytes l w k (omega arith))

@@ -10,19 +10,18 @@ use Rattle.geometry.specs.Machine.{plane_of}
 use Rattle.format.specs.declared.records.Node.{Node}
 use Rattle.format.specs.declared.layout.Layout.{Layout}
 use Rattle.boxes.specs.declared.Extent.{Extent}
-use Rattle.checked.specs.Checked.{Checked, PointsBounded, tree_below}
+use Rattle.checked.specs.Checked.{PointsBounded, tree_below}
 use Rattle.extents.specs.Extents.{ExtentsFrom}
-use Rattle.halfspaces.specs.Sides.{PlaneAsked}
+use Rattle.halfspaces.specs.Sides.{PlaneBounded}
 use Rattle.halfspaces.specs.declared.planes.Plane.{Plane}
 
--- a checked scene with the extents of all nodes, and a plane that its patches are held against
+-- the extents of all nodes, and a plane that the patches are held against
 pub record Against (bytes : List ℕ) (l : Layout) (r : Plane) (boxes : List Extent) : Type 0 where
-  pub asked : PlaneAsked bytes l r
+  pub plane_bounded : PlaneBounded r
   pub extents : ExtentsFrom bytes l 0 boxes
 
--- a checked scene with the extents of all nodes, and one of its nodes
+-- the extents of all nodes, and one of the nodes
 pub record NodeAsked (bytes : List ℕ) (l : Layout) (n : Node) (boxes : List Extent) : Type 0 where
-  pub scene : Checked bytes l
   pub extents : ExtentsFrom bytes l 0 boxes
   pub points : PointsBounded n
   pub run_inside : n.patches.first + n.patches.count ≤ l.patches

@@ -6,7 +6,7 @@ use Rattle.model.specs.Tree.{contents}
 use Rattle.model.specs.Format.{decode, patch_numbered}
 use Rattle.format.specs.Layout.{corner_number}
 use Rattle.format.specs.declared.layout.Layout.{Layout}
-use Rattle.checked.specs.Checked.{Checked, tree_below}
+use Rattle.checked.specs.Checked.{tree_below}
 use Rattle.boxes.specs.Boxes.{InBox, Covers}
 use Rattle.boxes.specs.Enclosed.{Encloses, ExtentBounded, extent_at}
 use Rattle.boxes.specs.declared.Bounds.{Bounds}
@@ -51,21 +51,10 @@ pub record ExtentsFrom (bytes : List ℕ) (l : Layout) (first : ℕ) (boxes : Li
   pub room : l.nodes ≤ length boxes
   pub each : (k : ℕ) → first ≤ k → k < l.nodes → ExtentOf bytes k (extent_at boxes k)
 
--- a checked scene whose nodes after k have their extents in the list
+-- node k of a scene whose nodes after it have their extents in the list
 pub record NodeAsked (bytes : List ℕ) (l : Layout) (k : ℕ) (boxes : List Extent) : Type 0 where
-  pub scene : Checked bytes l
   pub a_node : k < l.nodes
   pub below : ExtentsFrom bytes l (k + 1) boxes
-
--- a checked scene, and a run of a table of n records
-pub record RunAsked (bytes : List ℕ) (l : Layout) (n first count : ℕ) : Type 0 where
-  pub scene : Checked bytes l
-  pub inside : first + count ≤ n
-
--- a checked scene, and the number of a patch
-pub record PatchAsked (bytes : List ℕ) (l : Layout) (k : ℕ) : Type 0 where
-  pub scene : Checked bytes l
-  pub a_patch : k < l.patches
 
 -- e widened to r by the extent of a child, where the child is a node
 pub record ChildJoined (nodes k : ℕ) (boxes : List Extent) (e r : Extent) : Type 0 where

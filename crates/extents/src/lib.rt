@@ -1,55 +1,54 @@
 // The extents of the nodes: boxes that bound all corners at and below them.
 #![tactic(auto)]
 
-ghost use Rattle.std.specs.Prelude.{◌≤◌, length};
+ghost use Rattle.std.specs.Prelude.{◌+◌, ◌≤◌, ◌<◌, length};
 ghost use Rattle.model.specs.Format.{decode, patch_numbered};
-ghost use Rattle.checked.specs.Checked.{Checked};
 ghost use Rattle.boxes.specs.Boxes.{Covers, BoxBounded};
-ghost use Rattle.extents.specs.Extents.{Widened, takes_corner, Wider, takes_patch, PatchTaken, ExtentOf, ExtentsFrom, NodeAsked, RunAsked, PatchAsked, ChildJoined};
+ghost use Rattle.extents.specs.Extents.{Widened, takes_corner, Wider, takes_patch, PatchTaken, ExtentOf, ExtentsFrom, NodeAsked, ChildJoined};
 ghost use Rattle.boxes.specs.Enclosed.{ExtentBounded, ChildExtent};
 
 use boxes::{Bounds, Corner, Extent, common_box, joined_box, narrow};
-use checked::{corner, corner_run, node};
-use format::layout::Layout;
+use checked::CheckedScene;
+use format::records::Run;
 
 // the box widened to the corners of a run
-fn corners_box(bytes: &[u8], l: Layout, first: usize, count: usize, b: Bounds) -> Bounds
-    requires { RunAsked bytes.now l l.corners first count × BoxBounded b }
-    ensures { Widened Covers BoxBounded (takes_corner bytes.now l first) b result count }
+fn corners_box(scene: &CheckedScene, first: usize, count: usize, b: Bounds) -> Bounds
+    requires { (first + count ≤ scene.now.layout.corners) × BoxBounded b }
+    ensures { Widened Covers BoxBounded (takes_corner scene.now.bytes.now scene.now.layout first) b result count }
 {
     let mut wide = b;
     for i in 0..count {
-        let c = narrow(corner(bytes, l, first + i));
+        let c = narrow(scene.corner(first + i));
         wide = joined_box(wide, Bounds { low: c, high: c });
     }
     wide
 }
 
 // the extent widened to a patch, whose corners are a run of 3 or more; how far it reaches is seen by two of them
-fn patch_extent(bytes: &[u8], l: Layout, k: usize, e: Extent) -> Extent
-    requires { PatchAsked bytes.now l k × ExtentBounded e }
-    ensures { PatchTaken e result (patch_numbered (decode bytes.now) k) }
+fn patch_extent(scene: &CheckedScene, k: usize, e: Extent) -> Extent
+    requires { (k < scene.now.layout.patches) × ExtentBounded e }
+    ensures { PatchTaken e result (patch_numbered (decode scene.now.bytes.now) k) }
 {
-    let run = corner_run(bytes, l, k);
-    let a = narrow(corner(bytes, l, run.first));
-    let b = narrow(corner(bytes, l, run.first + 1));
-    let c = narrow(corner(bytes, l, run.first + 2));
+    let run = scene.corner_run(k);
+    let a = narrow(scene.corner(run.first));
+    let b = narrow(scene.corner(run.first + 1));
+    let c = narrow(scene.corner(run.first + 2));
     let both = joined_box(Bounds { low: a, high: a }, Bounds { low: c, high: c });
     let wide = joined_box(joined_box(e.outer, both), Bounds { low: b, high: b });
     Extent {
-        outer: corners_box(bytes, l, run.first + 3, run.count - 3, wide),
+        outer: corners_box(scene, run.first + 3, run.count - 3, wide),
         inner: common_box(e.inner, both),
     }
 }
 
 // the extent widened to the patches of a run
-fn patches_extent(bytes: &[u8], l: Layout, first: usize, count: usize, e: Extent) -> Extent
-    requires { RunAsked bytes.now l l.patches first count × ExtentBounded e }
-    ensures { Widened Wider ExtentBounded (takes_patch bytes.now first) e result count }
+fn patches_extent(scene: &CheckedScene, run: Run, e: Extent) -> Extent
+    requires { (run.first + run.count ≤ scene.now.layout.patches) × ExtentBounded e }
+    ensures { Widened Wider ExtentBounded (takes_patch scene.now.bytes.now run.first) e result run.count }
 {
     let mut wide = e;
-    for i in 0..count {
-        wide = patch_extent(bytes, l, first + i, wide);
+    for i in 0..run.count {
+        wide = patch_extent(scene, run.first + i, wide);
     }
     wide
 }
@@ -96,24 +95,24 @@ fn no_extent() -> Extent
 }
 
 // the extent of node k, from its own patches and the extents of its children
-fn node_extent(bytes: &[u8], l: Layout, k: usize, boxes: &[Extent]) -> Extent
-    requires { NodeAsked bytes.now l k boxes.now }
-    ensures { ExtentOf bytes.now k result }
+fn node_extent(scene: &CheckedScene, k: usize, boxes: &[Extent]) -> Extent
+    requires { NodeAsked scene.now.bytes.now scene.now.layout k boxes.now }
+    ensures { ExtentOf scene.now.bytes.now k result }
 {
-    let n = node(bytes, l, k);
-    let own = patches_extent(bytes, l, n.patches.first, n.patches.count, no_extent());
-    let front = with_child(own, boxes, l.nodes, n.positive);
-    with_child(front, boxes, l.nodes, n.negative)
+    let n = scene.node(k);
+    let own = patches_extent(scene, n.patches, no_extent());
+    let front = with_child(own, boxes, scene.layout.nodes, n.positive);
+    with_child(front, boxes, scene.layout.nodes, n.negative)
 }
 
 // The extents of all nodes, from the last one down: children have higher numbers than their parents. An extent need not be the least one, which costs time
 // alone; what the list holds after the last node's is left free.
-pub fn fill_extents(bytes: &[u8], l: Layout, boxes: &mut [Extent])
-    requires { Checked bytes.now l × (l.nodes ≤ length boxes.old) }
-    ensures { ExtentsFrom bytes.now l 0 boxes.new }
+pub fn fill_extents(scene: &CheckedScene, boxes: &mut [Extent])
+    requires { scene.now.layout.nodes ≤ length boxes.old }
+    ensures { ExtentsFrom scene.now.bytes.now scene.now.layout 0 boxes.new }
 {
-    for k in (0..l.nodes).rev() {
-        let e = node_extent(bytes, l, k, boxes);
+    for k in (0..scene.layout.nodes).rev() {
+        let e = node_extent(scene, k, boxes);
         boxes[k] = e;
     }
 }

@@ -8,19 +8,12 @@ use Rattle.model.specs.Vector as model
 use Rattle.model.specs.Vector.{Vec, dot, plane_normal}
 use Rattle.model.specs.Patch.{Patch}
 use Rattle.geometry.specs.Machine.{vec_of, Bounded}
-use Rattle.format.specs.declared.layout.Layout.{Layout}
-use Rattle.checked.specs.Checked.{Checked}
 use Rattle.halfspaces.specs.declared.planes.Plane.{Plane}
 use Rattle.halfspaces.specs.declared.planes.Sides.{Sides}
 
 pub record PlaneBounded (r : Plane) : Type 0 where
   pub normal_bounded : Bounded 800000000 r.normal
   pub level_within : Within 24000000000000 r.level
-
--- a checked scene, and a plane that its patches are held against
-pub record PlaneAsked (bytes : List ℕ) (l : Layout) (r : Plane) : Type 0 where
-  pub scene : Checked bytes l
-  pub plane_bounded : PlaneBounded r
 
 -- the machine's plane r is s
 pub record PlaneIs (s : model.Plane) (r : Plane) : Type 0 where

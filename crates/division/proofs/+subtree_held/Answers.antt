@@ -12,21 +12,21 @@ use Rattle.division.proofs.+subtree_held.Goals.{then-run_held+then-settled, then
 
 pub returns-then-settled-2 : goal.returns-then-settled-2
 returns-then-settled-2 t c =
-    let front : (c.run_held.result ≡ true) × (every (held c.args.plane c.args.wanted) (patches_below c.args.bytes.now c.node-n.result.positive) ≡ true) =
+    let front : (c.run_held.result ≡ true) × (every (held c.args.plane c.args.wanted) (patches_below c.args.scene.now.bytes.now c.node-n.result.positive) ≡ true) =
     elim c.if-run_held.branch [
-      | then-run_held+then-settled w ↦ (w.if-run_held.true, sym (settled_held c.requires.0 c.args.wanted w.settled.ensures w.if-settled.true))
+      | then-run_held+then-settled w ↦ (w.if-run_held.true, sym (settled_held c.args.scene.now.checked c.requires.0 c.args.wanted w.settled.ensures w.if-settled.true))
       | then-run_held+else-settled w ↦ (w.if-run_held.true, sym w.subtree_held.ensures ∙ sym w.value-is ∙ c.if-subtree_held.true)
       | else-run_held w ↦ absurd (search (rules, w.value-is))
     ]
     in
     third_decides (every_node_lem (held c.args.plane c.args.wanted) c.node-n.ensures) c.run_held.ensures front.0 refl front.1
-    (c.if-settled-2.true ∙ settled_held c.requires.0 c.args.wanted c.settled-then-subtree_held.ensures c.if-settled-2.true)
+    (c.if-settled-2.true ∙ settled_held c.args.scene.now.checked c.requires.0 c.args.wanted c.settled-then-subtree_held.ensures c.if-settled-2.true)
 
 pub returns-else-settled-2 : goal.returns-else-settled-2
 returns-else-settled-2 t c =
-    let front : (c.run_held.result ≡ true) × (every (held c.args.plane c.args.wanted) (patches_below c.args.bytes.now c.node-n.result.positive) ≡ true) =
+    let front : (c.run_held.result ≡ true) × (every (held c.args.plane c.args.wanted) (patches_below c.args.scene.now.bytes.now c.node-n.result.positive) ≡ true) =
     elim c.if-run_held.branch [
-      | then-run_held+then-settled w ↦ (w.if-run_held.true, sym (settled_held c.requires.0 c.args.wanted w.settled.ensures w.if-settled.true))
+      | then-run_held+then-settled w ↦ (w.if-run_held.true, sym (settled_held c.args.scene.now.checked c.requires.0 c.args.wanted w.settled.ensures w.if-settled.true))
       | then-run_held+else-settled w ↦ (w.if-run_held.true, sym w.subtree_held.ensures ∙ sym w.value-is ∙ c.if-subtree_held.true)
       | else-run_held w ↦ absurd (search (rules, w.value-is))
     ]

@@ -8,8 +8,8 @@ use Rattle.division.proofs.nodes_divide.Goals as goal
 
 pub returns-then-not-node_divides : goal.returns-then-not-node_divides
 returns-then-not-node_divides c =
-    refused (nodes_asked c.requires.0) c.loop-k-test.true
-    (c.node_divides.ensures ∙ ap (λ (n : NodeRecord). node_divides c.args.bytes.now (in_hand n)) c.node.ensures.value) c.if-not-node_divides.true
+    refused (nodes_asked c.args.scene.now.checked) c.loop-k-test.true
+    (c.node_divides.ensures ∙ ap (λ (n : NodeRecord). node_divides c.args.scene.now.bytes.now (in_hand n)) c.node.ensures.value) c.if-not-node_divides.true
 
 pub returns : goal.returns
-returns c = accepted (nodes_asked c.requires.0) c.loop-k.invariant c.loop-k-test.false
+returns c = accepted (nodes_asked c.args.scene.now.checked) c.loop-k.invariant c.loop-k-test.false

@@ -6,4 +6,4 @@ use Rattle.division.proofs.EveryNode.{node_in_hand}
 use Rattle.division.proofs.nodes_divide.Given as goal
 
 abbrev pub invariant-loop-k : goal.invariant-loop-k
-invariant-loop-k l = Passed l.l.nodes (λ (j : ℕ). node_divides l.bytes (node_in_hand l.bytes j)) l.k
+invariant-loop-k l = Passed l.scene.layout.nodes (λ (j : ℕ). node_divides l.scene.bytes.now (node_in_hand l.scene.bytes.now j)) l.k

@@ -3,4 +3,4 @@ use Rattle.extents.specs.Extents.{ExtentsFrom}
 use Rattle.extents.proofs.fill_extents.Given as goal
 
 abbrev pub invariant-loop-k : goal.invariant-loop-k
-invariant-loop-k l = ExtentsFrom l.bytes l.l l.k l.boxes
+invariant-loop-k l = ExtentsFrom l.scene.bytes.now l.scene.layout l.k l.boxes

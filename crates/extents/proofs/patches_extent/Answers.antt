@@ -3,4 +3,4 @@ use Rattle.extents.proofs.ExtentLaws.{patch_taken}
 use Rattle.extents.proofs.patches_extent.Goals as goal
 
 pub loop-i-preserved : goal.loop-i-preserved
-loop-i-preserved c = patch_taken c.args.bytes.now c.args.l c.args.first c.loop-i.invariant c.patch_extent-wide.ensures
+loop-i-preserved c = patch_taken c.args.scene.now.bytes.now c.args.scene.now.layout c.args.run.first c.loop-i.invariant c.patch_extent-wide.ensures

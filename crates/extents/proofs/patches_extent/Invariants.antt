@@ -4,4 +4,4 @@ use Rattle.boxes.specs.Enclosed.{ExtentBounded}
 use Rattle.extents.proofs.patches_extent.Given as goal
 
 abbrev pub invariant-loop-i : goal.invariant-loop-i
-invariant-loop-i l = Widened Wider ExtentBounded (takes_patch l.bytes l.first) l.initial.wide l.wide l.i
+invariant-loop-i l = Widened Wider ExtentBounded (takes_patch l.scene.bytes.now l.run.first) l.initial.wide l.wide l.i
