@@ -19,11 +19,15 @@ use Rattle.camera.specs.Machine.{camera_of, view_of}
 use Rattle.geometry.specs.declared.Vector.{Vector}
 use Rattle.station.specs.Machine.{LocatedAt}
 use Rattle.format.specs.declared.layout.Layout.{Layout}
-use Rattle.format.specs.Layout.{LaidOut}
+use Rattle.checked.specs.Checked.{Checked}
+use Rattle.refusal.specs.declared.Refusal.{Refusal}
+use Rattle.refusal.specs.Refusal.{refusal_number}
+use Rattle.refusal.proofs.HandedOn.{never_done}
 use Rattle.format.proofs.Decoded.{patch_count}
 
-pub scene_says_no : (c : Call) {n : ℕ} → n ≡ scene_answer c.scene → (n ≡ 0 → ⊥) → n ≡ survey_answer c
-scene_says_no c scene f = scene ∙ sym (scene_first c (λ z. f (scene ∙ z)))
+-- a refusal of the scene is that of the call
+pub scene_says_no : (c : Call) (r : Refusal) → refusal_number r ≡ scene_answer c.scene → refusal_number r ≡ survey_answer c
+scene_says_no c r scene = scene ∙ sym (scene_first c (λ z. never_done r (scene ∙ z)))
 
 module _ (c : Call) (scene : scene_answer c.scene ≡ 0) where
   pub refused : (n : ℕ) → RefusedAt c n call_questions → n ≡ survey_answer c
@@ -33,10 +37,6 @@ module _ (c : Call) (scene : scene_answer c.scene ≡ 0) where
   accepted y = no_no c call_questions y ∙ sym (call_next c scene)
 
 -- ---- what a question said, by the code's test of its answer
-
--- questions 1 to 9
-pub scene_yes : (bytes : List ℕ) {n : ℕ} → n ≡ scene_answer bytes → n ≡ 0 → scene_answer bytes ≡ 0
-scene_yes bytes e z = sym e ∙ z
 
 -- question 15
 pub nowhere_said : {s : Station} → LocatedAt s None → station_in_range s ≡ false
@@ -56,10 +56,12 @@ view_said c located e =
 
 -- question 11, asked of the patches that the layout has
 pub lengths_said :
-    (a : Camera) (k : Lengths) {bytes : List ℕ} {l : Layout} {r : Bool} →
-    LaidOut bytes l →
+    (a : Camera) (k : Lengths) {read bytes : List ℕ} {l : Layout} {r : Bool} →
+    Checked read l →
+    read ≡ bytes →
     r ≡ lengths_fit a l.patches k →
     r ≡ lengths_fit a (length (decode bytes).patches) k
-lengths_said a k laid e = e ∙ ap (λ (n : ℕ). lengths_fit a n k) (sym (patch_count laid))
+lengths_said a k checked same e =
+    e ∙ ap (λ (n : ℕ). lengths_fit a n k) (sym (patch_count checked.laid) ∙ ap (λ (b : List ℕ). length (decode b).patches) same)
 
-pub ruleset asked = (scene_yes, nowhere_said, somewhere_said, view_said, lengths_said)
+pub ruleset asked = (nowhere_said, somewhere_said, view_said, lengths_said)

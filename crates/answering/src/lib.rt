@@ -1,59 +1,75 @@
-// The survey's answer from a station: the first question that says no, of the scene and of the call.
+// The admission of a call from a station: its scene and its eye, or the first question that says no, of the scene and of the call.
 #![tactic(auto)]
 
-ghost use Rattle.std.specs.Prelude.{◌≡◌};
+ghost use Rattle.std.specs.Prelude.{◌≡◌, IfOk};
+ghost use Rattle.model.specs.Station.{eye_of};
 ghost use Rattle.model.specs.Questions.{survey_answer};
+ghost use Rattle.geometry.specs.Machine.{vec_of};
 ghost use Rattle.camera.specs.Machine.{camera_of};
 ghost use Rattle.station.specs.Machine.{station_of};
-ghost use Rattle.contract.specs.Contract.{lengths_by, gate_call};
+ghost use Rattle.contract.specs.Contract.{gate_call};
+ghost use Rattle.refusal.specs.Refusal.{answer_of};
+ghost use Rattle.answering.specs.Lengths.{lengths_of};
 
 use call::{axes_proper, counter_below_end, lengths_fit, view_in_range};
 use camera::Camera;
-use format::layout::read_layout;
-use gate::scene_answer;
+use checked::CheckedScene;
+use gate::check_scene;
+use geometry::Vector;
+use refusal::Refusal;
 use station::{Station, locate};
 
-// The answer of the survey on these numbers: 0, or the number of the first question that says no.
-pub fn survey_answer(
-    scene: &[u8],
+// the lengths of the buffers that are lent
+#[derive(Clone, Copy)]
+pub struct Lengths {
+    pub picture: usize,
+    pub counts: usize,
+    pub patch_counts: usize,
+    pub unlit: usize,
+    pub lit: usize,
+}
+
+// a call that passed every question: its scene, and where it is seen from
+#[derive(Clone, Copy)]
+pub struct Admitted<'a> {
+    pub scene: CheckedScene<'a>,
+    pub eye: Vector,
+}
+
+pub fn admit(
+    bytes: &[u8],
     station: Station,
     camera: Camera,
-    picture_len: usize,
-    counts_len: usize,
-    patch_counts_len: usize,
-    unlit_len: usize,
-    lit_len: usize,
+    lengths: Lengths,
     counter: u32,
-) -> u32
-    ensures { result ≡ survey_answer (gate_call scene.now (station_of station) (camera_of camera) (lengths_by picture_len counts_len patch_counts_len unlit_len lit_len) counter) }
+) -> Result<Admitted<'_>, Refusal>
+    ensures answered { answer_of result ≡ survey_answer (gate_call bytes.now (station_of station) (camera_of camera) (lengths_of lengths) counter) }
+    ensures same { IfOk result (λ call. call.scene.bytes.now ≡ bytes.now) }
+    ensures eye { IfOk result (λ call. vec_of call.eye ≡ eye_of (station_of station)) }
 {
-    let answer = scene_answer(scene);
-    if answer != 0 {
-        return answer;
-    }
+    let scene = check_scene(bytes)?;
     let Some(eye) = locate(station) else {
-        return 15;
+        return Err(Refusal::Station);
     };
     if !view_in_range(eye, camera) {
-        return 10;
+        return Err(Refusal::View);
     }
     if !axes_proper(camera.axes) {
-        return 14;
+        return Err(Refusal::Axes);
     }
-    let l = read_layout(scene);
     if !lengths_fit(
         camera,
-        l.patches,
-        picture_len,
-        counts_len,
-        patch_counts_len,
-        unlit_len,
-        lit_len,
+        scene.layout.patches,
+        lengths.picture,
+        lengths.counts,
+        lengths.patch_counts,
+        lengths.unlit,
+        lengths.lit,
     ) {
-        return 11;
+        return Err(Refusal::Lengths);
     }
     if !counter_below_end(counter) {
-        return 12;
+        return Err(Refusal::Counter);
     }
-    0
+    Ok(Admitted { scene, eye })
 }

@@ -6,8 +6,9 @@ ghost use Rattle.model.specs.Questions.{survey_answer};
 ghost use Rattle.contract.specs.Contract.{axes_by, tile_by, camera_by, lent_of, lengths_by, gate_call};
 ghost use Rattle.demands.specs.Demands.{ClosestSurveyed};
 
-use answering::survey_answer;
+use answering::{Lengths, admit};
 use handed::{axes_by, camera_by, in_metres};
+use refusal::answer;
 use surveying::survey_from;
 
 // `ring_gate` from a station in metres.
@@ -57,17 +58,15 @@ pub fn ring_gate_metres(
         tile_width,
         tile_height,
     );
-    survey_answer(
-        scene,
-        station,
-        camera,
-        picture_len,
-        counts_len,
-        patch_counts_len,
-        unlit_len,
-        lit_len,
-        counter,
-    )
+    let lengths = Lengths {
+        picture: picture_len,
+        counts: counts_len,
+        patch_counts: patch_counts_len,
+        unlit: unlit_len,
+        lit: lit_len,
+    };
+    let admitted = admit(scene, station, camera, lengths, counter);
+    answer(&admitted)
 }
 
 // `ring_survey` from a station in metres.
@@ -118,7 +117,7 @@ pub fn ring_survey_metres(
         tile_width,
         tile_height,
     );
-    survey_from(
+    let done = survey_from(
         scene,
         station,
         camera,
@@ -128,5 +127,6 @@ pub fn ring_survey_metres(
         unlit,
         lit,
         counter,
-    )
+    );
+    answer(&done)
 }

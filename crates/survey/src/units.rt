@@ -6,8 +6,9 @@ ghost use Rattle.model.specs.Questions.{survey_answer};
 ghost use Rattle.contract.specs.Contract.{axes_by, tile_by, camera_by, lent_of, lengths_by, gate_call};
 ghost use Rattle.demands.specs.Demands.{ClosestSurveyed};
 
-use answering::survey_answer;
+use answering::{Lengths, admit};
 use handed::{axes_by, camera_by};
+use refusal::answer;
 use station::Station;
 use surveying::survey_from;
 
@@ -58,17 +59,15 @@ pub fn ring_gate(
         tile_width,
         tile_height,
     );
-    survey_answer(
-        scene,
-        station,
-        camera,
-        picture_len,
-        counts_len,
-        patch_counts_len,
-        unlit_len,
-        lit_len,
-        counter,
-    )
+    let lengths = Lengths {
+        picture: picture_len,
+        counts: counts_len,
+        patch_counts: patch_counts_len,
+        unlit: unlit_len,
+        lit: lit_len,
+    };
+    let admitted = admit(scene, station, camera, lengths, counter);
+    answer(&admitted)
 }
 
 // Checks the scene and paints one tile of its picture, or refuses and leaves all that is lent as it was. Width, height and lens are the window's; left and top place the tile in it, and what is lent has the tile's size.
@@ -119,7 +118,7 @@ pub fn ring_survey(
         tile_width,
         tile_height,
     );
-    survey_from(
+    let done = survey_from(
         scene,
         station,
         camera,
@@ -129,5 +128,6 @@ pub fn ring_survey(
         unlit,
         lit,
         counter,
-    )
+    );
+    answer(&done)
 }

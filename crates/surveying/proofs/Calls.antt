@@ -5,7 +5,7 @@ use Prim.Native.Nat.{ℕ, ◌<◌}
 use native.Mathlib.Omega.{arith}
 use lib.Dec.{T, ltb→lt}
 use lib.ListN.{length}
-use Rattle.std.specs.Prelude.{None, Some}
+use Rattle.std.specs.Prelude.{Result, IsErrAnd}
 use Rattle.model.specs.Vector.{Vec}
 use Rattle.model.specs.View.{View}
 use Rattle.model.specs.Station.{Station, eye_of, view_at}
@@ -22,14 +22,15 @@ use Rattle.geometry.specs.Machine.{vec_of}
 use Rattle.geometry.proofs.Sizes.{parts_bounded}
 use Rattle.camera.specs.declared.Camera.{Camera}
 use Rattle.camera.specs.Machine.{camera_of, view_of}
-use Rattle.station.specs.Machine.{LocatedAt}
+use Rattle.refusal.specs.declared.Refusal.{Refusal}
+use Rattle.refusal.specs.Refusal.{refusal_number, answer_of}
+use Rattle.refusal.proofs.HandedOn.{handed_on, never_done}
 use Rattle.contract.specs.Contract.{lent_of, call_on, results, left_by, Surveyed}
 use Rattle.contract.proofs.Refusal.{left_old}
 use Rattle.rendering.specs.Painted.{PaintingAsked, Rendered}
 
 module _
-    (bytes : List ℕ) (s : Station) (camera : Camera) (before : Lent) {n : ℕ}
-    (answer : n ≡ survey_answer (call_on bytes s (camera_of camera) before))
+    (bytes : List ℕ) (s : Station) (camera : Camera) (before : Lent)
   where
     abbrev v : View
     v = view_at s (camera_of camera)
@@ -38,17 +39,19 @@ module _
     call = call_on bytes s (camera_of camera) before
 
     -- "The first no gives its number, and nothing lent is altered."
-    pub refused : (n ≡ 0 → ⊥) → Surveyed bytes s (camera_of camera) before before n
-    refused f =
+    pub refused :
+        {T : Type 0} (r : Refusal) (result : Result T Refusal) → IsErrAnd result (λ (e : Refusal). e ≡ r) →
+        refusal_number r ≡ survey_answer call → Surveyed bytes s (camera_of camera) before before (answer_of result)
+    refused r result handed answer =
         record {
-          answered = answer;
+          answered = handed_on r result handed ∙ answer;
           left =
-              left_old (survey_answer call) (results call) before (λ z. f (answer ∙ z));
+              left_old (survey_answer call) (results call) before (λ z. never_done r (answer ∙ z));
         }
 
-    module _ (done : n ≡ 0) where
+    module _ (answer : 0 ≡ survey_answer call) where
       yes : AcceptedCall call
-      yes = (accepted_call call).0 (sym answer ∙ done)
+      yes = (accepted_call call).0 (sym answer)
 
       view : ViewBounded v
       view = view_bounded v yes.view
@@ -59,19 +62,12 @@ module _
       fitting : LengthsRight v.camera (length (decode bytes).patches) (lengths_of before)
       fitting = lengths_right v.camera (length (decode bytes).patches) (lengths_of before) yes.lengths
 
-      -- the station has an eye
-      pub somewhere : LocatedAt s None → ⊥
-      somewhere located = subst T (sym located.ranged) yes.station
-
-      module _ {eye : Vector} (located : LocatedAt s (Some eye)) where
-        -- the eye that painting sees from is the station's
-        same_eye : vec_of eye ≡ eye_of s
-        same_eye = located.eye_is
-
+      module _ {eye : Vector} (same_eye : vec_of eye ≡ eye_of s) {read : List ℕ} (same : read ≡ bytes) where
         -- what painting asks
-        pub paintable : PaintingAsked bytes eye camera before.picture before.unlit before.lit before.patch_counts before.counts
+        pub paintable : PaintingAsked read eye camera before.picture before.unlit before.lit before.patch_counts before.counts
         paintable =
-            record {
+            subst (λ (b : List ℕ). PaintingAsked b eye camera before.picture before.unlit before.lit before.patch_counts before.counts) (sym same)
+            (record {
               accepted = yes.scene;
               near = parts_bounded 10000 eye (omega arith) (subst (λ (e : Vec). T (point_in_range e)) (sym same_eye) view.point);
               aimed =
@@ -95,12 +91,13 @@ module _
                   };
               entries = fitting.booked;
               counted = fitting.entries;
-            }
+            })
 
         pub rendered_from :
-            {cells unlit lit booked totals : List ℕ} → Rendered bytes (view_of eye camera) cells unlit lit booked totals → Rendered bytes v cells unlit lit booked totals
+            {cells unlit lit booked totals : List ℕ} → Rendered read (view_of eye camera) cells unlit lit booked totals → Rendered bytes v cells unlit lit booked totals
         rendered_from {cells} {unlit} {lit} {booked} {totals} h =
-            subst (λ (e : Vec). Rendered bytes (record { eye = e; camera = camera_of camera }) cells unlit lit booked totals) same_eye h
+            subst (λ (b : List ℕ). Rendered b v cells unlit lit booked totals) same
+            (subst (λ (e : Vec). Rendered read (record { eye = e; camera = camera_of camera }) cells unlit lit booked totals) same_eye h)
 
       -- what the counter's next value asks
       pub counter_asked : T (tile_in_window v.camera.window v.camera.tile) × (before.counter < 4294967295)
@@ -115,8 +112,8 @@ module _
       accepted r e =
           let p = r.painted in
           record {
-            answered = sym done ∙ answer;
+            answered = answer;
             left =
                 (λ i. lent_of (p.cells_are i) (r.counts_are i) (p.booked_are i) (p.unlit_are i) (p.lit_are i) (e i))
-                ∙ ap (λ (m : ℕ). left_by m (results call) before) (sym done ∙ answer);
+                ∙ ap (λ (m : ℕ). left_by m (results call) before) answer;
           }

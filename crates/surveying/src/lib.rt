@@ -4,16 +4,18 @@
 ghost use Rattle.camera.specs.Machine.{camera_of};
 ghost use Rattle.station.specs.Machine.{station_of};
 ghost use Rattle.contract.specs.Contract.{lent_of, Surveyed};
+ghost use Rattle.refusal.specs.Refusal.{answer_of};
 
-use answering::survey_answer;
+use answering::{Lengths, admit};
 use call::next_counter;
 use camera::Camera;
+use refusal::Refusal;
 use rendering::paint;
-use station::{Station, locate};
+use station::Station;
 
 // Checks the scene and paints its picture. Nothing lent is written before the last question is answered.
 pub fn survey_from(
-    scene: &[u8],
+    bytes: &[u8],
     station: Station,
     camera: Camera,
     picture: &mut [u16],
@@ -22,33 +24,23 @@ pub fn survey_from(
     unlit: &mut [u16],
     lit: &mut [u64],
     counter: &mut u32,
-) -> u32
-    ensures { Surveyed scene.now (station_of station) (camera_of camera)
+) -> Result<(), Refusal>
+    ensures { Surveyed bytes.now (station_of station) (camera_of camera)
         (lent_of picture.old counts.old patch_counts.old unlit.old lit.old counter.old)
-        (lent_of picture.new counts.new patch_counts.new unlit.new lit.new counter.new) result }
+        (lent_of picture.new counts.new patch_counts.new unlit.new lit.new counter.new) (answer_of result) }
 {
     let before = *counter;
-    let verdict = survey_answer(
-        scene,
-        station,
-        camera,
-        picture.len(),
-        counts.len(),
-        patch_counts.len(),
-        unlit.len(),
-        lit.len(),
-        before,
-    );
-    if verdict != 0 {
-        return verdict;
-    }
-    // question 15 has said yes
-    let Some(eye) = locate(station) else {
-        unreachable!()
+    let lengths = Lengths {
+        picture: picture.len(),
+        counts: counts.len(),
+        patch_counts: patch_counts.len(),
+        unlit: unlit.len(),
+        lit: lit.len(),
     };
+    let call = admit(bytes, station, camera, lengths, before)?;
     paint(
-        scene,
-        eye,
+        call.scene.bytes,
+        call.eye,
         camera,
         picture,
         unlit,
@@ -57,5 +49,5 @@ pub fn survey_from(
         counts,
     );
     *counter = next_counter(camera, before);
-    0
+    Ok(())
 }

@@ -8,7 +8,7 @@ use Rattle.survey.proofs.metres.ring_survey_metres.Goals as goal
 pub returns : goal.returns
 returns c =
     let e = c.ranges in
-    closest_surveyed
+    rw c.answer.ensures (closest_surveyed
     (surveyed_from c.in_metres-station.ensures
     (c.camera_by-camera.ensures ∙ same_camera c.axes_by-axes.ensures e.right_x e.right_y e.right_z e.forward_x e.forward_y e.forward_z e.up_x e.up_y e.up_z)
-    c.survey_from.ensures)
+    c.survey_from-done.ensures))

@@ -9,4 +9,4 @@ returns c =
     let e = c.ranges in
     answered_from _ _ _ (same_units e.eye_x e.eye_y e.eye_z)
     (c.camera_by-camera.ensures ∙ same_camera c.axes_by-axes.ensures e.right_x e.right_y e.right_z e.forward_x e.forward_y e.forward_z e.up_x e.up_y e.up_z)
-    c.survey_answer.ensures
+    (c.answer.ensures ∙ c.admit-admitted.ensures.answered)

@@ -8,7 +8,7 @@ use Rattle.survey.proofs.units.ring_survey.Goals as goal
 pub returns : goal.returns
 returns c =
     let e = c.ranges in
-    closest_surveyed
+    rw c.answer.ensures (closest_surveyed
     (surveyed_from (same_units e.eye_x e.eye_y e.eye_z)
     (c.camera_by-camera.ensures ∙ same_camera c.axes_by-axes.ensures e.right_x e.right_y e.right_z e.forward_x e.forward_y e.forward_z e.up_x e.up_y e.up_z)
-    c.survey_from.ensures)
+    c.survey_from-done.ensures))
