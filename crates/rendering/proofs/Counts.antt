@@ -19,7 +19,6 @@ use Rattle.format.proofs.Decoded.{patch_count}
 use Rattle.counting.specs.Counting.{Countable, Counted}
 use Rattle.counting.proofs.TableCounts.{table_within, table_counts}
 use Rattle.rendering.specs.Painted.{Painted, Rendered}
-use Rattle.rendering.proofs.Walks.{walkable}
 
 module _
     {bytes : List ℕ} {l : Layout} {v : View} {cells unlit lit booked : List ℕ}
@@ -42,7 +41,6 @@ module _
     unfolding patch_numbered
     countable {n} e size narrow low entries =
         record {
-          scene = walkable h laid;
           patches = e ∙ patch_count laid;
           numbered = λ k b.
               let c : k < length ps = omega (arith, many, patch_count laid) in

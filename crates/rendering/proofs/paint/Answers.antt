@@ -1,48 +1,49 @@
 -- `rendering::paint` meets its contract: the walk of an accepted scene, painted along the camera's rays and counted, gives the results.
 use native.Mathlib.Nat.{mul-le-mul}
 use native.Mathlib.Omega.{arith}
-use mathlib.Core.Path.{◌∙◌}
+use mathlib.Core.Path.{◌∙◌, subst, sym}
+use Rattle.geometry.specs.Machine.{vec_of}
 use Rattle.camera.specs.Machine.{view_of}
+use Rattle.walk.specs.Walked.{WholeWalk}
 use Rattle.rendering.specs.Painted.{Painted}
-use Rattle.model.proofs.Tests.{true_of}
 use Rattle.format.proofs.Decoded.{patch_count}
-use Rattle.rendering.proofs.Walks.{walkable, walk_count, walk_paintable, raster_framed, painted_all}
+use Rattle.rendering.proofs.Walks.{walk_paintable, raster_framed, painted_all}
 use Rattle.rendering.proofs.Counts.{countable, rendered}
 use Rattle.rendering.proofs.paint.Goals as goal
 
 pub overflow_cast-cells : goal.overflow_cast-cells
 overflow_cast-cells c = let b = c.requires in omega (arith, b.framed.cells, mul-le-mul b.framed.narrow b.framed.low)
 
-pub read_layout-l-requires : goal.read_layout-l-requires
-read_layout-l-requires c = let h = c.requires.accepted in (true_of h.header, true_of h.sections)
-
-pub walk-n-requires : goal.walk-n-requires
-walk-n-requires c =
-    let b = c.requires in
-    (walkable b.accepted c.read_layout-l.ensures, b.near, c.read_layout-l.ensures.few_patches)
-
-pub slice_bounds-paint_rows-end : goal.slice_bounds-paint_rows-end
-slice_bounds-paint_rows-end c = walk_count c.requires.accepted c.read_layout-l.ensures c.walk-n.ensures
+pub walk-order-requires : goal.walk-order-requires
+walk-order-requires c = c.requires.near
 
 pub paint_rows-requires : goal.paint_rows-requires
 paint_rows-requires c =
-    let l = c.read_layout-l.ensures in
+    let s = c.args.scene.now in
     let b = c.requires in
     let rays = c.camera_raster.ensures in
+    let whole = subst (WholeWalk s.bytes.now s.layout (vec_of c.args.eye)) (sym c.as_slice.ensures.value) c.walk-order.ensures in
     record {
-      paintable = walk_paintable b.accepted l c.walk-n.ensures (record { eye_bounded = b.near; raster_bounded = rays.bounded })
+      paintable = walk_paintable b.accepted s.checked.laid whole (record { eye_bounded = b.near; raster_bounded = rays.bounded })
           (omega (arith, b.framed.narrow, rays.columns)) (omega (arith, b.framed.low, rays.rows));
       framed = raster_framed rays b.framed;
-      entries = b.entries ∙ patch_count l;
+      entries = b.entries ∙ patch_count s.checked.laid;
     }
 
 pub count_panels-requires : goal.count_panels-requires
 count_panels-requires c =
+    let s = c.args.scene.now in
     let b = c.requires in
-    countable b.accepted c.read_layout-l.ensures (let all_painted : let a = c.args in Painted a.scene.now (view_of a.eye a.camera) c.paint_rows.new.picture c.paint_rows.new.unlit c.paint_rows.new.lit c.paint_rows.new.booked = let b = c.requires in painted_all b.accepted c.read_layout-l.ensures c.walk-n.ensures c.camera_raster.ensures (c.paint_rows.auto.booked ∙ b.entries) c.paint_rows.ensures.painted c.paint_rows.ensures.counted in all_painted) (c.paint_rows.auto.booked ∙ b.entries)
-    b.framed.cells b.framed.narrow b.framed.low b.counted
+    let whole = subst (WholeWalk s.bytes.now s.layout (vec_of c.args.eye)) (sym c.as_slice.ensures.value) c.walk-order.ensures in
+    let painted : Painted s.bytes.now (view_of c.args.eye c.args.camera) c.paint_rows.new.picture c.paint_rows.new.unlit c.paint_rows.new.lit c.paint_rows.new.booked =
+    painted_all b.accepted s.checked.laid whole c.camera_raster.ensures (c.paint_rows.auto.booked ∙ b.entries) c.paint_rows.ensures.painted c.paint_rows.ensures.counted in
+    countable b.accepted s.checked.laid painted (c.paint_rows.auto.booked ∙ b.entries) b.framed.cells b.framed.narrow b.framed.low b.counted
 
 pub returns : goal.returns
 returns c =
+    let s = c.args.scene.now in
     let b = c.requires in
-    rendered b.accepted c.read_layout-l.ensures (let all_painted : let a = c.args in Painted a.scene.now (view_of a.eye a.camera) c.paint_rows.new.picture c.paint_rows.new.unlit c.paint_rows.new.lit c.paint_rows.new.booked = let b = c.requires in painted_all b.accepted c.read_layout-l.ensures c.walk-n.ensures c.camera_raster.ensures (c.paint_rows.auto.booked ∙ b.entries) c.paint_rows.ensures.painted c.paint_rows.ensures.counted in all_painted) b.framed.cells c.count_panels.ensures
+    let whole = subst (WholeWalk s.bytes.now s.layout (vec_of c.args.eye)) (sym c.as_slice.ensures.value) c.walk-order.ensures in
+    let painted : Painted s.bytes.now (view_of c.args.eye c.args.camera) c.paint_rows.new.picture c.paint_rows.new.unlit c.paint_rows.new.lit c.paint_rows.new.booked =
+    painted_all b.accepted s.checked.laid whole c.camera_raster.ensures (c.paint_rows.auto.booked ∙ b.entries) c.paint_rows.ensures.painted c.paint_rows.ensures.counted in
+    rendered b.accepted s.checked.laid painted b.framed.cells c.count_panels.ensures
