@@ -47,11 +47,12 @@ pub fn check_scene(bytes: &[u8]) -> Result<CheckedScene<'_>, Refusal>
     if !patches_proper(&scene) {
         return Err(Refusal::Patches);
     }
-    if !planes_divide(scene.bytes, scene.layout) {
-        return Err(Refusal::Division);
-    }
-    Ok(CheckedScene {
+    let checked = CheckedScene {
         bytes: scene.bytes,
         layout: scene.layout,
-    })
+    };
+    if !planes_divide(&checked) {
+        return Err(Refusal::Division);
+    }
+    Ok(checked)
 }

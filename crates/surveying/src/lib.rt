@@ -39,7 +39,7 @@ pub fn survey_from(
     };
     let call = admit(bytes, station, camera, lengths, before)?;
     paint(
-        call.scene.bytes,
+        &call.scene,
         call.eye,
         camera,
         picture,

@@ -38,11 +38,8 @@ panels_proper-requires c = runs_inside c.read-scene.result.laid_out (search said
 pub patches_proper-requires : goal.patches_proper-requires
 patches_proper-requires c = cornered c.read-scene.result.laid_out (search said) (search said)
 
-pub planes_divide-requires : goal.planes_divide-requires
-planes_divide-requires c = checked c.read-scene.result.laid_out (search said) (search said) (search said)
-
-pub invariant_of-result : goal.invariant_of-result
-invariant_of-result c =
+pub invariant_of-checked : goal.invariant_of-checked
+invariant_of-checked c =
     record { checked = checked c.read-scene.result.laid_out (search said) (search said) (search said) }
 
 -- each answer is one line: the question's number, and that those before it said yes
