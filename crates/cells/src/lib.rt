@@ -4,7 +4,7 @@
 ghost use Rattle.std.specs.Prelude.{◌≡◌, cond, ◌≤◌, ◌<◌, length, ltb};
 ghost use Rattle.segments.specs.Columns.{in_span, painted};
 
-// A function of its own: as an `if` in the loop it is compiled into a jump for each cell, which was tried and is slower.
+// A function of its own: tried as an `if` in the loop, it is compiled into a jump for each cell.
 fn chosen(inside: bool, panel: u16, cell: u16) -> u16
     ensures { result ≡ cond inside panel cell }
 {
