@@ -8,7 +8,7 @@ ghost use Rattle.input.specs.Input.{input_call, input_counts};
 
 use call::area;
 use little_endian::{i16_at, u16_at};
-use room::{buffer, capped, map, patches_told, table};
+use room::patches_told;
 
 // a field of two bytes
 pub fn word(bytes: &[u8], at: usize) -> u16
@@ -27,15 +27,16 @@ pub fn survey_input(input: &[u8], counts: &mut [u32]) -> u32
     let width = word(input, 6);
     let height = word(input, 8);
     let lens = word(input, 10);
-    let mut picture = buffer();
-    let mut patch_counts = table();
-    let mut unlit = buffer();
-    let mut lit = map();
+    // Room for what a survey leaves, as far as it goes: where question 11 asks for more, a question before it has said no. The survey writes all that it is lent.
+    let mut picture = [0u16; 32768];
+    let mut patch_counts = [0u32; 1024];
+    let mut unlit = [0u16; 32768];
+    let mut lit = [0u64; 512];
     let mut counter = 0u32;
-    let cells = capped(area(width, height), 32768);
+    let cells = area(width, height).min(32768);
     let patches = patches_told(&input[12..]);
-    let rows = capped(area(height, 256), 32768);
-    let words = capped(area(height, 4), 512);
+    let rows = area(height, 256).min(32768);
+    let words = area(height, 4).min(512);
     survey::units::ring_survey(
         &input[12..],
         i16_at(input, 0),

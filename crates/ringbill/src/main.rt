@@ -2,24 +2,18 @@
 #![tactic(auto)]
 
 use bill::{LONGEST, write_bill};
-use console::{Got, read_all, tell, write_or_tell};
-use sheet::ROOM;
+use console::{read_all, write_or_tell};
 
 fn main(rt: HostRuntime) {
     // One byte more than the longest input tells a longer one.
     let mut input = [0u8; LONGEST + 1];
-    let Got::Bytes(n) = read_all(&mut rt.stdin(), &mut input) else {
-        tell(
-            &mut rt.stderr(),
-            b"ringbill: standard input cannot be read\n",
-        );
+    let Ok(n) = read_all(&mut rt.stdin(), &mut input) else {
+        let _told = eprintln!(rt; "ringbill: standard input cannot be read");
         return;
     };
-    let mut out = [0u8; ROOM];
-    let end = write_bill(&input[..n], &mut out);
-    write_or_tell(
+    let _written = write_or_tell(
         &mut rt.stdout(),
-        &out[..end],
+        write_bill(&input[..n]).as_slice(),
         &mut rt.stderr(),
         b"ringbill: the bill could not be written whole\n",
     );

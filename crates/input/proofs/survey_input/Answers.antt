@@ -2,6 +2,7 @@
 use mathlib.Core.Path.{sym, ◌∙◌, ap}
 use Prim.Native.Nat.{ℕ, min}
 use native.Mathlib.Omega.{arith}
+use lib.ListN.{length-replicate}
 use lib.Seq.{length-take-le}
 use Rattle.model.specs.Vector.{vec}
 use Rattle.input.proofs.Inputs.{rest, coordinate, surveyed_input}
@@ -18,10 +19,10 @@ returns c =
     c.word-width.ensures
     c.word-height.ensures
     c.word-lens.ensures
-    (length-take-le _ _ (omega (arith, c.buffer-picture.ensures, c.capped-cells.ensures.upper_bound)) ∙ c.capped-cells.ensures.value ∙ ap (λ (n : ℕ). min n 32768) c.area.ensures)
-    (λ accepted. length-take-le _ _ (omega (arith, c.table-patch_counts.ensures, c.patches_told-patches.ensures.upper_bound)) ∙ c.patches_told-patches.ensures.value accepted)
-    (length-take-le _ _ (omega (arith, c.buffer-unlit.ensures, c.capped-rows.ensures.upper_bound)) ∙ c.capped-rows.ensures.value ∙ ap (λ (n : ℕ). min n 32768) c.area-2.ensures)
-    (length-take-le _ _ (omega (arith, c.map-lit.ensures, c.capped-words.ensures.upper_bound)) ∙ c.capped-words.ensures.value ∙ ap (λ (n : ℕ). min n 512) c.area-3.ensures) in
+    (length-take-le _ _ (omega (arith, length-replicate {A = ℕ} 32768 0, c.min-cells.ensures)) ∙ c.min-cells.ensures ∙ ap (λ (n : ℕ). min n 32768) c.area.ensures)
+    (λ accepted. length-take-le _ _ (omega (arith, length-replicate {A = ℕ} 1024 0, c.patches_told-patches.ensures.upper_bound)) ∙ c.patches_told-patches.ensures.value accepted)
+    (length-take-le _ _ (omega (arith, length-replicate {A = ℕ} 32768 0, c.min-rows.ensures)) ∙ c.min-rows.ensures ∙ ap (λ (n : ℕ). min n 32768) c.area-2.ensures)
+    (length-take-le _ _ (omega (arith, length-replicate {A = ℕ} 512 0, c.min-words.ensures)) ∙ c.min-words.ensures ∙ ap (λ (n : ℕ). min n 512) c.area-3.ensures) in
     record { value = surveyed.0; counts_after = surveyed.1 }
 
 pub slice_bounds-ring_survey-end-2 : goal.slice_bounds-ring_survey-end-2
