@@ -36,7 +36,7 @@ struct Sides {
     behind: Span,
 }
 
-// u × v, of vectors of a raster
+// u × v, of vectors of a raster. It stands beside geometry's, which promises other bounds: one for both would ask each caller to work out its own.
 fn cross_product(u: Vector, v: Vector) -> Vector
     requires { Bounded 200 u × Bounded 563000 v }
     ensures { VectorIs 225200000 (cross (vec_of u) (vec_of v)) result }

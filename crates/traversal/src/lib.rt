@@ -17,7 +17,8 @@ fn first_open(rows: &[[u16; 256]; 128], from: usize, height: usize) -> usize
     (from..height).find(|j| rows[*j][1] != 0).unwrap_or(height)
 }
 
-// Patch after patch, until the walk is done or every row is full: what comes after cannot be seen.
+// Patch after patch, until the walk is done or every row is full: what comes after cannot be seen. A patch goes by its place in the walk, as what is painted and booked
+// before it is told by that.
 pub fn paint_walk(
     scene: &CheckedScene,
     order: &[u16],

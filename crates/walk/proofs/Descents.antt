@@ -1,7 +1,7 @@
 -- From a node down to its children, in the order of the walk.
-use mathlib.Core.Path.{◌≡◌, refl, ap, ◌∙◌}
+use mathlib.Core.Path.{◌≡◌, refl, sym, ap, ◌∙◌}
 use mathlib.Core.Bool.{Bool, true, false, cond}
-use mathlib.Core.List.{List, [], ◌++◌}
+use mathlib.Core.List.{List, [], ◌++◌, append_assoc}
 use Prim.Native.Nat.{ℕ, ◌+◌, ◌<◌}
 use lib.IntN.{pos}
 use lib.Signed.{lt_z}
@@ -64,6 +64,19 @@ descent {bytes} {l} {k} {n} {eye} {c} is near =
     walk =
         ap (order eye) is.tree
         ∙ order_node (tree_below bytes) (plane_of n.a n.b n.c) own n.positive n.negative eye c near
+
+-- three parts put one behind another are the walk at and below k
+pub assembled :
+    {bytes : List ℕ} {k : ℕ} {eye : Vec} {first count : ℕ} {c : Children} (o : List ℕ) {o₁ o₂ o₃ : List ℕ} →
+    Descent bytes k eye first count c → o₁ ≡ o ++ order eye (tree_below bytes c.near) → o₂ ≡ o₁ ++ range first count →
+    o₃ ≡ o₂ ++ order eye (tree_below bytes c.far) → o₃ ≡ o ++ order eye (tree_below bytes k)
+assembled {bytes} {eye = eye} {first} {count} {c} o d near own far =
+    let below : ℕ → List ℕ = λ (m : ℕ). order eye (tree_below bytes m) in
+    far
+    ∙ ap (λ (l : List ℕ). l ++ below c.far) (own ∙ ap (λ (l : List ℕ). l ++ range first count) near)
+    ∙ append_assoc (o ++ below c.near) (range first count) (below c.far)
+    ∙ append_assoc o (below c.near) (range first count ++ below c.far)
+    ∙ ap (λ (l : List ℕ). o ++ l) (sym d.order_is)
 
 pub nothing_below : {t : Tree ℕ} (eye : Vec) → t ≡ leaf → order eye t ≡ []
 unfolding order

@@ -4,7 +4,7 @@ use Rattle.std.proofs.lemmas.Grind.{common_steps}
 use Rattle.model.proofs.Ranges.{range_length}
 use Rattle.geometry.specs.Machine.{vec_of}
 use Rattle.checked.proofs.Nodes.{no_node}
-use Rattle.walk.proofs.Descents.{descent, nothing_below}
+use Rattle.walk.proofs.Descents.{descent, assembled, nothing_below}
 use Rattle.walk.proofs.order.+walk_below.Goals as goal
 
 pub walk_below-requires : goal.walk_below-requires
@@ -28,8 +28,7 @@ walk_below-requires-then-k-scene t c =
 
 pub returns-then-k-scene : goal.returns-then-k-scene
 returns-then-k-scene t c =
-    let d = descent c.node-n.ensures c.near_first-c.ensures in
-    grind (arith, common_steps, d.order_is)
+    assembled c.args.walked.now.items (descent c.node-n.ensures c.near_first-c.ensures) c.walk_below.ensures c.walk_run.ensures c.walk_below-then-k-scene.ensures
 
 pub returns-else-k-scene : goal.returns-else-k-scene
 returns-else-k-scene t c =
