@@ -20,7 +20,13 @@ use halfspaces::held::run_held;
 use halfspaces::planes::{Plane, Sides, plane_of};
 
 // every patch at and below node k is held; the child's test comes before its call, as most children are settled by it
-fn subtree_held(scene: &CheckedScene, k: usize, plane: Plane, wanted: Sides, boxes: &[Extent]) -> bool
+fn subtree_held(
+    scene: &CheckedScene,
+    k: usize,
+    plane: Plane,
+    wanted: Sides,
+    boxes: &[Extent],
+) -> bool
     requires { Against scene.now.bytes.now scene.now.layout plane boxes.now × (k < scene.now.layout.nodes) }
     ensures { result ≡ every (held plane wanted) (map (patch_numbered (decode scene.now.bytes.now)) (contents (tree_below scene.now.bytes.now k))) }
 {
