@@ -46,8 +46,8 @@ module _ {count panel : ℕ} {part₀ part : List ℕ} {i : ℕ} (inv : FrontTo 
       ∙ painted_at (λ (m : ℕ). ltb m (min i count)) panel part₀ i b
       ∙ rw (le-ltb i (min i count) (omega arith))
 
-  goes : (cell : ℕ) → cell ≡ cond (ltb i count) panel (get_or part₀ i 0) → FrontTo count panel part₀ (set part i cell) (i + 1)
-  goes cell w =
+  pub front_goes : (cell : ℕ) → cell ≡ cond (ltb i count) panel (get_or part i 0) → FrontTo count panel part₀ (set part i cell) (i + 1)
+  front_goes cell w =
       record {
         cells_are =
             painted_is (λ (j : ℕ). ltb j (min (i + 1) count)) panel part₀ (set part i cell) (length-set part i cell ∙ front_length)
@@ -58,18 +58,13 @@ module _ {count panel : ℕ} {part₀ part : List ℕ} {i : ℕ} (inv : FrontTo 
       at j h (yes e) =
           rw e (get_or-set_same part i cell 0 (omega (arith, front_length))
           ∙ w
+          ∙ ap (λ (c : ℕ). cond (ltb i count) panel c) unpainted
           ∙ ap (λ (t : Bool). cond t panel (get_or part₀ i 0)) (same_le (suc i) count (suc i) (min (i + 1) count) (λ a. omega arith) (λ a. omega arith)))
       at j h (no n) =
           get_or-set_other part i j cell 0 n
           ∙ ap (λ (xs : List ℕ). get_or xs j 0) inv.cells_are
           ∙ painted_at (λ (m : ℕ). ltb m (min i count)) panel part₀ j h
           ∙ ap (λ (t : Bool). cond t panel (get_or part₀ j 0)) (same_le (suc j) (min i count) (suc j) (min (i + 1) count) (λ a. omega arith) (λ a. omega (arith, n)))
-
-  pub front_painted : i < count → FrontTo count panel part₀ (set part i panel) (i + 1)
-  front_painted h = goes panel (rw (lt-ltb i count h))
-
-  pub front_kept : count ≤ i → FrontTo count panel part₀ (set part i (get_or part i 0)) (i + 1)
-  front_kept h = goes (get_or part i 0) (unpainted ∙ rw (le-ltb i count h))
 
 pub front_ends :
     {count panel : ℕ} {part₀ part : List ℕ} {i : ℕ} → FrontTo count panel part₀ part i → length part₀ ≤ i → part ≡ front count panel part₀

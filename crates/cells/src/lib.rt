@@ -1,8 +1,15 @@
 // A run of a row's cells, painted.
 #![tactic(auto)]
 
-ghost use Rattle.std.specs.Prelude.{◌≡◌, ◌≤◌, ◌<◌, length, ltb};
+ghost use Rattle.std.specs.Prelude.{◌≡◌, cond, ◌≤◌, ◌<◌, length, ltb};
 ghost use Rattle.segments.specs.Columns.{in_span, painted};
+
+// A function of its own: tried as an `if` in the loop, it is compiled into a jump for each cell.
+fn chosen(inside: bool, panel: u16, cell: u16) -> u16
+    ensures { result ≡ cond inside panel cell }
+{
+    if inside { panel } else { cell }
+}
 
 // A run of at most eight cells: eight are written, each with the panel or with what it held, so that no jump depends on the run's length.
 fn paint_eight(eight: &mut [u16], count: u16, panel: u16)
@@ -11,7 +18,7 @@ fn paint_eight(eight: &mut [u16], count: u16, panel: u16)
 {
     for i in 0..8u16 {
         let at = usize::from(i);
-        eight[at] = if i < count { panel } else { eight[at] };
+        eight[at] = chosen(i < count, panel, eight[at]);
     }
 }
 
