@@ -7,7 +7,7 @@ ghost use Rattle.console.specs.Writing.{Wrote, WroteOrTold};
 
 use std::io::{ErrorKind, Read, Result, Write};
 
-// One read: so many bytes, 0 at the end of the input.
+// One read: so many bytes, 0 at the end of the input. A function of its own, since the loop over it is proved from these three clauses.
 fn read_some<R: Read>(input: &mut R, part: &mut [u8]) -> Result<usize>
     ensures counted { ReadInto result part.new }
     ensures next { TakesNext (R.remaining input.old) (R.remaining input.new) result part.new }
@@ -16,7 +16,8 @@ fn read_some<R: Read>(input: &mut R, part: &mut [u8]) -> Result<usize>
     input.read(part)
 }
 
-// Reads to the end of the input, or until the buffer is full: so many bytes at the buffer's start.
+// Reads to the end of the input, or until the buffer is full: so many bytes at the buffer's start. Here and in `write_whole` a step is what the call took, which no range
+// fits; the library's own loops say nothing of the bytes after a failure.
 pub fn read_all<R: Read>(input: &mut R, buffer: &mut [u8]) -> Result<usize>
     ensures counted { ReadInto result buffer.new }
     ensures next { TakesNext (R.remaining input.old) (R.remaining input.new) result buffer.new }
@@ -34,7 +35,7 @@ pub fn read_all<R: Read>(input: &mut R, buffer: &mut [u8]) -> Result<usize>
 }
 
 // Writes all of the text, or stops at the first write that takes nothing or fails.
-fn write_whole<W: Write>(output: &mut W, text: &[u8]) -> Result<()>
+pub fn write_whole<W: Write>(output: &mut W, text: &[u8]) -> Result<()>
     ensures { Wrote (W.contents output.old) (W.contents output.new) text.now result }
 {
     let mut done = 0;

@@ -45,7 +45,8 @@ fn convert_rows(
     lit
 }
 
-// Paints patch k of a walk in the rows that it reaches, and books the cells that it newly lit to it. One that no row or no column can meet has no edge functions worked out.
+// Paints patch k of a walk in the rows that it reaches, and books the cells that it newly lit to it. One that no row or no column can meet has no edge functions worked out. It is given the walk and the place in it, and not the patch's number alone,
+// since what it promises is of the patches up to that place.
 pub fn paint_patch(
     scene: &CheckedScene,
     order: &[u16],

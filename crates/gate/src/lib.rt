@@ -17,7 +17,8 @@ use scene::panels::panels_proper;
 use scene::planes::planes_proper;
 use scene::runs::runs_proper;
 
-// The scene that the bytes are, or the refusal by the first question that says no.
+// The scene that the bytes are, or the refusal by the first question that says no. Tried with a function that a `?` follows for each question, the proof did not close: what is
+// known after such a `?` is not read by the search for what a later answer needs.
 pub fn check_scene(bytes: &[u8]) -> Result<CheckedScene<'_>, Refusal>
     ensures answered { answer_of result ≡ scene_answer bytes.now }
     ensures same { IfOk result (λ scene. scene.bytes.now ≡ bytes.now) }

@@ -10,7 +10,7 @@ use call::area;
 use little_endian::{i16_at, u16_at};
 use room::patches_told;
 
-// a field of two bytes
+// a field of two bytes, in the type that the call takes it in
 pub fn word(bytes: &[u8], at: usize) -> u16
     requires { at + 2 ≤ length bytes.now }
     ensures { result ≡ u16_at bytes.now at }

@@ -37,6 +37,7 @@ fn lay_spans(rt: &HostRuntime, spans: &[u8], cells: &mut [u16])
 
 fn main(rt: HostRuntime) {
     let mut input = [0u8; INPUT_ROOM];
+    // each program tells of itself: a function for this would be no shorter
     let Ok(n) = read_all(&mut rt.stdin(), &mut input) else {
         let _told = eprintln!(rt; "rows_laid: standard input cannot be read");
         return;

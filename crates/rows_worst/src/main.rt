@@ -49,6 +49,7 @@ fn write_each(rt: &HostRuntime, numbers: &[u8]) {
 
 fn main(rt: HostRuntime) {
     let mut input = [0u8; INPUT_ROOM];
+    // each program tells of itself: a function for this would be no shorter
     let Ok(n) = read_all(&mut rt.stdin(), &mut input) else {
         let _told = eprintln!(rt; "rows_worst: standard input cannot be read");
         return;
