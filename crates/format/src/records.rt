@@ -35,9 +35,9 @@ pub fn vector(x: i16, y: i16, z: i16) -> Vector
     ensures { vec_of result ≡ vec x y z }
 {
     Vector {
-        x: x as i64,
-        y: y as i64,
-        z: z as i64,
+        x: i64::from(x),
+        y: i64::from(y),
+        z: i64::from(z),
     }
 }
 

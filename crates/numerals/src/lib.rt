@@ -23,7 +23,7 @@ impl Spaced for u16 {
     #[tactic(auto, using(text::proofs::Lengths::spaced_length))]
     fn spaced(self) -> ArrayVec<u8, 17> {
         let mut out = ArrayVec::new();
-        text::put_spaced(&mut out, self as u32);
+        text::put_spaced(&mut out, u32::from(self));
         out
     }
 }

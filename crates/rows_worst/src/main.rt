@@ -28,8 +28,8 @@ fn put_looks(line: &mut ArrayVec<u8, 64>, k: usize)
 fn write_worst(rt: &HostRuntime, k: usize) {
     let span = worst_span(k);
     let mut line = ArrayVec::new();
-    put_number(&mut line, span.first as u32);
-    put_spaced(&mut line, span.last as u32);
+    put_number(&mut line, u32::from(span.first));
+    put_spaced(&mut line, u32::from(span.last));
     put_looks(&mut line, k);
     let _written = write_or_tell(
         &mut rt.stdout(),

@@ -60,10 +60,15 @@ pub fn put_sheet(width: u16, height: u16, lens: u16, counts: &[u32]) -> ArrayVec
     ensures { result.items ≡ sheet width height lens counts.now }
 {
     let mut out = ArrayVec::new();
-    put_view(&mut out, width as u32, height as u32, lens as u32);
+    put_view(
+        &mut out,
+        u32::from(width),
+        u32::from(height),
+        u32::from(lens),
+    );
     put_panels(&mut out, counts);
     put_nothing(&mut out, counts[0]);
-    put_line(&mut out, b"total", width as u32 * height as u32);
+    put_line(&mut out, b"total", u32::from(width) * u32::from(height));
     out
 }
 
