@@ -35,7 +35,7 @@ pub fn dot(ax: i64, ay: i64, az: i64, bx: i64, by: i64, bz: i64) -> i64
     ax * bx + ay * by + az * bz
 }
 
-// -1, 0 or 1.
+// -1, 0 or 1: the library's number for a sign, under the definition that callers reason by.
 pub fn sign(x: i64) -> i64
     ensures { result ≡ sign_of x }
 {

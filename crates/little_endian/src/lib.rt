@@ -1,7 +1,7 @@
 // Reading numbers at an offset of a byte string, least significant byte first.
 #![tactic(auto)]
 
-ghost use Rattle.std.specs.Prelude.{◌≡◌, ◌+◌, ◌*◌, ◌≤◌, ◌<◌, length};
+ghost use Rattle.std.specs.Prelude.{◌≡◌, ◌+◌, ◌≤◌, length};
 ghost use Rattle.model.specs.Format.{u16_at, u32_at, i16_at};
 ghost use Rattle.little_endian.specs.Natural.{NaturalIs};
 

@@ -77,7 +77,7 @@ fn clip_sides(sides: Sides, slope: i64, start: i64) -> Sides
 {
     Sides {
         ahead: clip_any(sides.ahead, slope, start),
-        behind: clip_any(sides.behind, 0 - slope, 0 - start),
+        behind: clip_any(sides.behind, -slope, -start),
     }
 }
 

@@ -2,14 +2,17 @@
 #![tactic(auto)]
 
 use bill::{LONGEST, write_bill};
-use console::{read_all, write_or_tell};
+use console::{read_all, write_or_tell, write_whole};
 
 fn main(rt: HostRuntime) {
     // One byte more than the longest input tells a longer one.
     let mut input = [0u8; LONGEST + 1];
     // each program tells of itself: a function for this would be no shorter
     let Ok(n) = read_all(&mut rt.stdin(), &mut input) else {
-        let _told = eprintln!(rt; "ringbill: standard input cannot be read");
+        let _told = write_whole(
+            &mut rt.stderr(),
+            b"ringbill: standard input cannot be read\n",
+        );
         return;
     };
     let _written = write_or_tell(

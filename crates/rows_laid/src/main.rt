@@ -5,7 +5,7 @@
 
 ghost use Rattle.std.specs.Prelude.{◌≤◌, length};
 
-use console::read_all;
+use console::{read_all, write_whole};
 use little_endian::u16_at;
 use row_lines::lay_and_write;
 
@@ -39,7 +39,10 @@ fn main(rt: HostRuntime) {
     let mut input = [0u8; INPUT_ROOM];
     // each program tells of itself: a function for this would be no shorter
     let Ok(n) = read_all(&mut rt.stdin(), &mut input) else {
-        let _told = eprintln!(rt; "rows_laid: standard input cannot be read");
+        let _told = write_whole(
+            &mut rt.stderr(),
+            b"rows_laid: standard input cannot be read\n",
+        );
         return;
     };
     if n < 2 {

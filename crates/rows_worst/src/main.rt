@@ -6,7 +6,7 @@ ghost use Rattle.std.specs.Prelude.{◌+◌, ◌≤◌};
 ghost use Rattle.arrayvec.specs.ArrayVec.{array_vec_len};
 
 use arrayvec::ArrayVec;
-use console::{read_all, write_or_tell};
+use console::{read_all, write_or_tell, write_whole};
 use little_endian::u32_at;
 use text::{put_last, put_number, put_spaced};
 use worst_case::{worst_looks, worst_span};
@@ -51,7 +51,10 @@ fn main(rt: HostRuntime) {
     let mut input = [0u8; INPUT_ROOM];
     // each program tells of itself: a function for this would be no shorter
     let Ok(n) = read_all(&mut rt.stdin(), &mut input) else {
-        let _told = eprintln!(rt; "rows_worst: standard input cannot be read");
+        let _told = write_whole(
+            &mut rt.stderr(),
+            b"rows_worst: standard input cannot be read\n",
+        );
         return;
     };
     write_each(&rt, &input[..n]);
