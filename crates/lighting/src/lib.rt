@@ -19,7 +19,7 @@ fn light_words(words: &mut [u64; 4], first: usize, last: usize)
     requires { (first ≤ last) × (last < 256) }
     ensures { Lights first last words.old words.new }
 {
-    for k in first / 64..=last / 64 {
+    for k in first / 64..last / 64 + 1 {
         words[k] |= span_bits(64 * k, first, last);
     }
 }
