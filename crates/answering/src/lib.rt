@@ -8,9 +8,10 @@ ghost use Rattle.geometry.specs.Machine.{vec_of};
 ghost use Rattle.camera.specs.Machine.{camera_of};
 ghost use Rattle.station.specs.Machine.{station_of};
 ghost use Rattle.contract.specs.Contract.{gate_call};
+ghost use Rattle.call.specs.Lent.{lengths_of};
 ghost use Rattle.refusal.specs.Refusal.{answer_of};
-ghost use Rattle.answering.specs.Lengths.{lengths_of};
 
+use call::lent::Lengths;
 use call::{axes_proper, counter_below_end, lengths_fit, view_in_range};
 use camera::Camera;
 use checked::CheckedScene;
@@ -18,16 +19,6 @@ use gate::check_scene;
 use geometry::Vector;
 use refusal::Refusal;
 use station::{Station, locate};
-
-// the lengths of the buffers that are lent
-#[derive(Clone, Copy)]
-pub struct Lengths {
-    pub picture: usize,
-    pub counts: usize,
-    pub patch_counts: usize,
-    pub unlit: usize,
-    pub lit: usize,
-}
 
 // a call that passed every question: its scene, and where it is seen from
 #[derive(Clone, Copy)]
@@ -57,15 +48,7 @@ pub fn admit(
     if !axes_proper(camera.axes) {
         return Err(Refusal::Axes);
     }
-    if !lengths_fit(
-        camera,
-        scene.layout.patches,
-        lengths.picture,
-        lengths.counts,
-        lengths.patch_counts,
-        lengths.unlit,
-        lengths.lit,
-    ) {
+    if !lengths_fit(camera, scene.layout.patches, lengths) {
         return Err(Refusal::Lengths);
     }
     if !counter_below_end(counter) {

@@ -1,15 +1,19 @@
-// The questions on the call after 15, which the station answers: 10, 14, 11 and 12.
+// What is lent to a call, and the questions on the call after 15, which the station answers: 10, 14, 11 and 12.
 #![tactic(auto)]
+
+pub mod lent;
 
 ghost use Rattle.std.specs.Prelude.{◌≡◌, ◌&&◌, ◌+◌, ◌*◌, ◌<◌, T, leb};
 ghost use Rattle.model.specs.Questions.{parts_up_to, window_in_range, tile_in_window, view_in_range, axes_proper, lengths_fit, counter_below_end};
 ghost use Rattle.model.specs.Picture.{next_counter};
 ghost use Rattle.geometry.specs.Machine.{vec_of};
 ghost use Rattle.camera.specs.Machine.{axes_of, camera_of, view_of};
+ghost use Rattle.call.specs.Lent.{lengths_of};
 
 use camera::{Axes, Camera};
 use coordinates::point_in_range;
 use geometry::{Vector, cross_product, dot_product, parts_up_to};
+use lent::Lengths;
 
 // the window's part of question 10
 fn window_in_range(camera: Camera) -> bool
@@ -68,23 +72,15 @@ pub fn area(width: u16, height: u16) -> usize
 
 // question 11, of a scene with this many patches
 #[tactic(auto, unfolding(model::specs::Questions::lengths_fit))]
-pub fn lengths_fit(
-    camera: Camera,
-    patches: usize,
-    picture: usize,
-    counts: usize,
-    patch_counts: usize,
-    unlit: usize,
-    lit: usize,
-) -> bool
-    ensures { result ≡ lengths_fit (camera_of camera) patches (record { picture = picture; counts = counts; patch_counts = patch_counts; unlit = unlit; lit = lit }) }
+pub fn lengths_fit(camera: Camera, patches: usize, lengths: Lengths) -> bool
+    ensures { result ≡ lengths_fit (camera_of camera) patches (lengths_of lengths) }
 {
     let tile = camera.tile;
-    picture == area(tile.width, tile.height)
-        && counts == 1025
-        && patch_counts == patches
-        && unlit == usize::from(tile.height) * 256
-        && lit == usize::from(tile.height) * 4
+    lengths.picture == area(tile.width, tile.height)
+        && lengths.counts == 1025
+        && lengths.patch_counts == patches
+        && lengths.unlit == usize::from(tile.height) * 256
+        && lengths.lit == usize::from(tile.height) * 4
 }
 
 // question 12

@@ -2,10 +2,11 @@
 #![tactic(auto)]
 
 ghost use Rattle.station.specs.Machine.{station_of};
-ghost use Rattle.contract.specs.Contract.{lent_of};
+ghost use Rattle.call.specs.Lent.{held_by, SameLent};
 ghost use Rattle.demands.specs.Demands.{ClosestSurveyed, PairSurveyed};
 ghost use Rattle.comparison.specs.Machine.{camera_of};
 
+use call::lent::Lent;
 use station::Station;
 use survey::metres::ring_survey_metres;
 use survey::units::ring_survey;
@@ -39,20 +40,9 @@ pub struct CameraNumbers {
 }
 
 // The survey call for the form that the station has.
-fn survey_at(
-    scene: &[u8],
-    station: Station,
-    camera: CameraNumbers,
-    picture: &mut [u16],
-    counts: &mut [u32],
-    patch_counts: &mut [u32],
-    unlit: &mut [u16],
-    lit: &mut [u64],
-    counter: &mut u32,
-) -> u32
-    ensures { ClosestSurveyed scene.now (station_of station) (camera_of camera)
-        (lent_of picture.old counts.old patch_counts.old unlit.old lit.old counter.old)
-        (lent_of picture.new counts.new patch_counts.new unlit.new lit.new counter.new) result }
+fn survey_at(scene: &[u8], station: Station, camera: CameraNumbers, lent: &mut Lent<'_>) -> u32
+    ensures closest { ClosestSurveyed scene.now (station_of station) (camera_of camera) (held_by lent.old) (held_by lent.new) result }
+    ensures same { SameLent lent.old lent.new }
 {
     match station {
         Station::Units(x, y, z) => ring_survey(
@@ -76,12 +66,12 @@ fn survey_at(
             camera.top,
             camera.tile_width,
             camera.tile_height,
-            picture,
-            counts,
-            patch_counts,
-            unlit,
-            lit,
-            counter,
+            lent.picture,
+            lent.counts,
+            lent.patch_counts,
+            lent.unlit,
+            lent.lit,
+            lent.counter,
         ),
         Station::Metres(m) => ring_survey_metres(
             scene,
@@ -104,12 +94,12 @@ fn survey_at(
             camera.top,
             camera.tile_width,
             camera.tile_height,
-            picture,
-            counts,
-            patch_counts,
-            unlit,
-            lit,
-            counter,
+            lent.picture,
+            lent.counts,
+            lent.patch_counts,
+            lent.unlit,
+            lent.lit,
+            lent.counter,
         ),
     }
 }
@@ -121,50 +111,15 @@ pub fn survey_pair(
     station1: Station,
     station2: Station,
     camera: CameraNumbers,
-    picture1: &mut [u16],
-    counts1: &mut [u32],
-    patch_counts1: &mut [u32],
-    unlit1: &mut [u16],
-    lit1: &mut [u64],
-    counter1: &mut u32,
-    picture2: &mut [u16],
-    counts2: &mut [u32],
-    patch_counts2: &mut [u32],
-    unlit2: &mut [u16],
-    lit2: &mut [u64],
-    counter2: &mut u32,
+    lent1: &mut Lent<'_>,
+    lent2: &mut Lent<'_>,
 ) -> Results
-    ensures { PairSurveyed first.now second.now (station_of station1) (station_of station2) (camera_of camera)
-        (lent_of picture1.old counts1.old patch_counts1.old unlit1.old lit1.old counter1.old)
-        (lent_of picture1.new counts1.new patch_counts1.new unlit1.new lit1.new counter1.new)
-        (lent_of picture2.old counts2.old patch_counts2.old unlit2.old lit2.old counter2.old)
-        (lent_of picture2.new counts2.new patch_counts2.new unlit2.new lit2.new counter2.new)
-        result.first result.second }
+    ensures surveyed { PairSurveyed first.now second.now (station_of station1) (station_of station2) (camera_of camera)
+        (held_by lent1.old) (held_by lent1.new) (held_by lent2.old) (held_by lent2.new) result.first result.second }
+    ensures same { SameLent lent1.old lent1.new × SameLent lent2.old lent2.new }
 {
-    let a = survey_at(
-        first,
-        station1,
-        camera,
-        picture1,
-        counts1,
-        patch_counts1,
-        unlit1,
-        lit1,
-        counter1,
-    );
-    let b = survey_at(
-        second,
-        station2,
-        camera,
-        picture2,
-        counts2,
-        patch_counts2,
-        unlit2,
-        lit2,
-        counter2,
-    );
     Results {
-        first: a,
-        second: b,
+        first: survey_at(first, station1, camera, lent1),
+        second: survey_at(second, station2, camera, lent2),
     }
 }

@@ -6,7 +6,8 @@ ghost use Rattle.model.specs.Questions.{survey_answer};
 ghost use Rattle.contract.specs.Contract.{axes_by, tile_by, camera_by, lent_of, lengths_by, gate_call};
 ghost use Rattle.demands.specs.Demands.{ClosestSurveyed};
 
-use answering::{Lengths, admit};
+use answering::admit;
+use call::lent::{Lengths, Lent};
 use handed::{axes_by, camera_by, in_metres};
 use refusal::answer;
 use surveying::survey_from;
@@ -117,16 +118,14 @@ pub fn ring_survey_metres(
         tile_width,
         tile_height,
     );
-    let done = survey_from(
-        scene,
-        station,
-        camera,
+    let mut lent = Lent {
         picture,
         counts,
         patch_counts,
         unlit,
         lit,
         counter,
-    );
+    };
+    let done = survey_from(scene, station, camera, &mut lent);
     answer(&done)
 }

@@ -9,7 +9,7 @@ use Rattle.std.specs.Prelude.{Result, IsErrAnd}
 use Rattle.model.specs.Vector.{Vec}
 use Rattle.model.specs.View.{View}
 use Rattle.model.specs.Station.{Station, eye_of, view_at}
-use Rattle.model.specs.Lent.{Lent, lengths_of}
+use Rattle.model.specs.Lent.{Lent, Lengths, lengths_of}
 use Rattle.model.specs.Call.{Call}
 use Rattle.model.specs.Format.{decode}
 use Rattle.model.specs.Picture.{next_counter}
@@ -25,7 +25,7 @@ use Rattle.camera.specs.Machine.{camera_of, view_of}
 use Rattle.refusal.specs.declared.Refusal.{Refusal}
 use Rattle.refusal.specs.Refusal.{refusal_number, answer_of}
 use Rattle.refusal.proofs.HandedOn.{handed_on, never_done}
-use Rattle.contract.specs.Contract.{lent_of, call_on, results, left_by, Surveyed}
+use Rattle.contract.specs.Contract.{lent_of, gate_call, call_on, results, left_by, Surveyed}
 use Rattle.contract.proofs.Refusal.{left_old}
 use Rattle.rendering.specs.Painted.{PaintingAsked, Rendered}
 
@@ -37,6 +37,10 @@ module _
 
     abbrev call : Call
     call = call_on bytes s (camera_of camera) before
+
+    -- the answer goes by the lengths of what is lent
+    pub answered_on : {k : Lengths} {n : ℕ} → k ≡ lengths_of before → n ≡ survey_answer (gate_call bytes s (camera_of camera) k before.counter) → n ≡ survey_answer call
+    answered_on e h = h ∙ (λ i. survey_answer (gate_call bytes s (camera_of camera) (e i) before.counter))
 
     -- "The first no gives its number, and nothing lent is altered."
     pub refused :

@@ -2,5 +2,5 @@
 use Rattle.demands.proofs.Demands.{pair_surveyed}
 use Rattle.comparison.proofs.survey_pair.Goals as goal
 
-pub returns : goal.returns
-returns c = pair_surveyed c.survey_at-a.ensures.surveyed c.survey_at-b.ensures.surveyed
+pub returns-clause-surveyed : goal.returns-clause-surveyed
+returns-clause-surveyed c = pair_surveyed c.survey_at.ensures.closest.surveyed c.survey_at-2.ensures.closest.surveyed

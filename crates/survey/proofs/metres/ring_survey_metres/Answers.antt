@@ -1,8 +1,10 @@
 -- `survey::metres::ring_survey_metres` meets its contract: the doubles are the station's, and the camera's numbers pass through words unchanged, and demand 2 follows from the equations.
 use mathlib.Core.Path.{◌∙◌}
+use Rattle.std.proofs.Common.{rules}
 use Rattle.contract.proofs.SameStation.{surveyed_from}
 use Rattle.demands.proofs.Demands.{closest_surveyed}
 use Rattle.handed.proofs.Handed.{same_camera}
+use Rattle.survey.proofs.Left.{left_in}
 use Rattle.survey.proofs.metres.ring_survey_metres.Goals as goal
 
 pub returns : goal.returns
@@ -11,4 +13,4 @@ returns c =
     rw c.answer.ensures (closest_surveyed
     (surveyed_from c.in_metres-station.ensures
     (c.camera_by-camera.ensures ∙ same_camera c.axes_by-axes.ensures e.right_x e.right_y e.right_z e.forward_x e.forward_y e.forward_z e.up_x e.up_y e.up_z)
-    c.survey_from-done.ensures))
+    (left_in (search rules) (search rules) (search rules) (search rules) (search rules) (search rules) c.survey_from-done.ensures.surveyed)))

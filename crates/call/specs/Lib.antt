@@ -1,2 +1,2 @@
 -- What the crate's contracts cite.
-pub mod Lengths
+pub mod Lent

@@ -1,0 +1,2 @@
+-- What is left behind the references of what was lent.
+mod Left
