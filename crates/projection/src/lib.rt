@@ -134,10 +134,5 @@ pub fn convex_along(projection: Projection, corners: &[Vector]) -> bool
     requires { ProjectionBounded projection.part (projected_along projection.axis corners.now) }
     ensures { result ≡ convex_projected projection.part (projected_along projection.axis corners.now) }
 {
-    for k in 0..corners.len() {
-        if !turns_at_edge(projection, corners, k) {
-            return false;
-        }
-    }
-    true
+    (0..corners.len()).all(|k| turns_at_edge(projection, corners, k))
 }
