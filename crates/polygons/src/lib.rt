@@ -10,7 +10,7 @@ ghost use Rattle.polygons.specs.Tests.{patch_proper};
 
 use format::patch::{Patch, corner_of};
 use geometry::{Vector, plane_normal, side};
-use projection::{Axis, Projection, along, convex_along, first_axis};
+use projection::{Projection, along, convex_along, first_axis};
 
 fn patch_normal(p: Patch) -> Vector
     requires { PatchBounded p }
@@ -40,14 +40,10 @@ fn strictly_convex(p: Patch, n: Vector) -> bool
 {
     let axis = first_axis(n);
     let projection = Projection {
+        axis,
         part: along(axis, n),
-        count: p.count,
     };
-    match axis {
-        Axis::X => convex_along(projection, &p.y, &p.z),
-        Axis::Y => convex_along(projection, &p.z, &p.x),
-        Axis::Z => convex_along(projection, &p.x, &p.y),
-    }
+    convex_along(projection, &p.corners[..p.count])
 }
 
 pub fn patch_proper(p: Patch) -> bool

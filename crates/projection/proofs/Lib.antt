@@ -2,3 +2,4 @@
 pub mod ReadRound
 pub mod Projected
 pub mod Asked
+pub mod Runs
