@@ -65,14 +65,9 @@ pub fn paint_patch(
     let reach = patch_rows(scene, n, sight.eye, sight.raster, planes);
     if reach.first < reach.end && !beside_columns(scene, n, sight.eye, sight.raster, planes) {
         let panel = scene.patch_record(n).panel;
-        let mut edges = [EdgeFunction {
-            start: 0,
-            slope: 0,
-            drop: 0,
-        }; 8];
-        let kept = patch_edges(scene, n, sight, reach, &mut edges);
+        let kept = patch_edges(scene, n, sight, reach);
         let lit = convert_rows(
-            &edges[..kept.count],
+            kept.functions.as_slice(),
             panel,
             kept.reach,
             sight.raster.width,

@@ -5,6 +5,6 @@ mod Places
 -- its corner run among those of the scene,
 pub mod Runs
 mod Rounds
--- and its edge functions in a table.
+-- and its edge functions.
 mod Writes
 pub mod Meeting

@@ -1,7 +1,7 @@
 -- A patch's edge functions, kept one after the other.
 use mathlib.Core.Path.{◌≡◌, ap, sym, subst, ◌∙◌}
 use mathlib.Core.Bool.{Bool, ◌&&◌}
-use mathlib.Core.List.{List, map}
+use mathlib.Core.List.{[], map}
 use Prim.Native.Nat.{ℕ, ◌+◌, ◌≤◌, ◌<◌}
 use native.Mathlib.Omega.{arith}
 use lib.ListN.{length}
@@ -32,34 +32,32 @@ abbrev pub seen : Sight → Patch → ℕ → EdgeFunction
 seen s p m = seen_by s.raster (edge_numbered (vec_of s.eye) p m)
 
 -- the first i edges are gone through
-pub record Writing (s : Sight) (p : Patch) (count : ℕ) (reach : Span) (before after : List EdgeFunction) (r : Sloped) (i : ℕ) : Type 0 where
-  pub kept : KeptUpTo (seen s p) count reach before after r.reach r.count i
+pub record Writing (s : Sight) (p : Patch) (count : ℕ) (reach : Span) (r : Sloped) (i : ℕ) : Type 0 where
+  pub kept : KeptUpTo (seen s p) count reach r.functions.items r.reach i
   pub bounds : (m : ℕ) → m < i → FunctionBounded (seen s p m)
 
-module _ {count : ℕ} {reach : Span} {before : List EdgeFunction} (asked : KeepingAsked count reach before) {s : Sight} {p : Patch} where
-  pub writing_none : Writing s p count reach before before (record { count = 0; reach = reach }) 0
-  writing_none = record { kept = keeping_starts asked; bounds = below_none _ }
+module _ {count : ℕ} {reach : Span} (asked : KeepingAsked count reach) {s : Sight} {p : Patch} where
+  pub writing_none : {r : Sloped} → r.functions.items ≡ [] → r.reach ≡ reach → Writing s p count reach r 0
+  writing_none none whole = record { kept = rw (none, whole) (keeping_starts asked); bounds = below_none _ }
 
-  module _ {after : List EdgeFunction} {r : Sloped} {i : ℕ} (w : Writing s p count reach before after r i) (h : i < count) {f : EdgeFunction} (is : FunctionIs (seen s p i) f) where
+  module _ {r : Sloped} {i : ℕ} (w : Writing s p count reach r i) (h : i < count) {f : EdgeFunction} (is : FunctionIs (seen s p i) f) where
     bounded : FunctionBounded (seen s p i)
     bounded = subst FunctionBounded is.value is.bounded
 
-    pub edge_asked : OneAsked f r after
-    edge_asked = subst (λ (g : EdgeFunction). OneAsked g r after) (sym is.value) (one_asked asked w.kept h bounded)
+    pub edge_asked : OneAsked f r
+    edge_asked = subst (λ (g : EdgeFunction). OneAsked g r) (sym is.value) (one_asked asked w.kept h bounded)
 
-    pub writing_more : {after' : List EdgeFunction} {r' : Sloped} → KeepsOne f r after after' r' → Writing s p count reach before after' r' (i + 1)
-    writing_more {after'} {r'} one =
+    pub writing_more : {r' : Sloped} → KeepsOne f r r' → Writing s p count reach r' (i + 1)
+    writing_more {r'} one =
         record {
-          kept = keeping_goes asked w.kept h bounded (subst (λ (g : EdgeFunction). KeepsOne g r after after' r') is.value one);
+          kept = keeping_goes asked w.kept h bounded (subst (λ (g : EdgeFunction). KeepsOne g r r') is.value one);
           bounds = below_more _ i w.bounds bounded;
         }
 
-  pub writing_all :
-      {after : List EdgeFunction} {r : Sloped} {i : ℕ} → Writing s p count reach before after r i → length p.corners ≡ count → 0 < count → count ≤ i → EdgesKept s p reach after r
-  writing_all {after} {r} {i} w c some h =
+  pub writing_all : {r : Sloped} {i : ℕ} → Writing s p count reach r i → length p.corners ≡ count → 0 < count → count ≤ i → EdgesKept s p reach r
+  writing_all {r} {i} w c some h =
       let e : i ≡ count = omega (arith, w.kept.most) in
       record {
-        inside = omega (arith, w.kept.fewer, w.kept.most, w.kept.long, asked.eight, asked.room);
         run = w.kept.run;
         shaped = w.kept.shaped;
         same = λ j k.

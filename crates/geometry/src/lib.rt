@@ -25,7 +25,7 @@ pub struct Raster {
 }
 
 // A number for each ray of a raster: start + i · slope + j · drop at column i of row j. The products of the rays with one edge vector are such numbers.
-#[derive(Clone, Copy)]
+#[derive(Clone, Copy, Default)]
 pub struct EdgeFunction {
     pub start: i64,
     pub slope: i64,

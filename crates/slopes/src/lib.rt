@@ -3,33 +3,29 @@
 
 ghost use Rattle.slopes.specs.Sloped.{OneAsked, KeepsOne};
 
+use arrayvec::ArrayVec;
 use geometry::EdgeFunction;
 use spans::{Span, clip_any};
 
-// How many functions have a slope, and the rows that the others leave.
-#[derive(Clone, Copy)]
+// a patch's edges are this many at most
+const EDGES: usize = 8;
+
+// The functions that have a slope, and the rows that the others leave.
+#[derive(Drop)]
 pub struct Sloped {
-    pub count: usize,
+    pub functions: ArrayVec<EdgeFunction, EDGES>,
     pub reach: Span,
 }
 
-// One function more: where it has a slope it is kept, after those kept before, and where it has none the rows are left out in which it is not above 0, so that it need not
+// One function more: where it has a slope it is kept, behind those kept before, and where it has none the rows are left out in which it is not above 0, so that it need not
 // be asked in any.
-pub fn keep_one(f: EdgeFunction, held: Sloped, kept: &mut [EdgeFunction]) -> Sloped
-    requires { OneAsked f held kept.old }
-    ensures { KeepsOne f held kept.old kept.new result }
+pub fn keep_one(f: EdgeFunction, kept: &mut Sloped)
+    requires { OneAsked f kept.old }
+    ensures { KeepsOne f kept.old kept.new }
 {
-    let count = held.count;
-    let left = held.reach;
     if f.slope == 0 {
-        return Sloped {
-            count,
-            reach: clip_any(left, f.drop, f.start),
-        };
-    }
-    kept[count] = f;
-    Sloped {
-        count: count + 1,
-        reach: left,
+        kept.reach = clip_any(kept.reach, f.drop, f.start);
+    } else {
+        kept.functions.push(f);
     }
 }
