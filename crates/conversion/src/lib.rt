@@ -32,13 +32,7 @@ fn convert_rows(
     for j in reach.first..reach.end {
         let start = j * width;
         let end = start + width;
-        let n = lay_patch(
-            functions,
-            panel,
-            j,
-            &mut rows[j],
-            &mut picture[start..end],
-        );
+        let n = lay_patch(functions, panel, j, &mut rows[j], &mut picture[start..end]);
         lit += u32::from(n);
     }
     lit

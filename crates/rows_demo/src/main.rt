@@ -70,14 +70,7 @@ fn show(rt: &HostRuntime, number: u32, spans: &[(u16, u16)])
     let mut cells = [0u16; 16];
     let mut row = two_segments(&mut cells);
     for (i, (first, last)) in spans.iter().enumerate() {
-        lay_over(
-            rt,
-            number + i as u32,
-            &mut row,
-            &mut cells,
-            *first,
-            *last,
-        );
+        lay_over(rt, number + i as u32, &mut row, &mut cells, *first, *last);
     }
 }
 

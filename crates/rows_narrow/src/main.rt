@@ -10,12 +10,7 @@ use row_lines::write_row;
 use rows::RowUnderWork;
 
 // Spans of one column, on every fourth column from the first of them on.
-fn lay_every_fourth(
-    row: &mut RowUnderWork,
-    cells: &mut [u16],
-    first: u16,
-    panel: u16,
-)
+fn lay_every_fourth(row: &mut RowUnderWork, cells: &mut [u16], first: u16, panel: u16)
     requires { UnderWork (length cells.old) row.old.pairs row.old.words }
     ensures { UnderWork (length cells.new) row.new.pairs row.new.words }
 {

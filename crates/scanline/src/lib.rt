@@ -42,12 +42,7 @@ fn lit_gap(pairs: &[u16; 256], width: usize) -> Span
 }
 
 // Lays a span on a row, unless it is empty, and says how many cells it newly lit.
-fn lay_span(
-    span: Span,
-    panel: u16,
-    row: &mut RowUnderWork,
-    cells: &mut [u16],
-) -> u16
+fn lay_span(span: Span, panel: u16, row: &mut RowUnderWork, cells: &mut [u16]) -> u16
     requires { (span.end ≤ length cells.old) × UnderWork (length cells.old) row.old.pairs row.old.words }
     ensures { ColumnsLaid (covers span) panel row.old.pairs row.old.words cells.old
         row.new.pairs row.new.words cells.new result }

@@ -15,7 +15,9 @@ fn first_open(rows: &[RowUnderWork; 128], from: usize, height: usize) -> usize
     requires { (from ≤ height) × (height ≤ 128) }
     ensures { FirstOpen rows.now from height result }
 {
-    (from..height).find(|j| rows[*j].pairs[1] != 0).unwrap_or(height)
+    (from..height)
+        .find(|j| rows[*j].pairs[1] != 0)
+        .unwrap_or(height)
 }
 
 // Patch after patch, until the walk is done or every row is full: what comes after cannot be seen. A patch goes by its place in the walk, as what is painted and booked
