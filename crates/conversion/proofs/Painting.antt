@@ -2,7 +2,7 @@
 use mathlib.Core.Path.{◌≡◌, sym, ap, ap₂, subst, ◌∙◌}
 use mathlib.Core.Logic.{◌≢◌, ⊎_elim}
 use mathlib.Core.Bool.{Bool, true, false, not, ◌&&◌, and-true, and-false}
-use mathlib.Core.List.{List, []}
+use mathlib.Core.List.{List}
 use Prim.Native.Nat.{ℕ, suc, ◌+◌, ◌-◌, ◌*◌, ◌≤◌, ◌<◌}
 use native.Mathlib.Decide.{ℕ_discrete}
 use native.Mathlib.Omega.{arith}
@@ -16,7 +16,7 @@ use Rattle.model.specs.Row.{row_of}
 use Rattle.model.specs.Map.{map_row}
 use Rattle.model.specs.Booking.{cells_where}
 use Rattle.model.proofs.Tests.{lt_or_ge}
-use Rattle.model.proofs.LitMap.{map_congr, map_length}
+use Rattle.model.proofs.LitMap.{map_congr}
 use Rattle.segments.specs.Columns.{painted}
 use Rattle.segments.proofs.Rows.{row_congr, row_length_lem}
 use Rattle.segments.proofs.Tallies.{tally_congr, tally_clear, tally_most}
@@ -25,7 +25,8 @@ use Rattle.geometry.specs.declared.EdgeFunction.{EdgeFunction}
 use Rattle.spans.specs.declared.Span.{Span}
 use Rattle.spans.specs.Span.{covers}
 use Rattle.spans.specs.Row.{all_above}
-use Rattle.rows.specs.Span.{UnderWork}
+use Rattle.rows.specs.declared.RowUnderWork.{RowUnderWork}
+use Rattle.rows.specs.Span.{no_row, UnderWork}
 use Rattle.scanline.specs.Laying.{ColumnsPainted, ColumnsLaid}
 use Rattle.conversion.specs.Canvas.{row_part, UnlitSets, in_rows, RowsPaintedOver}
 use Rattle.conversion.proofs.Totals.{total_clear, total_one, total_most}
@@ -62,21 +63,18 @@ others_covered first j m f =
 
 -- ---- rows under work are there
 
-there : (list : List (List ℕ)) (j n : ℕ) → length (get_or list j []) ≡ suc n → j < length list
+there : (list : List RowUnderWork) (j n : ℕ) → length (get_or list j no_row).pairs ≡ suc n → j < length list
 there list j n e =
     ⊎_elim (λ (l : j < length list). l)
-    (λ (l : length list ≤ j). absurd (omega (arith, ap length (sym (get_or-eq_default list [] l)) ∙ e)))
+    (λ (l : length list ≤ j). absurd (omega (arith, ap (λ (r : RowUnderWork). length r.pairs) (sym (get_or-eq_default list no_row l)) ∙ e)))
     (lt_or_ge j (length list))
 
-module _ {width height : ℕ} {unlit : ℕ → ℕ → Bool} {rows words : List (List ℕ)} (u : UnlitSets width height unlit rows words) (j : ℕ) (b : j < height) where
+module _ {width height : ℕ} {unlit : ℕ → ℕ → Bool} {rows : List RowUnderWork} (u : UnlitSets width height unlit rows) (j : ℕ) (b : j < height) where
   row_there : j < length rows
   row_there = there rows j 255 (ap length (u.rows_are j b) ∙ row_length_lem width (unlit j))
 
-  words_there : j < length words
-  words_there = there words j 3 (ap length (u.words_are j b) ∙ map_length width (unlit j))
-
   -- what laying a span in row j asks
-  pub row_under_work : (n : ℕ) → n ≡ width → width ≤ 256 → UnderWork n (get_or rows j []) (get_or words j [])
+  pub row_under_work : (n : ℕ) → n ≡ width → width ≤ 256 → UnderWork n (get_or rows j no_row).pairs (get_or rows j no_row).words
   row_under_work n e narrow =
       record {
         listed = record { fits = omega arith; unlit = unlit j; row_is = rw e (u.rows_are j b) };
@@ -87,8 +85,8 @@ module _ {width height : ℕ} {unlit : ℕ → ℕ → Bool} {rows words : List 
 
 module _ (fs : List EdgeFunction) (panel width height : ℕ) (unlit : ℕ → ℕ → Bool) (picture : List ℕ) where
   -- the rows of a span are painted
-  abbrev pub Over : Span → List (List ℕ) → List (List ℕ) → List ℕ → ℕ → Type 0
-  Over reach rows words picture' lit = RowsPaintedOver (in_rows reach fs) panel width height unlit picture rows words picture' lit
+  abbrev pub Over : Span → List RowUnderWork → List ℕ → ℕ → Type 0
+  Over reach rows picture' lit = RowsPaintedOver (in_rows reach fs) panel width height unlit picture rows picture' lit
 
   -- what is painted in row j, and what is left
   abbrev new : Span → ℕ → ℕ → Bool
@@ -103,7 +101,7 @@ module _ (fs : List EdgeFunction) (panel width height : ℕ) (unlit : ℕ → �
   all_left : (reach : Span) (j : ℕ) → covers reach j ≡ false → (i : ℕ) → unlit j i ≡ left reach j i
   all_left reach j e i = rw e (sym (and-true (unlit j i)))
 
-  pub over_none : (first : ℕ) {rows words : List (List ℕ)} → UnlitSets width height unlit rows words → Over (up_to first first) rows words picture 0
+  pub over_none : (first : ℕ) {rows : List RowUnderWork} → UnlitSets width height unlit rows → Over (up_to first first) rows picture 0
   unfolding cells_where
   over_none first u =
       record {
@@ -116,7 +114,7 @@ module _ (fs : List EdgeFunction) (panel width height : ℕ) (unlit : ℕ → �
         lit_is = sym (total_clear _ height (λ j b. tally_clear _ width (λ i l. none_new (up_to first first) j (none_covered first j) i)));
       }
 
-  module _ (first j : ℕ) {lit : ℕ} {rows words : List (List ℕ)} {now : List ℕ} (inv : Over (up_to first j) rows words now lit) where
+  module _ (first j : ℕ) {lit : ℕ} {rows : List RowUnderWork} {now : List ℕ} (inv : Over (up_to first j) rows now lit) where
     -- no more cells than there are
     pub over_most : width ≤ 256 → lit ≤ 256 * height
     unfolding cells_where
@@ -124,13 +122,13 @@ module _ (fs : List EdgeFunction) (panel width height : ℕ) (unlit : ℕ → �
 
     module _
         (from : first ≤ j) (b : j < height) (room : height * width ≤ length now)
-        {row words' cells : List ℕ} {n : ℕ}
-        (laid : ColumnsLaid (λ (i : ℕ). all_above fs i j) panel (get_or rows j []) (get_or words j []) (lent_part width j now) row words' cells n)
+        {row : RowUnderWork} {cells : List ℕ} {n : ℕ}
+        (laid : ColumnsLaid (λ (i : ℕ). all_above fs i j) panel (get_or rows j no_row).pairs (get_or rows j no_row).words (lent_part width j now) row.pairs row.words cells n)
       where
         long : length (lent_part width j now) ≡ width
         long = ap length (lent_is width j now) ∙ part_long width j now (row_inside width (length now) room b)
 
-        next : ColumnsPainted (λ (i : ℕ). all_above fs i j) panel (left (up_to first j) j) (lent_part width j now) row words' cells n
+        next : ColumnsPainted (λ (i : ℕ). all_above fs i j) panel (left (up_to first j) j) (lent_part width j now) row.pairs row.words cells n
         next = laid.laid (left (up_to first j) j) (rw long (inv.sets.rows_are j b)) (rw long (inv.sets.words_are j b))
 
         cells_long : length cells ≡ width
@@ -148,7 +146,7 @@ module _ (fs : List EdgeFunction) (panel width height : ℕ) (unlit : ℕ → �
         other m f g i = ap (λ (c : Bool). unlit m i && g (c && all_above fs i m)) (sym (others_covered first j m f))
 
         pub over_goes :
-            Over (up_to first (j + 1)) (set rows j row) (set words j words') (put_mid (j * width) (j * width + width - j * width) now cells) (lit + n)
+            Over (up_to first (j + 1)) (set rows j row) (put_mid (j * width) (j * width + width - j * width) now cells) (lit + n)
         unfolding cells_where
         over_goes =
             record {
@@ -167,17 +165,17 @@ module _ (fs : List EdgeFunction) (panel width height : ℕ) (unlit : ℕ → �
                   (tally_clear _ width (λ i l. none_new (up_to first j) j (next_uncovered first j) i)));
             }
           where
-            row_at : (m : ℕ) → m < height → Dec (m ≡ j) → get_or (set rows j row) m [] ≡ row_of width (left (up_to first (j + 1)) m)
+            row_at : (m : ℕ) → m < height → Dec (m ≡ j) → (get_or (set rows j row) m no_row).pairs ≡ row_of width (left (up_to first (j + 1)) m)
             row_at m c (yes e) =
-                subst (λ (k : ℕ). get_or (set rows j row) k [] ≡ row_of width (left (up_to first (j + 1)) k)) (sym e)
-                (get_or-set_same rows j row [] (row_there inv.sets j b) ∙ next.row_is ∙ rw long (row_congr width _ _ (λ i l. now_left i)))
-            row_at m c (no f) = get_or-set_other rows j m row [] f ∙ inv.sets.rows_are m c ∙ row_congr width _ _ (λ i l. other m f not i)
+                subst (λ (k : ℕ). (get_or (set rows j row) k no_row).pairs ≡ row_of width (left (up_to first (j + 1)) k)) (sym e)
+                (ap (λ (r : RowUnderWork). r.pairs) (get_or-set_same rows j row no_row (row_there inv.sets j b)) ∙ next.row_is ∙ rw long (row_congr width _ _ (λ i l. now_left i)))
+            row_at m c (no f) = ap (λ (r : RowUnderWork). r.pairs) (get_or-set_other rows j m row no_row f) ∙ inv.sets.rows_are m c ∙ row_congr width _ _ (λ i l. other m f not i)
 
-            words_at : (m : ℕ) → m < height → Dec (m ≡ j) → get_or (set words j words') m [] ≡ map_row width (left (up_to first (j + 1)) m)
+            words_at : (m : ℕ) → m < height → Dec (m ≡ j) → (get_or (set rows j row) m no_row).words ≡ map_row width (left (up_to first (j + 1)) m)
             words_at m c (yes e) =
-                subst (λ (k : ℕ). get_or (set words j words') k [] ≡ map_row width (left (up_to first (j + 1)) k)) (sym e)
-                (get_or-set_same words j words' [] (words_there inv.sets j b) ∙ next.words_are ∙ rw long (map_congr width _ _ (λ i l. now_left i)))
-            words_at m c (no f) = get_or-set_other words j m words' [] f ∙ inv.sets.words_are m c ∙ map_congr width _ _ (λ i l. other m f not i)
+                subst (λ (k : ℕ). (get_or (set rows j row) k no_row).words ≡ map_row width (left (up_to first (j + 1)) k)) (sym e)
+                (ap (λ (r : RowUnderWork). r.words) (get_or-set_same rows j row no_row (row_there inv.sets j b)) ∙ next.words_are ∙ rw long (map_congr width _ _ (λ i l. now_left i)))
+            words_at m c (no f) = ap (λ (r : RowUnderWork). r.words) (get_or-set_other rows j m row no_row f) ∙ inv.sets.words_are m c ∙ map_congr width _ _ (λ i l. other m f not i)
 
             cells_at :
                 (m : ℕ) → m < height → Dec (m ≡ j) →

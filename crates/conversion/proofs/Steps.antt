@@ -33,6 +33,8 @@ use Rattle.reach.specs.declared.RasterPlanes.{RasterPlanes}
 use Rattle.reach.specs.Planes.{Sighting}
 use Rattle.reach.specs.Reach.{Reach}
 use Rattle.reach.proofs.ProperPatches.{numbered_proper}
+use Rattle.rows.specs.declared.RowUnderWork.{RowUnderWork}
+use Rattle.rows.specs.Span.{no_row}
 use Rattle.scanline.specs.Shown.{unlit_after}
 use Rattle.scanline.specs.Laying.{ColumnsPainted}
 use Rattle.scanline.proofs.WalkPainted.{walk_goes}
@@ -42,12 +44,12 @@ use Rattle.conversion.proofs.Totals.{total_same}
 use Rattle.conversion.proofs.PatchBooked.{patch_booked, booked_most}
 use Rattle.conversion.proofs.Painting.{none_covered, over_none}
 
-module _ {bytes : List ℕ} {s : Sight} {order : List ℕ} {rows words : List (List ℕ)} {picture booked : List ℕ} {k : ℕ} (inv : WalkPainted bytes s order rows words picture booked k) where
+module _ {bytes : List ℕ} {s : Sight} {order : List ℕ} {rows : List RowUnderWork} {picture booked : List ℕ} {k : ℕ} (inv : WalkPainted bytes s order rows picture booked k) where
   -- the columns of each row that are unlit after k patches
   abbrev pub unlit_by : ℕ → ℕ → Bool
   unlit_by j = unlit_after (vec_of s.eye) (λ (i : ℕ). line_at s.raster i j) (map (patch_numbered (decode bytes)) (take k order))
 
-  pub under_work : UnlitSets s.raster.width s.raster.height unlit_by rows words
+  pub under_work : UnlitSets s.raster.width s.raster.height unlit_by rows
   under_work = record { rows_are = λ j b. (inv.each j b).so_far.row_is; words_are = λ j b. (inv.each j b).so_far.words_are }
 
   -- the next patch, and the cells that it newly lights
@@ -58,9 +60,9 @@ module _ {bytes : List ℕ} {s : Sight} {order : List ℕ} {rows words : List (L
   meets j i = met (vec_of s.eye) (line_at s.raster i j) next
 
   module _
-      {columns : ℕ → ℕ → Bool} {rows' words' : List (List ℕ)} {picture' : List ℕ} {lit : ℕ} (h : k < length order)
+      {columns : ℕ → ℕ → Bool} {rows' : List RowUnderWork} {picture' : List ℕ} {lit : ℕ} (h : k < length order)
       (same : (j : ℕ) → j < s.raster.height → (i : ℕ) → i < s.raster.width → columns j i ≡ meets j i)
-      (over : RowsPaintedOver columns next.panel s.raster.width s.raster.height unlit_by picture rows' words' picture' lit)
+      (over : RowsPaintedOver columns next.panel s.raster.width s.raster.height unlit_by picture rows' picture' lit)
     where
       lit_cells_lem : lit ≡ cells_where s.raster.width s.raster.height (λ (i j : ℕ). unlit_by j i && meets j i)
       unfolding cells_where
@@ -69,7 +71,7 @@ module _ {bytes : List ℕ} {s : Sight} {order : List ℕ} {rows words : List (L
           ∙ total_same _ _ s.raster.height
           (λ j b. tally_congr _ _ s.raster.width (λ i l. ap (λ (c : Bool). unlit_by j i && c) (same j b i l)))
 
-      pub patch_goes : get_or order k 0 < length booked → WalkPainted bytes s order rows' words' picture' (set booked (get_or order k 0) (get_or booked (get_or order k 0) 0 + lit)) (k + 1)
+      pub patch_goes : get_or order k 0 < length booked → WalkPainted bytes s order rows' picture' (set booked (get_or order k 0) (get_or booked (get_or order k 0) 0 + lit)) (k + 1)
       patch_goes entry =
           record {
             each = λ j b. walk_goes (inv.each j b) h (painted j b);
@@ -80,7 +82,7 @@ module _ {bytes : List ℕ} {s : Sight} {order : List ℕ} {rows words : List (L
         where
           painted :
               (j : ℕ) → j < s.raster.height →
-              ColumnsPainted (meets j) next.panel (unlit_by j) (row_part s.raster.width j picture) (get_or rows' j []) (get_or words' j []) (row_part s.raster.width j picture')
+              ColumnsPainted (meets j) next.panel (unlit_by j) (row_part s.raster.width j picture) (get_or rows' j no_row).pairs (get_or rows' j no_row).words (row_part s.raster.width j picture')
               (tally (λ (i : ℕ). unlit_by j i && meets j i) (range 0 (length (row_part s.raster.width j picture))))
           painted j b =
               record {
@@ -99,8 +101,8 @@ module _ {bytes : List ℕ} {s : Sight} {order : List ℕ} {rows words : List (L
 -- ---- what a call for one patch gives
 
 module _
-    {bytes : List ℕ} {l : Layout} {order : List ℕ} {k : ℕ} {s : Sight} {planes : RasterPlanes} {rows words : List (List ℕ)} {picture booked : List ℕ}
-    (asked : PatchAsked bytes l order k s planes rows words picture booked)
+    {bytes : List ℕ} {l : Layout} {order : List ℕ} {k : ℕ} {s : Sight} {planes : RasterPlanes} {rows : List RowUnderWork} {picture booked : List ℕ}
+    (asked : PatchAsked bytes l order k s planes rows picture booked)
   where
     abbrev p : Patch
     p = patch_numbered (decode bytes) (get_or order k 0)
@@ -125,9 +127,9 @@ module _
     -- a patch that no cell's line meets changes nothing
     pub patch_missed :
         ((j : ℕ) → j < s.raster.height → (i : ℕ) → i < s.raster.width → met (vec_of s.eye) (line_at s.raster i j) p ≡ false) →
-        WalkPainted bytes s order rows words picture booked (k + 1)
+        WalkPainted bytes s order rows picture booked (k + 1)
     patch_missed missed =
-        subst (λ (b : List ℕ). WalkPainted bytes s order rows words picture b (k + 1))
+        subst (λ (b : List ℕ). WalkPainted bytes s order rows picture b (k + 1))
         (ap (set booked (get_or order k 0)) (add-zero (get_or booked (get_or order k 0) 0)) ∙ set-get_or booked (get_or order k 0) 0)
         (patch_goes asked.so_far asked.next
         (λ j b i l. rw (none_covered 0 j) (sym (missed j b i l)))
@@ -143,7 +145,7 @@ module _
         room : s.raster.height * s.raster.width ≤ length picture
         room = omega (arith, asked.cells, mul_comm s.raster.width s.raster.height)
 
-        pub rows_asked_lem : RowsAsked (take r.count table) r.reach s.raster.width rows words picture
+        pub rows_asked_lem : RowsAsked (take r.count table) r.reach s.raster.width rows picture
         rows_asked_lem =
             record {
               run = edges.run;
@@ -160,10 +162,10 @@ module _
             }
 
         module _
-            {panel : ℕ} {rows' words' : List (List ℕ)} {picture' : List ℕ} {lit : ℕ} (panel_is : panel ≡ p.panel)
+            {panel : ℕ} {rows' : List RowUnderWork} {picture' : List ℕ} {lit : ℕ} (panel_is : panel ≡ p.panel)
             (over :
-            (height : ℕ) (unlit : ℕ → ℕ → Bool) → r.reach.end ≤ height → height * s.raster.width ≤ length picture → UnlitSets s.raster.width height unlit rows words →
-            RowsPaintedOver (in_rows r.reach (take r.count table)) panel s.raster.width height unlit picture rows' words' picture' lit)
+            (height : ℕ) (unlit : ℕ → ℕ → Bool) → r.reach.end ≤ height → height * s.raster.width ≤ length picture → UnlitSets s.raster.width height unlit rows →
+            RowsPaintedOver (in_rows r.reach (take r.count table)) panel s.raster.width height unlit picture rows' picture' lit)
           where
             -- it is met in the rows of its reach alone, and there in the rows that are left, where the functions kept are above 0
             met_there : (j : ℕ) → j < s.raster.height → (i : ℕ) → i < s.raster.width → in_rows r.reach (take r.count table) j i ≡ met (vec_of s.eye) (line_at s.raster i j) p
@@ -176,12 +178,12 @@ module _
                 go true e = refl
                 go false e = sym (found.missed j b (outside e) i)
 
-            pub patch_done : WalkPainted bytes s order rows' words' picture' (set booked (get_or order k 0) (get_or booked (get_or order k 0) 0 + lit)) (k + 1)
+            pub patch_done : WalkPainted bytes s order rows' picture' (set booked (get_or order k 0) (get_or booked (get_or order k 0) 0 + lit)) (k + 1)
             patch_done =
                 patch_goes asked.so_far asked.next met_there
                 (subst
                 (λ (n : ℕ).
-                RowsPaintedOver (in_rows r.reach (take r.count table)) n s.raster.width s.raster.height (unlit_by asked.so_far) picture rows' words' picture' lit)
+                RowsPaintedOver (in_rows r.reach (take r.count table)) n s.raster.width s.raster.height (unlit_by asked.so_far) picture rows' picture' lit)
                 panel_is (over s.raster.height (unlit_by asked.so_far) inside room (under_work asked.so_far)))
                 entry
 

@@ -9,6 +9,7 @@ use checked::CheckedScene;
 use edges::{Sight, patch_edges};
 use geometry::EdgeFunction;
 use reach::{RasterPlanes, beside_columns, patch_rows};
+use rows::RowUnderWork;
 use scanline::lay_patch;
 use spans::Span;
 
@@ -18,28 +19,20 @@ fn convert_rows(
     panel: u16,
     reach: Span,
     width: usize,
-    rows: &mut [[u16; 256]; 128],
-    words: &mut [[u64; 4]; 128],
+    rows: &mut [RowUnderWork; 128],
     picture: &mut [u16],
 ) -> u32
-    requires { RowsAsked functions.now reach width rows.old words.old picture.old }
+    requires { RowsAsked functions.now reach width rows.old picture.old }
     ensures { (height : ℕ) (unlit : ℕ → ℕ → Bool) → reach.end ≤ height → height * width ≤ length picture.old →
-        UnlitSets width height unlit rows.old words.old →
+        UnlitSets width height unlit rows.old →
         RowsPaintedOver (in_rows reach functions.now) panel width height unlit picture.old
-        rows.new words.new picture.new result }
+        rows.new picture.new result }
 {
     let mut lit = 0u32;
     for j in reach.first..reach.end {
         let start = j * width;
         let end = start + width;
-        let n = lay_patch(
-            functions,
-            panel,
-            j,
-            &mut rows[j],
-            &mut words[j],
-            &mut picture[start..end],
-        );
+        let n = lay_patch(functions, panel, j, &mut rows[j], &mut picture[start..end]);
         lit += u32::from(n);
     }
     lit
@@ -53,13 +46,12 @@ pub fn paint_patch(
     k: usize,
     sight: Sight,
     planes: RasterPlanes,
-    rows: &mut [[u16; 256]; 128],
-    words: &mut [[u64; 4]; 128],
+    rows: &mut [RowUnderWork; 128],
     picture: &mut [u16],
     booked: &mut [u32],
 )
-    requires { PatchAsked scene.now.bytes.now scene.now.layout order.now k sight planes rows.old words.old picture.old booked.old }
-    ensures { WalkPainted scene.now.bytes.now sight order.now rows.new words.new picture.new booked.new (k + 1) }
+    requires { PatchAsked scene.now.bytes.now scene.now.layout order.now k sight planes rows.old picture.old booked.old }
+    ensures { WalkPainted scene.now.bytes.now sight order.now rows.new picture.new booked.new (k + 1) }
 {
     let n = order[k] as usize;
     let reach = patch_rows(scene, n, sight.eye, sight.raster, planes);
@@ -77,7 +69,6 @@ pub fn paint_patch(
             kept.reach,
             sight.raster.width,
             rows,
-            words,
             picture,
         );
         booked[n] += lit;

@@ -1,11 +1,11 @@
 -- Rows of one length, written to a list one after the other.
 use mathlib.Core.Path.{◌≡◌, sym, ap, ap₂, subst, ◌∙◌}
-use mathlib.Core.List.{List, [], ◌++◌, map, flatten, append-nil, append_assoc}
+use mathlib.Core.List.{List, ◌++◌, map, flatten, append-nil, append_assoc}
 use Prim.Native.Nat.{ℕ, zero, suc, ◌+◌, ◌-◌, ◌*◌, ◌≤◌, ◌<◌}
 use native.Mathlib.Nat.{add-zero, zero-add, zero-mul, mul-le-mul_right}
 use native.Mathlib.Numerals.{add-one}
 use native.Mathlib.Omega.{arith}
-use lib.ListN.{length, get_or, take, drop, length-drop, length-append}
+use lib.ListN.{length, take, drop, length-drop, length-append}
 use lib.Seq.{drop-drop, take_at, take_all, length-take-le}
 use borrow.Rule.Slice.PartMut.{put_mid}
 use Rattle.model.specs.Lists.{range}
@@ -46,37 +46,36 @@ last_row row a (suc n) =
     ∙ ap (λ (m : ℕ). (row a ++ flatten (map row (range (suc a) n))) ++ row m) e
 
 -- the rows before row j are written
-pub record WrittenUpTo {A : Type 0} (width height : ℕ) (rows : List (List A)) (list : List A) (j : ℕ) : Type 0 where
+pub record WrittenUpTo {A : Type 0} (width height : ℕ) (row : ℕ → List A) (list : List A) (j : ℕ) : Type 0 where
   pub bound : j ≤ height
   pub long : length list ≡ height * width
-  pub before_are : take (j * width) list ≡ row_after_row j rows
+  pub before_are : take (j * width) list ≡ row_after_row j row
 
-module _ {A : Type 0} {width height : ℕ} {rows : List (List A)} where
-  pub writing_starts : {list : List A} → WritingAsked width height rows list → WrittenUpTo width height rows list 0
+module _ {A : Type 0} {width height : ℕ} {row : ℕ → List A} where
+  pub writing_starts : {list : List A} → WritingAsked width height list → WrittenUpTo width height row list 0
   unfolding flatten
   writing_starts {list} asked =
       record { bound = omega arith; long = asked.room; before_are = ap (λ (n : ℕ). take n list) (zero-mul width) }
 
-  module _ {list : List A} {j : ℕ} (inv : WrittenUpTo width height rows list j) where
+  module _ {list : List A} {j : ℕ} (inv : WrittenUpTo width height row list j) where
     pub row_fits : j < height → j * width + width ≤ length list
     row_fits h = omega (arith, inv.long, mul-le-mul_right width h)
 
     pub writing_goes :
-        {row : List A} → j < height → ((k : ℕ) → k < height → length (get_or rows k []) ≡ width) → row ≡ get_or rows j [] →
-        WrittenUpTo width height rows (put_mid (j * width) (j * width + width - j * width) list row) (j + 1)
-    writing_goes {row} h each e =
-        let f : length row ≡ width = ap length e ∙ each j h in
+        {written : List A} → j < height → length written ≡ width → written ≡ row j →
+        WrittenUpTo width height row (put_mid (j * width) (j * width + width - j * width) list written) (j + 1)
+    writing_goes {written} h f e =
         record {
           bound = omega arith;
-          long = as_long width j row list (row_fits h) f ∙ inv.long;
+          long = as_long width j written list (row_fits h) f ∙ inv.long;
           before_are =
-              through_row width j row list (row_fits h) f
+              through_row width j written list (row_fits h) f
               ∙ ap₂ ◌++◌ inv.before_are e
-              ∙ sym (rw (add-one j) (last_row (λ (k : ℕ). get_or rows k []) 0 j ∙ ap (λ (k : ℕ). row_after_row j rows ++ get_or rows k []) (zero-add j)));
+              ∙ sym (rw (add-one j) (last_row row 0 j ∙ ap (λ (k : ℕ). row_after_row j row ++ row k) (zero-add j)));
         }
 
-    pub writing_ends : height ≤ j → list ≡ row_after_row height rows
+    pub writing_ends : height ≤ j → list ≡ row_after_row height row
     writing_ends h =
         let e : j ≡ height = omega (arith, inv.bound) in
-        let right = subst (WrittenUpTo width height rows list) e inv in
+        let right = subst (WrittenUpTo width height row list) e inv in
         sym (take_all (height * width) list (omega (arith, inv.long))) ∙ right.before_are

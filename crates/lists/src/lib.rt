@@ -1,15 +1,21 @@
 // The rows under work, written to the lent lists row after row.
 #![tactic(auto)]
 
-ghost use Rattle.std.specs.Prelude.{◌≡◌};
+ghost use Rattle.std.specs.Prelude.{◌≡◌, get_or};
+ghost use Rattle.rows.specs.Span.{no_row};
 ghost use Rattle.lists.specs.Writing.{WritingAsked, row_after_row};
 
-// Writes the rows under work to the lent list of unlit segments, or their words to the lent lit map, row after row.
-pub fn write_rows<T: Copy, const N: usize>(rows: &[[T; N]; 128], height: usize, list: &mut [T])
-    requires { WritingAsked N height rows.now list.old }
-    ensures { list.new ≡ row_after_row height rows.now }
+use rows::RowUnderWork;
+
+// Writes the rows' pairs to the lent list of unlit segments, and their words to the lent lit map, row after row.
+pub fn write_rows(rows: &[RowUnderWork; 128], height: usize, unlit: &mut [u16], lit: &mut [u64])
+    requires { WritingAsked 256 height unlit.old × WritingAsked 4 height lit.old }
+    ensures pairs { unlit.new ≡ row_after_row height (λ j. (get_or rows.now j no_row).pairs) }
+    ensures words { lit.new ≡ row_after_row height (λ j. (get_or rows.now j no_row).words) }
 {
     for j in 0..height {
-        list[j * N..j * N + N].copy_from_slice(&rows[j]);
+        let row = &rows[j];
+        unlit[j * 256..j * 256 + 256].copy_from_slice(&row.pairs);
+        lit[j * 4..j * 4 + 4].copy_from_slice(&row.words);
     }
 }

@@ -14,6 +14,8 @@ use Rattle.segments.proofs.Mapped.{fresh_map}
 use Rattle.geometry.specs.Machine.{vec_of}
 use Rattle.geometry.specs.Raster.{line_at}
 use Rattle.edges.specs.declared.Sight.{Sight}
+use Rattle.rows.specs.declared.RowUnderWork.{RowUnderWork}
+use Rattle.rows.specs.Span.{no_row}
 use Rattle.scanline.proofs.WalkPainted.{walk_starts}
 use Rattle.conversion.specs.Canvas.{row_part}
 use Rattle.conversion.specs.Booked.{Booked}
@@ -30,16 +32,16 @@ cleared_row width j n h =
     get_or-take width (drop (j * width) (replicate n 0)) i 0 b ∙ get_or-drop (j * width) (replicate n 0) i 0 ∙ zero_at n (j * width + i) ∙ sym (zero_at width i))
 
 pub walk_fresh :
-    (bytes : List ℕ) (s : Sight) (order : List ℕ) {row picture booked : List ℕ} (n m : ℕ) →
-    s.raster.height ≤ 128 → row ≡ row_of s.raster.width (λ (i : ℕ). true) → n ≡ s.raster.width * s.raster.height → picture ≡ replicate n 0 → booked ≡ replicate m 0 →
-    WalkPainted bytes s order (replicate 128 row) (replicate 128 (0 ∷ 0 ∷ 0 ∷ 0 ∷ [])) picture booked 0
-walk_fresh bytes s order {row} {picture} {booked} n m low fresh size cells none =
+    (bytes : List ℕ) (s : Sight) (order : List ℕ) {row : RowUnderWork} {picture booked : List ℕ} (n m : ℕ) →
+    s.raster.height ≤ 128 → row.pairs ≡ row_of s.raster.width (λ (i : ℕ). true) → row.words ≡ 0 ∷ 0 ∷ 0 ∷ 0 ∷ [] → n ≡ s.raster.width * s.raster.height → picture ≡ replicate n 0 → booked ≡ replicate m 0 →
+    WalkPainted bytes s order (replicate 128 row) picture booked 0
+walk_fresh bytes s order {row} {picture} {booked} n m low fresh zeros size cells none =
     record {
       each = λ j b.
           walk_starts
           (ap (row_part s.raster.width j) cells ∙ cleared_row s.raster.width j n (row_inside s.raster.width n (omega (arith, size, mul_comm s.raster.width s.raster.height)) b))
-          (get_or-replicate 128 j row [] (omega (arith, low)) ∙ fresh)
-          (get_or-replicate 128 j (0 ∷ 0 ∷ 0 ∷ 0 ∷ []) [] (omega (arith, low)) ∙ fresh_map s.raster.width);
+          (ap (λ (r : RowUnderWork). r.pairs) (get_or-replicate 128 j row no_row (omega (arith, low))) ∙ fresh)
+          (ap (λ (r : RowUnderWork). r.words) (get_or-replicate 128 j row no_row (omega (arith, low))) ∙ zeros ∙ fresh_map s.raster.width);
       booked_are =
           subst (λ (l : List ℕ). Booked (vec_of s.eye) (line_at s.raster) (patch_numbered (decode bytes)) [] s.raster.width l s.raster.height) (sym none)
           (none_booked (vec_of s.eye) (line_at s.raster) (patch_numbered (decode bytes)) s.raster.width m s.raster.height);

@@ -1,21 +1,19 @@
 -- The rows of a picture, one after the other.
 use mathlib.Core.Path.{◌≡◌, sym, ap, ap₂, ◌∙◌}
 use mathlib.Core.List.{List, ◌++◌, map, flatten}
-use Prim.Native.Nat.{ℕ, zero, suc, ◌+◌, ◌*◌, ◌≤◌, ◌<◌}
+use Prim.Native.Nat.{ℕ, zero, suc, ◌+◌, ◌*◌, ◌<◌}
 use native.Mathlib.Nat.{zero-add, zero-mul, mul_comm}
 use native.Mathlib.Omega.{arith}
-use lib.ListN.{length, take}
+use lib.ListN.{length, take, get_or}
 use lib.Seq.{take-add, take_all}
 use Rattle.model.specs.Lists.{range}
-use Rattle.model.specs.Row.{row_length}
-use Rattle.model.specs.Map.{row_words}
 use Rattle.model.proofs.Tables.{same_table}
-use Rattle.model.proofs.LitMap.{map_length}
-use Rattle.segments.proofs.Rows.{row_length_lem}
 use Rattle.geometry.specs.Machine.{vec_of}
 use Rattle.geometry.specs.Raster.{line_at}
 use Rattle.edges.specs.declared.Sight.{Sight}
-use Rattle.lists.specs.Writing.{WritingAsked, row_after_row}
+use Rattle.rows.specs.declared.RowUnderWork.{RowUnderWork}
+use Rattle.rows.specs.Span.{no_row}
+use Rattle.lists.specs.Writing.{row_after_row}
 use Rattle.lists.proofs.Written.{last_row}
 use Rattle.conversion.specs.Canvas.{row_part}
 use Rattle.traversal.specs.Walk.{walk_of, WholePainted}
@@ -36,15 +34,9 @@ rows_front width list (suc j) =
 joined_alike : (f g : ℕ → List ℕ) (n : ℕ) → ((j : ℕ) → j < n → f j ≡ g j) → flatten (map f (range 0 n)) ≡ flatten (map g (range 0 n))
 joined_alike f g n same = ap flatten (same_table f g 0 0 n (λ k h. ap f (zero-add k) ∙ same k h ∙ ap g (sym (zero-add k))))
 
-module _ {bytes : List ℕ} {s : Sight} {order : List ℕ} {rows words : List (List ℕ)} {picture booked : List ℕ} (whole : WholePainted bytes s order rows words picture booked) where
-  pub rows_writable : {unlit : List ℕ} → s.raster.height ≤ 128 → length unlit ≡ s.raster.height * row_length → WritingAsked row_length s.raster.height rows unlit
-  rows_writable low room = record { low = low; room = room; each = λ j b. ap length (whole.each j b).row_is ∙ row_length_lem s.raster.width _ }
-
-  pub maps_writable : {lit : List ℕ} → s.raster.height ≤ 128 → length lit ≡ s.raster.height * row_words → WritingAsked row_words s.raster.height words lit
-  maps_writable low room = record { low = low; room = room; each = λ j b. ap length (whole.each j b).words_are ∙ map_length s.raster.width _ }
-
+module _ {bytes : List ℕ} {s : Sight} {order : List ℕ} {rows : List RowUnderWork} {picture booked : List ℕ} (whole : WholePainted bytes s order rows picture booked) where
   pub rows_painted :
-      {unlit lit : List ℕ} → length picture ≡ s.raster.width * s.raster.height → unlit ≡ row_after_row s.raster.height rows → lit ≡ row_after_row s.raster.height words →
+      {unlit lit : List ℕ} → length picture ≡ s.raster.width * s.raster.height → unlit ≡ row_after_row s.raster.height (λ (j : ℕ). (get_or rows j no_row).pairs) → lit ≡ row_after_row s.raster.height (λ (j : ℕ). (get_or rows j no_row).words) →
       RowsPainted (vec_of s.eye) (line_at s.raster) (walk_of bytes order) s.raster.width s.raster.height picture unlit lit
   rows_painted cells u m =
       let width : ℕ = s.raster.width in

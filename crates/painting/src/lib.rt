@@ -11,6 +11,7 @@ ghost use Rattle.painting.specs.Picture.{PictureAsked, RowsPainted};
 use checked::CheckedScene;
 use edges::Sight;
 use lists::write_rows;
+use rows::RowUnderWork;
 use traversal::paint_walk;
 
 // Paints the walk on fresh rows and writes them to the lent lists when it is done.
@@ -32,11 +33,8 @@ pub fn paint_rows(
     // patches that no row shows are never booked: their entries are 0 from here on, whatever the table held
     booked.fill(0);
     picture.fill(0);
-    let row = rows::fresh(sight.raster.width as u16);
+    let row = RowUnderWork::fresh(sight.raster.width as u16);
     let mut rows = [row; 128];
-    let mut words = [[0u64; 4]; 128];
-    paint_walk(scene, order, sight, &mut rows, &mut words, picture, booked);
-    let height = sight.raster.height;
-    write_rows(&rows, height, unlit);
-    write_rows(&words, height, lit);
+    paint_walk(scene, order, sight, &mut rows, picture, booked);
+    write_rows(&rows, sight.raster.height, unlit, lit);
 }

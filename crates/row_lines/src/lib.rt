@@ -13,7 +13,7 @@ ghost use Rattle.console.specs.Writing.{WroteOrTold};
 use arrayvec::ArrayVec;
 use console::write_or_tell;
 use numerals::put_each;
-use rows::Laid;
+use rows::{Laid, RowUnderWork};
 use std::io::{Result, Write};
 use text::{put_number, put_text};
 
@@ -28,22 +28,23 @@ fn report(laid: Laid) -> [u16; 3]
 }
 
 // The line of a row: its number and those reported, the used pairs, the words of the lit map and the cells.
+// It is lent the row's pairs and words and not the row: the proof needs that each number fits its width, which is known of an array that is lent and was not found of one in a struct.
 #[tactic(auto, using(crate::proofs::Used::used_whole), unfolding(crate::specs::Line::beginning, crate::specs::Line::fields))]
 fn put_row(
     number: u32,
     reported: &[u16],
-    row: &[u16; 256],
+    pairs: &[u16; 256],
     words: &[u64; 4],
     cells: &[u16],
 ) -> ArrayVec<u8, ROOM>
     requires { (length reported.now ≤ 3) × (length cells.now ≤ 256) }
-    ensures { result.items ≡ row_line number reported.now row.now words.now cells.now }
+    ensures { result.items ≡ row_line number reported.now pairs.now words.now cells.now }
 {
     let mut line = ArrayVec::new();
     put_number(&mut line, number);
     put_each(&mut line, reported);
     line.push(b':');
-    put_each(&mut line, rows::used_pairs(row, 0));
+    put_each(&mut line, rows::used_pairs(pairs, 0));
     put_text(&mut line, b" |");
     put_each(&mut line, words);
     put_text(&mut line, b" |");
@@ -58,39 +59,37 @@ pub fn write_row<W: Write, E: Write>(
     errors: &mut E,
     number: u32,
     reported: &[u16],
-    row: &[u16; 256],
-    words: &[u64; 4],
+    row: &RowUnderWork,
     cells: &[u16],
     message: &[u8],
 ) -> Result<()>
     requires { (length reported.now ≤ 3) × (length cells.now ≤ 256) }
-    ensures { WroteOrTold (W.contents output.old) (W.contents output.new) (row_line number reported.now row.now words.now cells.now)
+    ensures { WroteOrTold (W.contents output.old) (W.contents output.new) (row_line number reported.now row.now.pairs row.now.words cells.now)
         (E.contents errors.old) (E.contents errors.new) message.now result }
 {
-    let line = put_row(number, reported, row, words, cells);
+    let line = put_row(number, reported, &row.pairs, &row.words, cells);
     write_or_tell(output, line.as_slice(), errors, message)
 }
 
 // Lays a span, and answers the line that tells of it: what laying it reported, the row, its words and its cells.
 fn lay_and_put(
     number: u32,
-    row: &mut [u16; 256],
-    words: &mut [u64; 4],
+    row: &mut RowUnderWork,
     cells: &mut [u16],
     first: u16,
     last: u16,
     panel: u16,
 ) -> ArrayVec<u8, ROOM>
-    requires { UnderWork (length cells.old) row.old words.old }
-    ensures laid { (unlit : ℕ → Bool) → row.old ≡ row_of (length cells.old) unlit →
-        Lays unlit first last panel cells.old row.new cells.new }
-    ensures mapped { (unlit : ℕ → Bool) → row.old ≡ row_of (length cells.old) unlit →
-        words.new ≡ map_row (length cells.old) (after_span unlit first last) }
-    ensures told { (unlit : ℕ → Bool) → row.old ≡ row_of (length cells.old) unlit →
-        Told unlit first last (length cells.old) number row.new words.new cells.new result.items }
+    requires { UnderWork (length cells.old) row.old.pairs row.old.words }
+    ensures laid { (unlit : ℕ → Bool) → row.old.pairs ≡ row_of (length cells.old) unlit →
+        Lays unlit first last panel cells.old row.new.pairs cells.new }
+    ensures mapped { (unlit : ℕ → Bool) → row.old.pairs ≡ row_of (length cells.old) unlit →
+        row.new.words ≡ map_row (length cells.old) (after_span unlit first last) }
+    ensures told { (unlit : ℕ → Bool) → row.old.pairs ≡ row_of (length cells.old) unlit →
+        Told unlit first last (length cells.old) number row.new.pairs row.new.words cells.new result.items }
 {
-    let laid = rows::lay(row, words, cells, first, last, panel);
-    put_row(number, &report(laid), row, words, cells)
+    let laid = row.lay(cells, first, last, panel);
+    put_row(number, &report(laid), &row.pairs, &row.words, cells)
 }
 
 // Lays a span, and writes after it the line that tells of it. Where that fails, the message goes to the other output.
@@ -98,23 +97,22 @@ pub fn lay_and_write<W: Write, E: Write>(
     output: &mut W,
     errors: &mut E,
     number: u32,
-    row: &mut [u16; 256],
-    words: &mut [u64; 4],
+    row: &mut RowUnderWork,
     cells: &mut [u16],
     first: u16,
     last: u16,
     panel: u16,
     message: &[u8],
 ) -> Result<()>
-    requires { UnderWork (length cells.old) row.old words.old }
-    ensures laid { (unlit : ℕ → Bool) → row.old ≡ row_of (length cells.old) unlit →
-        Lays unlit first last panel cells.old row.new cells.new }
-    ensures mapped { (unlit : ℕ → Bool) → row.old ≡ row_of (length cells.old) unlit →
-        words.new ≡ map_row (length cells.old) (after_span unlit first last) }
-    ensures written { (unlit : ℕ → Bool) → row.old ≡ row_of (length cells.old) unlit →
-        WritesTold unlit first last (length cells.old) number row.new words.new cells.new
+    requires { UnderWork (length cells.old) row.old.pairs row.old.words }
+    ensures laid { (unlit : ℕ → Bool) → row.old.pairs ≡ row_of (length cells.old) unlit →
+        Lays unlit first last panel cells.old row.new.pairs cells.new }
+    ensures mapped { (unlit : ℕ → Bool) → row.old.pairs ≡ row_of (length cells.old) unlit →
+        row.new.words ≡ map_row (length cells.old) (after_span unlit first last) }
+    ensures written { (unlit : ℕ → Bool) → row.old.pairs ≡ row_of (length cells.old) unlit →
+        WritesTold unlit first last (length cells.old) number row.new.pairs row.new.words cells.new
         (W.contents output.old) (W.contents output.new) (E.contents errors.old) (E.contents errors.new) message.now result }
 {
-    let line = lay_and_put(number, row, words, cells, first, last, panel);
+    let line = lay_and_put(number, row, cells, first, last, panel);
     write_or_tell(output, line.as_slice(), errors, message)
 }

@@ -15,9 +15,10 @@ use Rattle.segments.proofs.Painting.{painted_length}
 use Rattle.segments.proofs.Looking.{looks_bounded, after_next}
 
 -- a fresh row and four zeros are under work, and so are a row and its words on which a span was laid
-pub work_fresh : {width n : ℕ} {row : List ℕ} → width ≡ n → n ≤ 256 → row ≡ row_of n (λ (i : ℕ). true) → UnderWork width row (0 ∷ 0 ∷ 0 ∷ 0 ∷ [])
-work_fresh {width} w fits e =
-    record { listed = record { fits = omega arith; unlit = λ (i : ℕ). true; row_is = rw w e }; words_are = fresh_map width }
+pub work_fresh :
+    {width n : ℕ} {row words : List ℕ} → width ≡ n → n ≤ 256 → row ≡ row_of n (λ (i : ℕ). true) → words ≡ 0 ∷ 0 ∷ 0 ∷ 0 ∷ [] → UnderWork width row words
+work_fresh {width} w fits e zeros =
+    record { listed = record { fits = omega arith; unlit = λ (i : ℕ). true; row_is = rw w e }; words_are = zeros ∙ fresh_map width }
 
 pub work_laid :
     {first last panel : ℕ} {row words cells row' words' cells' : List ℕ} → UnderWork (length cells) row words →

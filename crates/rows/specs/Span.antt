@@ -1,11 +1,16 @@
 -- Laying a span of columns on a row and in its words of the lit map, and what that reports.
-use Rattle.std.specs.Prelude.{◌≡◌, Bool, ◌&&◌, List, ℕ}
+use Rattle.std.specs.Prelude.{◌≡◌, Bool, ◌&&◌, List, [], ℕ}
 use Rattle.model.specs.Lists.{range, tally}
 use Rattle.model.specs.Row.{after_span}
 use Rattle.model.specs.Map.{map_row}
 use Rattle.segments.specs.Columns.{in_span, all_lit}
 use Rattle.segments.specs.Looks.{looks}
 use Rattle.laying.specs.Laid.{Row}
+use Rattle.rows.specs.declared.RowUnderWork.{RowUnderWork}
+
+-- what stands beyond the last row of a list of them
+abbrev pub no_row : RowUnderWork
+no_row = record { pairs = []; words = [] }
 
 -- the row and its words of the lit map are those of one set of unlit columns
 pub record UnderWork (width : ℕ) (row words : List ℕ) : Type 0 where

@@ -25,16 +25,6 @@ pub struct Laid {
     pub looked: u16,
 }
 
-// A row whose columns are all unlit. Its words of the lit map are four zeros.
-pub fn fresh(width: u16) -> [u16; 256]
-    ensures fresh { result ≡ row_of width (λ i. true) }
-    ensures same { SameCells width result (0 ∷ 0 ∷ 0 ∷ 0 ∷ []) }
-{
-    let mut row = [0u16; 256];
-    row[1] = width;
-    row
-}
-
 // Lights a span in the words of its row, unless it newly lit no cell: then they are as they were.
 fn light_new(words: &mut [u64; 4], lit: u16, width: usize, first: u16, last: u16)
     requires { (width ≤ 256) × Words width words.old }
@@ -46,41 +36,57 @@ fn light_new(words: &mut [u64; 4], lit: u16, width: usize, first: u16, last: u16
     }
 }
 
-// Lays the span of the columns `first` to `last` on a row, in place, and paints the panel into those that were unlit.
-// `cells` is the row's part of the picture; its length is the width, and the span may end beyond it. `words` are those of the row in the lit map, in which the span is lit when it newly lit a cell. With `last` below
-// `first` the span is empty: it is not laid and looks at no segment. The row and the words must describe the same cells, as a fresh row and this function leave them: its callers hold no
-// others, and a test of them would cost as much as the work.
-pub fn lay(
-    row: &mut [u16; 256],
-    words: &mut [u64; 4],
-    cells: &mut [u16],
-    first: u16,
-    last: u16,
-    panel: u16,
-) -> Laid
-    requires { UnderWork (length cells.old) row.old words.old }
-    ensures laid { (unlit : ℕ → Bool) → row.old ≡ row_of (length cells.old) unlit →
-        Lays unlit first last panel cells.old row.new cells.new }
-    ensures reported { (unlit : ℕ → Bool) → row.old ≡ row_of (length cells.old) unlit →
-        Reports unlit first last (length cells.old) result.full result.lit result.looked }
-    ensures mapped { (unlit : ℕ → Bool) → row.old ≡ row_of (length cells.old) unlit →
-        words.new ≡ map_row (length cells.old) (after_span unlit first last) }
-    ensures same { SameCells (length cells.old) row.new words.new }
-{
-    if first <= last {
-        let width = cells.len();
-        let swept = sweep(row, cells, first, last, panel);
-        light_new(words, swept.lit, width, first, last);
-        Laid {
-            full: row[1] == 0,
-            lit: swept.lit,
-            looked: swept.looked,
+// A row under work: the pairs of its unlit segments, and its words of the lit map.
+#[derive(Clone, Copy)]
+pub struct RowUnderWork {
+    pub pairs: [u16; 256],
+    pub words: [u64; 4],
+}
+
+impl RowUnderWork {
+    // A row whose columns are all unlit. Its words of the lit map are four zeros.
+    pub fn fresh(width: u16) -> RowUnderWork
+        ensures fresh { result.pairs ≡ row_of width (λ i. true) }
+        ensures zeros { result.words ≡ 0 ∷ 0 ∷ 0 ∷ 0 ∷ [] }
+        ensures same { SameCells width result.pairs result.words }
+    {
+        let mut pairs = [0u16; 256];
+        pairs[1] = width;
+        RowUnderWork {
+            pairs,
+            words: [0u64; 4],
         }
-    } else {
-        Laid {
-            full: row[1] == 0,
-            lit: 0,
-            looked: 0,
+    }
+
+    // Lays the span of the columns `first` to `last` on a row, in place, and paints the panel into those that were unlit.
+    // `cells` is the row's part of the picture; its length is the width, and the span may end beyond it. The span is lit in the row's words when it newly lit a cell. With `last` below
+    // `first` the span is empty: it is not laid and looks at no segment. The pairs and the words must describe the same cells, as `fresh` and this function leave them: its callers hold no
+    // others, and a test of them would cost as much as the work.
+    pub fn lay(&mut self, cells: &mut [u16], first: u16, last: u16, panel: u16) -> Laid
+        requires { UnderWork (length cells.old) self.old.pairs self.old.words }
+        ensures laid { (unlit : ℕ → Bool) → self.old.pairs ≡ row_of (length cells.old) unlit →
+            Lays unlit first last panel cells.old self.new.pairs cells.new }
+        ensures reported { (unlit : ℕ → Bool) → self.old.pairs ≡ row_of (length cells.old) unlit →
+            Reports unlit first last (length cells.old) result.full result.lit result.looked }
+        ensures mapped { (unlit : ℕ → Bool) → self.old.pairs ≡ row_of (length cells.old) unlit →
+            self.new.words ≡ map_row (length cells.old) (after_span unlit first last) }
+        ensures same { SameCells (length cells.old) self.new.pairs self.new.words }
+    {
+        if first <= last {
+            let width = cells.len();
+            let swept = sweep(&mut self.pairs, cells, first, last, panel);
+            light_new(&mut self.words, swept.lit, width, first, last);
+            Laid {
+                full: self.pairs[1] == 0,
+                lit: swept.lit,
+                looked: swept.looked,
+            }
+        } else {
+            Laid {
+                full: self.pairs[1] == 0,
+                lit: 0,
+                looked: 0,
+            }
         }
     }
 }

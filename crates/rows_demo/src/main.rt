@@ -3,20 +3,20 @@
 // cells newly lit, 1 where no column is unlit any more), the row's used pairs, its words of the lit map, and its cells: 1 beside the segments, 2 in the span.
 #![tactic(auto)]
 
-ghost use Rattle.std.specs.Prelude.{◌≡◌, ◌+◌, ◌≤◌, [], ◌∷◌, length};
+ghost use Rattle.std.specs.Prelude.{◌≡◌, ◌+◌, ◌≤◌, length};
 ghost use Rattle.rows.specs.Span.{UnderWork};
 
 use row_lines::lay_and_write;
+use rows::RowUnderWork;
 
-// The row with its two segments, and its words, which are lent as a fresh row has them.
-fn two_segments(words: &mut [u64; 4], cells: &mut [u16]) -> [u16; 256]
-    requires cells_len { length cells.old ≡ 16 }
-    requires words_value { words.old ≡ 0 ∷ 0 ∷ 0 ∷ 0 ∷ [] }
-    ensures { UnderWork (length cells.new) result words.new }
+// The row with its two segments.
+fn two_segments(cells: &mut [u16]) -> RowUnderWork
+    requires { length cells.old ≡ 16 }
+    ensures { UnderWork (length cells.new) result.pairs result.words }
 {
-    let mut row = rows::fresh(16);
-    rows::lay(&mut row, words, cells, 0, 3, 1);
-    rows::lay(&mut row, words, cells, 12, 13, 1);
+    let mut row = RowUnderWork::fresh(16);
+    row.lay(cells, 0, 3, 1);
+    row.lay(cells, 12, 13, 1);
     row
 }
 
@@ -42,21 +42,19 @@ const ALONE: [(u16, u16); 14] = [
 fn lay_over(
     rt: &HostRuntime,
     number: u32,
-    row: &mut [u16; 256],
-    words: &mut [u64; 4],
+    row: &mut RowUnderWork,
     cells: &mut [u16],
     first: u16,
     last: u16,
 )
-    requires { UnderWork (length cells.old) row.old words.old }
-    ensures { UnderWork (length cells.new) row.new words.new }
+    requires { UnderWork (length cells.old) row.old.pairs row.old.words }
+    ensures { UnderWork (length cells.new) row.new.pairs row.new.words }
 {
     let _written = lay_and_write(
         &mut rt.stdout(),
         &mut rt.stderr(),
         number,
         row,
-        words,
         cells,
         first,
         last,
@@ -70,18 +68,9 @@ fn show(rt: &HostRuntime, number: u32, spans: &[(u16, u16)])
     requires { number + length spans.now ≤ 65536 }
 {
     let mut cells = [0u16; 16];
-    let mut words = [0u64; 4];
-    let mut row = two_segments(&mut words, &mut cells);
+    let mut row = two_segments(&mut cells);
     for (i, (first, last)) in spans.iter().enumerate() {
-        lay_over(
-            rt,
-            number + i as u32,
-            &mut row,
-            &mut words,
-            &mut cells,
-            *first,
-            *last,
-        );
+        lay_over(rt, number + i as u32, &mut row, &mut cells, *first, *last);
     }
 }
 

@@ -8,6 +8,7 @@ ghost use Rattle.std.specs.Prelude.{◌≤◌, length};
 use console::read_all;
 use little_endian::u16_at;
 use row_lines::lay_and_write;
+use rows::RowUnderWork;
 
 // The width, and 4,096 spans of four bytes.
 const INPUT_ROOM: usize = 16386;
@@ -16,8 +17,7 @@ fn lay_spans(rt: &HostRuntime, spans: &[u8], cells: &mut [u16])
     requires spans_len_bound { length spans.now ≤ 16384 }
     requires cells_len_bound { length cells.old ≤ 256 }
 {
-    let mut row = rows::fresh(cells.len() as u16);
-    let mut words = [0u64; 4];
+    let mut row = RowUnderWork::fresh(cells.len() as u16);
     for (i, span) in spans.chunks_exact(4).enumerate() {
         let number = i as u16 + 1;
         let _written = lay_and_write(
@@ -25,7 +25,6 @@ fn lay_spans(rt: &HostRuntime, spans: &[u8], cells: &mut [u16])
             &mut rt.stderr(),
             number as u32,
             &mut row,
-            &mut words,
             cells,
             u16_at(span, 0) as u16,
             u16_at(span, 2) as u16,

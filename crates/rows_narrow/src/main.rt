@@ -7,26 +7,21 @@ ghost use Rattle.std.specs.Prelude.{length};
 ghost use Rattle.rows.specs.Span.{UnderWork};
 
 use row_lines::write_row;
+use rows::RowUnderWork;
 
 // Spans of one column, on every fourth column from the first of them on.
-fn lay_every_fourth(
-    row: &mut [u16; 256],
-    words: &mut [u64; 4],
-    cells: &mut [u16],
-    first: u16,
-    panel: u16,
-)
-    requires { UnderWork (length cells.old) row.old words.old }
-    ensures { UnderWork (length cells.new) row.new words.new }
+fn lay_every_fourth(row: &mut RowUnderWork, cells: &mut [u16], first: u16, panel: u16)
+    requires { UnderWork (length cells.old) row.old.pairs row.old.words }
+    ensures { UnderWork (length cells.new) row.new.pairs row.new.words }
 {
     for column in (first..256).step_by(4) {
-        rows::lay(row, words, cells, column, column, panel);
+        row.lay(cells, column, column, panel);
     }
 }
 
 // The row after several spans: nothing is reported of it.
-fn show(rt: &HostRuntime, step: u32, row: &[u16; 256], words: &[u64; 4], cells: &[u16])
-    requires { UnderWork (length cells.now) row.now words.now }
+fn show(rt: &HostRuntime, step: u32, row: &RowUnderWork, cells: &[u16])
+    requires { UnderWork (length cells.now) row.now.pairs row.now.words }
 {
     let _written = write_row(
         &mut rt.stdout(),
@@ -34,7 +29,6 @@ fn show(rt: &HostRuntime, step: u32, row: &[u16; 256], words: &[u64; 4], cells: 
         step,
         &[],
         row,
-        words,
         cells,
         b"rows_narrow: a row could not be written\n",
     );
@@ -44,31 +38,28 @@ fn show(rt: &HostRuntime, step: u32, row: &[u16; 256], words: &[u64; 4], cells: 
 fn lay_over(
     rt: &HostRuntime,
     step: u32,
-    row: &mut [u16; 256],
-    words: &mut [u64; 4],
+    row: &mut RowUnderWork,
     cells: &mut [u16],
     first: u16,
     last: u16,
 )
-    requires { UnderWork (length cells.old) row.old words.old }
-    ensures { UnderWork (length cells.new) row.new words.new }
+    requires { UnderWork (length cells.old) row.old.pairs row.old.words }
+    ensures { UnderWork (length cells.new) row.new.pairs row.new.words }
 {
-    rows::lay(row, words, cells, first, last, 3);
-    show(rt, step, row, words, cells);
+    row.lay(cells, first, last, 3);
+    show(rt, step, row, cells);
 }
 
 fn main(rt: HostRuntime) {
     let mut cells = [0u16; 256];
-    let mut words = [0u64; 4];
-    let mut row = rows::fresh(256);
-    lay_every_fourth(&mut row, &mut words, &mut cells, 3, 1);
-    show(&rt, 1, &row, &words, &cells);
-    lay_every_fourth(&mut row, &mut words, &mut cells, 1, 2);
-    show(&rt, 2, &row, &words, &cells);
+    let mut row = RowUnderWork::fresh(256);
+    lay_every_fourth(&mut row, &mut cells, 3, 1);
+    show(&rt, 1, &row, &cells);
+    lay_every_fourth(&mut row, &mut cells, 1, 2);
+    show(&rt, 2, &row, &cells);
     let mut other_cells = cells;
-    let mut other_words = words;
     let mut other = row;
-    lay_over(&rt, 3, &mut row, &mut words, &mut cells, 0, 255);
+    lay_over(&rt, 3, &mut row, &mut cells, 0, 255);
     // the segments of columns 20, 40, 60 and 80: met alone, from both sides, from before, and from behind; and then the others
     for (i, (first, last)) in [(20, 20), (39, 41), (59, 60), (80, 81), (0, 255)]
         .iter()
@@ -78,7 +69,6 @@ fn main(rt: HostRuntime) {
             &rt,
             4 + i as u32,
             &mut other,
-            &mut other_words,
             &mut other_cells,
             *first,
             *last,

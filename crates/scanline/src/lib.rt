@@ -10,30 +10,31 @@ ghost use Rattle.scanline.specs.Laying.{UnlitHull, LitGap, ColumnsLaid};
 
 use geometry::EdgeFunction;
 use pairs::pair_at;
+use rows::RowUnderWork;
 use spans::{Span, row_span};
 
 // The columns from the first unlit one on; up to the end of the first segment where the row has no other.
-fn unlit_hull(row: &[u16; 256], width: usize) -> Span
-    requires { Row width row.now }
-    ensures { UnlitHull width row.now result }
+fn unlit_hull(pairs: &[u16; 256], width: usize) -> Span
+    requires { Row width pairs.now }
+    ensures { UnlitHull width pairs.now result }
 {
-    let first = row[0] as usize;
-    if row[3] == 0 {
+    let first = pairs[0] as usize;
+    if pairs[3] == 0 {
         return Span {
             first,
-            end: first + row[1] as usize,
+            end: first + pairs[1] as usize,
         };
     }
     Span { first, end: width }
 }
 
 // The lit columns between the first two segments; none where the row has no second.
-fn lit_gap(row: &[u16; 256], width: usize) -> Span
-    requires { Row width row.now }
-    ensures { LitGap width row.now result }
+fn lit_gap(pairs: &[u16; 256], width: usize) -> Span
+    requires { Row width pairs.now }
+    ensures { LitGap width pairs.now result }
 {
-    let one = pair_at(row, 0);
-    let two = pair_at(row, 1);
+    let one = pair_at(pairs, 0);
+    let two = pair_at(pairs, 1);
     Span {
         first: one.offset as usize + one.count as usize,
         end: two.offset as usize,
@@ -41,23 +42,17 @@ fn lit_gap(row: &[u16; 256], width: usize) -> Span
 }
 
 // Lays a span on a row, unless it is empty, and says how many cells it newly lit.
-fn lay_span(
-    span: Span,
-    panel: u16,
-    row: &mut [u16; 256],
-    words: &mut [u64; 4],
-    cells: &mut [u16],
-) -> u16
-    requires { (span.end ≤ length cells.old) × UnderWork (length cells.old) row.old words.old }
-    ensures { ColumnsLaid (covers span) panel row.old words.old cells.old
-        row.new words.new cells.new result }
+fn lay_span(span: Span, panel: u16, row: &mut RowUnderWork, cells: &mut [u16]) -> u16
+    requires { (span.end ≤ length cells.old) × UnderWork (length cells.old) row.old.pairs row.old.words }
+    ensures { ColumnsLaid (covers span) panel row.old.pairs row.old.words cells.old
+        row.new.pairs row.new.words cells.new result }
 {
     let first = span.first;
     let end = span.end;
     if end <= first {
         return 0;
     }
-    let laid = rows::lay(row, words, cells, first as u16, (end - 1) as u16, panel);
+    let laid = row.lay(cells, first as u16, (end - 1) as u16, panel);
     laid.lit
 }
 
@@ -67,16 +62,15 @@ pub fn lay_patch(
     functions: &[EdgeFunction],
     panel: u16,
     j: usize,
-    row: &mut [u16; 256],
-    words: &mut [u64; 4],
+    row: &mut RowUnderWork,
     cells: &mut [u16],
 ) -> u16
-    requires { FunctionRun functions.now × (j ≤ 1024) × UnderWork (length cells.old) row.old words.old }
+    requires { FunctionRun functions.now × (j ≤ 1024) × UnderWork (length cells.old) row.old.pairs row.old.words }
     ensures { ColumnsLaid (λ (i : ℕ). all_above functions.now i j) panel
-        row.old words.old cells.old row.new words.new cells.new result }
+        row.old.pairs row.old.words cells.old row.new.pairs row.new.words cells.new result }
 {
-    let hull = unlit_hull(row, cells.len());
-    let lit = lit_gap(row, cells.len());
+    let hull = unlit_hull(&row.pairs, cells.len());
+    let lit = lit_gap(&row.pairs, cells.len());
     let span = row_span(functions, j, hull, lit);
-    lay_span(span, panel, row, words, cells)
+    lay_span(span, panel, row, cells)
 }

@@ -2,7 +2,7 @@
 use mathlib.Core.Path.{◌≡◌, refl, subst, ◌∙◌}
 use mathlib.Core.Logic.{◌⊎◌, inl, inr, ⊎_elim}
 use mathlib.Core.Bool.{false}
-use mathlib.Core.List.{List, [], map}
+use mathlib.Core.List.{List, map}
 use Prim.Native.Nat.{ℕ, ◌+◌, ◌≤◌, ◌<◌}
 use native.Mathlib.Omega.{arith}
 use lib.ListN.{length, get_or, take, drop, take-append-drop}
@@ -14,6 +14,8 @@ use Rattle.model.proofs.Tests.{lt_or_ge}
 use Rattle.geometry.specs.Machine.{vec_of}
 use Rattle.geometry.specs.Raster.{line_at}
 use Rattle.edges.specs.declared.Sight.{Sight}
+use Rattle.rows.specs.declared.RowUnderWork.{RowUnderWork}
+use Rattle.rows.specs.Span.{no_row}
 use Rattle.scanline.specs.Shown.{unlit_after}
 use Rattle.scanline.proofs.WalkPainted.{row_full, walk_ends, full_more}
 use Rattle.conversion.specs.Booked.{Booked}
@@ -23,9 +25,9 @@ use Rattle.traversal.specs.Walk.{FullUpTo, FirstOpen, WholePainted}
 
 -- ---- the first row that is not full
 
-module _ (rows : List (List ℕ)) where
+module _ (rows : List RowUnderWork) where
   abbrev pub IsFull : ℕ → Type 0
-  IsFull j = get_or (get_or rows j []) 1 0 ≡ 0
+  IsFull j = get_or (get_or rows j no_row).pairs 1 0 ≡ 0
 
   pub open_found :
       {from height : ℕ} → from ≤ height → (found : Option ℕ) →
@@ -45,20 +47,20 @@ module _ (bytes : List ℕ) (s : Sight) (order : List ℕ) where
 
 -- the first k patches are painted, and the rows before row `top` are full
 pub record Going
-    (bytes : List ℕ) (s : Sight) (order : List ℕ) (rows words : List (List ℕ)) (picture picture' booked booked' : List ℕ) (top k : ℕ) : Type 0 where
+    (bytes : List ℕ) (s : Sight) (order : List ℕ) (rows : List RowUnderWork) (picture picture' booked booked' : List ℕ) (top k : ℕ) : Type 0 where
   pub most : k ≤ length order
   pub below : top ≤ s.raster.height
   pub full : (j : ℕ) → j < top → Full bytes s order k j
-  pub walk : WalkPainted bytes s order rows words picture' booked' k
+  pub walk : WalkPainted bytes s order rows picture' booked' k
   pub same_cells : length picture' ≡ length picture
   pub same_entries : length booked' ≡ length booked
 
 module _ {bytes : List ℕ} {s : Sight} {order : List ℕ} {picture booked : List ℕ} where
   pub walk_starts :
-      {rows words : List (List ℕ)} → WalkPainted bytes s order rows words picture booked 0 → Going bytes s order rows words picture picture booked booked 0 0
+      {rows : List RowUnderWork} → WalkPainted bytes s order rows picture booked 0 → Going bytes s order rows picture picture booked booked 0 0
   walk_starts w = record { most = omega arith; below = omega arith; full = λ j h. absurd (omega arith); walk = w; same_cells = refl; same_entries = refl }
 
-  module _ {rows words : List (List ℕ)} {picture' booked' : List ℕ} {top k : ℕ} (inv : Going bytes s order rows words picture picture' booked booked' top k) where
+  module _ {rows : List RowUnderWork} {picture' booked' : List ℕ} {top k : ℕ} (inv : Going bytes s order rows picture picture' booked booked' top k) where
     -- more rows are found full
     pub found_full : {r : ℕ} → s.raster.width ≤ 256 → FullUpTo rows top s.raster.height r → (j : ℕ) → j < r → Full bytes s order k j
     found_full narrow found j h =
@@ -67,9 +69,9 @@ module _ {bytes : List ℕ} {s : Sight} {order : List ℕ} {picture booked : Lis
         (lt_or_ge j top)
 
     pub walk_goes :
-        {rows' words' : List (List ℕ)} {picture'' booked'' : List ℕ} {r : ℕ} → k < length order → s.raster.width ≤ 256 → FullUpTo rows top s.raster.height r →
+        {rows' : List RowUnderWork} {picture'' booked'' : List ℕ} {r : ℕ} → k < length order → s.raster.width ≤ 256 → FullUpTo rows top s.raster.height r →
         length picture'' ≡ length picture' → length booked'' ≡ length booked' →
-        WalkPainted bytes s order rows' words' picture'' booked'' (k + 1) → Going bytes s order rows' words' picture picture'' booked booked'' r (k + 1)
+        WalkPainted bytes s order rows' picture'' booked'' (k + 1) → Going bytes s order rows' picture picture'' booked booked'' r (k + 1)
     walk_goes h narrow found e f next =
         record {
           most = omega arith;
@@ -81,7 +83,7 @@ module _ {bytes : List ℕ} {s : Sight} {order : List ℕ} {picture booked : Lis
         }
 
     -- the walk is done, or every row is full
-    pub walk_done : (length order ≤ k) ⊎ ((j : ℕ) → j < s.raster.height → Full bytes s order k j) → WholePainted bytes s order rows words picture' booked'
+    pub walk_done : (length order ≤ k) ⊎ ((j : ℕ) → j < s.raster.height → Full bytes s order k j) → WholePainted bytes s order rows picture' booked'
     walk_done (inl h) =
         record {
           each = λ j b. walk_ends (inv.walk.each j b) (inl h);

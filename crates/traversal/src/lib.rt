@@ -8,13 +8,16 @@ use checked::CheckedScene;
 use conversion::paint_patch;
 use edges::Sight;
 use reach::planes_of;
+use rows::RowUnderWork;
 
 // The first row from `from` on that is not full; the height where all are.
-fn first_open(rows: &[[u16; 256]; 128], from: usize, height: usize) -> usize
+fn first_open(rows: &[RowUnderWork; 128], from: usize, height: usize) -> usize
     requires { (from ≤ height) × (height ≤ 128) }
     ensures { FirstOpen rows.now from height result }
 {
-    (from..height).find(|j| rows[*j][1] != 0).unwrap_or(height)
+    (from..height)
+        .find(|j| rows[*j].pairs[1] != 0)
+        .unwrap_or(height)
 }
 
 // Patch after patch, until the walk is done or every row is full: what comes after cannot be seen. A patch goes by its place in the walk, as what is painted and booked
@@ -23,13 +26,12 @@ pub fn paint_walk(
     scene: &CheckedScene,
     order: &[u16],
     sight: Sight,
-    rows: &mut [[u16; 256]; 128],
-    words: &mut [[u64; 4]; 128],
+    rows: &mut [RowUnderWork; 128],
     picture: &mut [u16],
     booked: &mut [u32],
 )
-    requires { WalkAsked scene.now.bytes.now scene.now.layout order.now sight rows.old words.old picture.old booked.old }
-    ensures { WholePainted scene.now.bytes.now sight order.now rows.new words.new picture.new booked.new }
+    requires { WalkAsked scene.now.bytes.now scene.now.layout order.now sight rows.old picture.old booked.old }
+    ensures { WholePainted scene.now.bytes.now sight order.now rows.new picture.new booked.new }
 {
     let planes = planes_of(sight.raster);
     let height = sight.raster.height;
@@ -39,6 +41,6 @@ pub fn paint_walk(
         if top == height {
             return;
         }
-        paint_patch(scene, order, k, sight, planes, rows, words, picture, booked);
+        paint_patch(scene, order, k, sight, planes, rows, picture, booked);
     }
 }

@@ -44,9 +44,9 @@ looks_more k =
     ∙ sum-append {A = ℕ} ◌+◌ 0 zero-add add_assoc so_far (here ∷ [])
     ∙ ap (λ (m : ℕ). sum ◌+◌ 0 so_far + m) (add-zero here)
 
-pub starts : (n : ℕ) {row cells : List ℕ} → length cells ≡ 256 → row ≡ row_of 256 fresh → Laying n row (0 ∷ 0 ∷ 0 ∷ 0 ∷ []) cells 0 0
+pub starts : (n : ℕ) {row words cells : List ℕ} → length cells ≡ 256 → row ≡ row_of 256 fresh → words ≡ 0 ∷ 0 ∷ 0 ∷ 0 ∷ [] → Laying n row words cells 0 0
 unfolding after_spans looks_in_order sum
-starts n w e = record { most = omega arith; wide = w; row_is = e; words_are = fresh_map 256; looked_is = refl }
+starts n w e zeros = record { most = omega arith; wide = w; row_is = e; words_are = zeros ∙ fresh_map 256; looked_is = refl }
 
 module _ {n looked k : ℕ} {row words cells : List ℕ} (p : Laying n row words cells looked k) where
   row_now : row ≡ row_of (length cells) (after_spans fresh (worst_spans k))

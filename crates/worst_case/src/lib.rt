@@ -4,7 +4,9 @@
 ghost use Rattle.std.specs.Prelude.{◌≡◌};
 ghost use Rattle.worst_case.specs.WorstCase.{worst_column, worst_span, worst_looks, bounds_together};
 
-// The columns of a span, both ends counted in, as `rows::lay` takes them.
+use rows::RowUnderWork;
+
+// The columns of a span, both ends counted in, as `RowUnderWork::lay` takes them.
 #[derive(Clone, Copy)]
 pub struct Columns {
     pub first: u16,
@@ -35,12 +37,11 @@ pub fn worst_looks(n: u32) -> u64
     ensures reached { result ≡ bounds_together n }
 {
     let mut cells = [0u16; 256];
-    let mut row = rows::fresh(256);
-    let mut words = [0u64; 4];
+    let mut row = RowUnderWork::fresh(256);
     let mut looked: u64 = 0;
     for k in 0..n as usize {
         let span = worst_span(k + 1);
-        let laid = rows::lay(&mut row, &mut words, &mut cells, span.first, span.last, 1);
+        let laid = row.lay(&mut cells, span.first, span.last, 1);
         looked += u64::from(laid.looked);
     }
     looked

@@ -8,5 +8,5 @@ use Rattle.conversion.proofs.convert_rows.Given as goal
 
 abbrev pub invariant-loop-j : goal.invariant-loop-j
 invariant-loop-j l =
-    (height : ℕ) (unlit : ℕ → ℕ → Bool) → l.fn.reach.end ≤ height → height * l.width ≤ length l.initial.picture → UnlitSets l.width height unlit l.initial.rows l.initial.words →
-    Over l.functions l.panel l.width height unlit l.initial.picture (up_to l.fn.reach.first l.j) l.rows l.words l.picture l.lit
+    (height : ℕ) (unlit : ℕ → ℕ → Bool) → l.fn.reach.end ≤ height → height * l.width ≤ length l.initial.picture → UnlitSets l.width height unlit l.initial.rows →
+    Over l.functions l.panel l.width height unlit l.initial.picture (up_to l.fn.reach.first l.j) l.rows l.picture l.lit

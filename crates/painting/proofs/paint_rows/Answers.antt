@@ -1,9 +1,8 @@
 -- `paint_rows` meets its contract.
 use mathlib.Core.Path.{◌∙◌}
-use native.Mathlib.Omega.{arith}
 use lib.ListN.{length}
 use Rattle.painting.proofs.Fresh.{walk_fresh}
-use Rattle.painting.proofs.Joining.{rows_writable, maps_writable, rows_painted}
+use Rattle.painting.proofs.Joining.{rows_painted}
 use Rattle.painting.proofs.paint_rows.Goals as goal
 
 pub paint_walk-requires : goal.paint_walk-requires
@@ -14,17 +13,13 @@ paint_walk-requires c =
       entries = c.fill.auto.self ∙ c.requires.entries;
       fresh =
           walk_fresh c.args.scene.now.bytes.now c.args.sight c.args.order.now (length c.args.picture.now) (length c.args.booked.now)
-          c.requires.framed.low c.fresh-row.ensures.fresh c.requires.framed.cells (c.fill-2.ensures.after (λ y h. h)) (c.fill.ensures.after (λ y h. h));
+          c.requires.framed.low c.fresh-row.ensures.fresh c.fresh-row.ensures.zeros c.requires.framed.cells (c.fill-2.ensures.after (λ y h. h)) (c.fill.ensures.after (λ y h. h));
     }
 
 pub write_rows-requires : goal.write_rows-requires
 write_rows-requires c =
-    (omega arith, (omega arith, rows_writable c.paint_walk.ensures c.requires.framed.low c.requires.framed.rows))
-
-pub write_rows-requires-2 : goal.write_rows-requires-2
-write_rows-requires-2 c =
-    (omega arith, (omega arith, maps_writable c.paint_walk.ensures c.requires.framed.low c.requires.framed.words))
+    let f = c.requires.framed in (record { low = f.low; room = f.rows }, record { low = f.low; room = f.words })
 
 pub returns : goal.returns
 returns c =
-    let whole = c.paint_walk.ensures in record { painted = rows_painted whole (c.paint_walk.auto.picture ∙ c.fill-2.auto.self ∙ c.requires.framed.cells) c.write_rows.ensures c.write_rows-2.ensures; counted = whole.booked_are }
+    let whole = c.paint_walk.ensures in record { painted = rows_painted whole (c.paint_walk.auto.picture ∙ c.fill-2.auto.self ∙ c.requires.framed.cells) c.write_rows.ensures.pairs c.write_rows.ensures.words; counted = whole.booked_are }

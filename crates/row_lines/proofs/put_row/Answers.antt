@@ -16,19 +16,19 @@ pub push-requires : goal.push-requires
 push-requires c = grind (arith, common_steps, decimal_length c.args.number c.ranges.number.fits, numbers_length c.args.reported.now c.type_inv.reported)
 
 pub put_each-requires-2 : goal.put_each-requires-2
-put_each-requires-2 c = grind (arith, common_steps, decimal_length c.args.number c.ranges.number.fits, numbers_length c.args.reported.now c.type_inv.reported, pairs_length c.args.row.now c.fits-row, used_whole c.args.row.now c.told-row)
+put_each-requires-2 c = grind (arith, common_steps, decimal_length c.args.number c.ranges.number.fits, numbers_length c.args.reported.now c.type_inv.reported, pairs_length c.args.pairs.now c.fits-pairs, used_whole c.args.pairs.now c.told-pairs)
 
 pub put_text-requires : goal.put_text-requires
-put_text-requires c = grind (arith, common_steps, decimal_length c.args.number c.ranges.number.fits, numbers_length c.args.reported.now c.type_inv.reported, pairs_length c.args.row.now c.fits-row, used_whole c.args.row.now c.told-row)
+put_text-requires c = grind (arith, common_steps, decimal_length c.args.number c.ranges.number.fits, numbers_length c.args.reported.now c.type_inv.reported, pairs_length c.args.pairs.now c.fits-pairs, used_whole c.args.pairs.now c.told-pairs)
 
 pub put_each-requires-3 : goal.put_each-requires-3
-put_each-requires-3 c = grind (arith, common_steps, decimal_length c.args.number c.ranges.number.fits, numbers_length c.args.reported.now c.type_inv.reported, pairs_length c.args.row.now c.fits-row, used_whole c.args.row.now c.told-row, words_length c.args.words.now)
+put_each-requires-3 c = grind (arith, common_steps, decimal_length c.args.number c.ranges.number.fits, numbers_length c.args.reported.now c.type_inv.reported, pairs_length c.args.pairs.now c.fits-pairs, used_whole c.args.pairs.now c.told-pairs, words_length c.args.words.now)
 
 pub put_text-requires-2 : goal.put_text-requires-2
-put_text-requires-2 c = grind (arith, common_steps, decimal_length c.args.number c.ranges.number.fits, numbers_length c.args.reported.now c.type_inv.reported, pairs_length c.args.row.now c.fits-row, used_whole c.args.row.now c.told-row, words_length c.args.words.now)
+put_text-requires-2 c = grind (arith, common_steps, decimal_length c.args.number c.ranges.number.fits, numbers_length c.args.reported.now c.type_inv.reported, pairs_length c.args.pairs.now c.fits-pairs, used_whole c.args.pairs.now c.told-pairs, words_length c.args.words.now)
 
 pub put_each-requires-4 : goal.put_each-requires-4
-put_each-requires-4 c = grind (arith, common_steps, decimal_length c.args.number c.ranges.number.fits, numbers_length c.args.reported.now c.type_inv.reported, pairs_length c.args.row.now c.fits-row, used_whole c.args.row.now c.told-row, words_length c.args.words.now, numbers_length c.args.cells.now c.type_inv.cells)
+put_each-requires-4 c = grind (arith, common_steps, decimal_length c.args.number c.ranges.number.fits, numbers_length c.args.reported.now c.type_inv.reported, pairs_length c.args.pairs.now c.fits-pairs, used_whole c.args.pairs.now c.told-pairs, words_length c.args.words.now, numbers_length c.args.cells.now c.type_inv.cells)
 
 pub push-requires-2 : goal.push-requires-2
-push-requires-2 c = grind (arith, common_steps, decimal_length c.args.number c.ranges.number.fits, numbers_length c.args.reported.now c.type_inv.reported, pairs_length c.args.row.now c.fits-row, used_whole c.args.row.now c.told-row, words_length c.args.words.now, numbers_length c.args.cells.now c.type_inv.cells)
+push-requires-2 c = grind (arith, common_steps, decimal_length c.args.number c.ranges.number.fits, numbers_length c.args.reported.now c.type_inv.reported, pairs_length c.args.pairs.now c.fits-pairs, used_whole c.args.pairs.now c.told-pairs, words_length c.args.words.now, numbers_length c.args.cells.now c.type_inv.cells)

@@ -4,7 +4,7 @@ use Rattle.rows.proofs.Laws.{work_fresh, work_laid}
 use Rattle.rows_laid.proofs.lay_spans.Goals as goal
 
 pub loop-i-init : goal.loop-i-init
-loop-i-init c = (work_fresh refl (omega (arith, c.requires.cells_len_bound)) c.fresh-row.ensures.fresh, refl)
+loop-i-init c = (work_fresh refl (omega (arith, c.requires.cells_len_bound)) c.fresh-row.ensures.fresh c.fresh-row.ensures.zeros, refl)
 
 pub loop-i-preserved : goal.loop-i-preserved
 loop-i-preserved c =

@@ -4,4 +4,4 @@ use Rattle.rows.specs.Span.{UnderWork}
 use Rattle.rows_narrow.proofs.lay_every_fourth.Given as goal
 
 abbrev pub invariant-loop-column : goal.invariant-loop-column
-invariant-loop-column l = UnderWork (length l.cells) l.row l.words × (length l.cells ≡ length l.initial.cells)
+invariant-loop-column l = UnderWork (length l.cells) l.row.pairs l.row.words × (length l.cells ≡ length l.initial.cells)

@@ -5,4 +5,4 @@ use Rattle.rows.proofs.Laws.{work_fresh}
 use Rattle.rows_narrow.proofs.main.Goals as goal
 
 pub lay_every_fourth-requires : goal.lay_every_fourth-requires
-lay_every_fourth-requires c = work_fresh refl (omega arith) c.fresh-row.ensures.fresh
+lay_every_fourth-requires c = work_fresh refl (omega arith) c.fresh-row.ensures.fresh c.fresh-row.ensures.zeros

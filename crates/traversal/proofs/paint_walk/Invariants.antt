@@ -4,4 +4,4 @@ use Rattle.traversal.proofs.paint_walk.Given as goal
 
 abbrev pub invariant-loop-k : goal.invariant-loop-k
 invariant-loop-k l =
-    Going l.scene.bytes.now l.sight l.order l.rows l.words l.initial.picture l.picture l.initial.booked l.booked l.top l.k
+    Going l.scene.bytes.now l.sight l.order l.rows l.initial.picture l.picture l.initial.booked l.booked l.top l.k

@@ -5,7 +5,7 @@ use Rattle.worst_case.proofs.Laying.{starts, under_work, looks_few, ends, goes_o
 use Rattle.worst_case.proofs.worst_looks.Goals as goal
 
 pub loop-k-init : goal.loop-k-init
-loop-k-init c = starts _ refl c.fresh-row.ensures.fresh
+loop-k-init c = starts _ refl c.fresh-row.ensures.fresh c.fresh-row.ensures.zeros
 
 pub lay-laid-requires : goal.lay-laid-requires
 lay-laid-requires c = under_work c.loop-k.invariant

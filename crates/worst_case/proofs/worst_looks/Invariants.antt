@@ -3,4 +3,4 @@ use Rattle.worst_case.proofs.Laying.{Laying}
 use Rattle.worst_case.proofs.worst_looks.Given as goal
 
 abbrev pub invariant-loop-k : goal.invariant-loop-k
-invariant-loop-k l = Laying l.n l.row l.words l.cells l.looked l.k
+invariant-loop-k l = Laying l.n l.row.pairs l.row.words l.cells l.looked l.k

@@ -3,7 +3,7 @@ use mathlib.Core.Path.{sym}
 use lib.ListN.{length}
 use Rattle.rows.proofs.Same.{same_after, words_now, words_stay}
 use Rattle.rows.proofs.Full.{lays_nothing, lights_nothing, looks_laid, looks_at_nothing, reports}
-use Rattle.rows.proofs.lay.Goals as goal
+use Rattle.rows.proofs.RowUnderWork.lay.Goals as goal
 
 pub sweep-swept-requires : goal.sweep-swept-requires
 sweep-swept-requires c = (c.if-first-last.true, c.requires.listed)
