@@ -22,11 +22,11 @@ use Rattle.geometry.specs.Machine.{vec_of, Bounded, VectorIs}
 use Rattle.format.specs.declared.patch.Patch.{Patch}
 use Rattle.format.specs.Patch.{corner_of, patch_of}
 use Rattle.polygons.specs.Bounds.{PatchBounded, WithNormal, FoundFlat}
-use Rattle.projection.specs.Projected.{wrap, Projected, projected_along, projected_at, ProjectedWithin, ProjectionBounded, turns_projected, convex_projected}
+use Rattle.projection.specs.Projected.{wrap, Projected, projected_along, projected_at, ProjectedWithin, ProjectionBounded, turn_projected_at, turns_projected, convex_projected}
 use Rattle.model.proofs.Loops.{each}
 use Rattle.projection.proofs.ReadRound.{wrap_below}
 use Rattle.polygons.proofs.Corners.{turn_at, flat_asked, convex_asked, turns_asked}
-use Rattle.projection.proofs.Projected.{length_along, turn_projected_at, turned_projected, convex_projected_asked, turns_projected_asked}
+use Rattle.projection.proofs.Projected.{length_along, turned_projected, convex_projected_asked, turns_projected_asked}
 use Rattle.projection.proofs.Asked.{asked_others, all_others}
 use Rattle.projection.specs.declared.Axis.{Axis}
 use Rattle.projection.specs.declared.Axis.TheVariants.{X, Y, Z}

@@ -1,20 +1,22 @@
 -- Question 8 of a projected patch, corner by corner.
 use mathlib.Core.Path.{◌≡◌, refl, sym, ap, ◌∙◌, subst}
-use mathlib.Core.Bool.{Bool, true, false}
 use mathlib.Core.List.{List, [], ◌∷◌}
 use Prim.Native.Nat.{ℕ, ◌+◌, ◌<◌}
 use lib.IntN.{ℤ, pos, ◌*ℤ◌}
 use lib.ListN.{length, get_or, length-map}
 use Rattle.std.proofs.lemmas.List.{get_or-map}
-use lib.Signed.{lt_z, ◌<ℤ◌, ◌≤ℤ◌}
+use lib.Dec.{lit<}
+use lib.Signed.{lt_z}
+use mir.Syntax.{w64}
+use mir.Val.{to_z, of_z}
 use Rattle.integer.proofs.Identity.{ring, reify}
-use Rattle.integer.proofs.Order.{lt_lt_z, le_lt_z}
+use Rattle.integer.proofs.Magnitude.{within_stored}
 use Rattle.geometry.specs.Machine.{NumberIs}
 use Rattle.projection.specs.declared.Point.{Point}
 use Rattle.projection.specs.declared.Axis.{Axis}
 use Rattle.geometry.specs.declared.Vector.{Vector}
 use Rattle.geometry.specs.Machine.{vec_of}
-use Rattle.projection.specs.Projected.{wrap, across, projected_along, Projected, projected_of, projected_at, ProjectedWithin, ProjectionBounded, turn_part, asked, turns_projected, turns_projected_at, convex_projected}
+use Rattle.projection.specs.Projected.{wrap, across, projected_along, Projected, projected_of, projected_at, ProjectedWithin, ProjectionBounded, turn_part, asked, turn_projected_at, turns_projected, turns_projected_at, convex_projected}
 use Rattle.model.proofs.Loops.{IsEvery, every_entry, every_number}
 
 -- three corners read round turn the same way
@@ -40,12 +42,6 @@ module _ (axis : Axis) (corners : List Vector) where
   wrapped m e = e ∙ ap (λ (n : ℕ). wrap n m) (sym length_along)
 
 -- ---- the tests
--- the test of the edge from corner k at the other corner j places after its end
-abbrev pub turn_projected_at : ℤ → List Projected → ℕ → ℕ → Bool
-turn_projected_at part corners k j =
-    turns_projected part (projected_at corners k) (projected_at corners (wrap (length corners) (k + 1)))
-    (projected_at corners (wrap (length corners) (k + 2 + j)))
-
 module _ {part : ℤ} {corners : List Projected} (b : ProjectionBounded part corners) where
   pub projected_bounded : {k : ℕ} {r : Point} → k < length corners → projected_of r ≡ projected_at corners k → ProjectedWithin (projected_of r)
   projected_bounded {k} h e = subst ProjectedWithin (sym e) (b.corners_within k h)
@@ -71,8 +67,5 @@ module _ {part : ℤ} {corners : List Projected} (b : ProjectionBounded part cor
       turn_found =
           is.value ∙ (λ t. part *ℤ turn_part (ep t) ((eq ∙ ap (projected_at corners) ei) t) ((ec ∙ ap (projected_at corners) eo) t))
 
-      pub turns_away : r ≤ℤ pos 0 → turn_projected_at part corners k j ≡ false
-      turns_away f = ap (lt_z (pos 0)) (sym turn_found) ∙ le_lt_z f
-
-      pub turns_in : pos 0 <ℤ r → turn_projected_at part corners k j ≡ true
-      turns_in f = ap (lt_z (pos 0)) (sym turn_found) ∙ lt_lt_z f
+      pub turn_told : lt_z (pos 0) (to_z w64 (of_z w64 r)) ≡ turn_projected_at part corners k j
+      turn_told = ap (lt_z (pos 0)) (within_stored w64 is.bounded (lit< tt) ∙ turn_found)

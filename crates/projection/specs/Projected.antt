@@ -80,6 +80,12 @@ turns_projected part a b c = lt_z (pos 0) (part *ℤ turn_part a b c)
 unfoldable pub asked : ℕ → ℕ
 asked count = cond (leb count 4) 1 (count - 2)
 
+-- the edge from corner k has the other corner j places after its end on its inner side
+abbrev pub turn_projected_at : ℤ → List Projected → ℕ → ℕ → Bool
+turn_projected_at part corners k j =
+    turns_projected part (projected_at corners k) (projected_at corners (wrap (length corners) (k + 1)))
+    (projected_at corners (wrap (length corners) (k + 2 + j)))
+
 -- the edge from corner k has the corners asked on its inner side
 abbrev pub turns_projected_at : ℤ → List Projected → ℕ → Bool
 turns_projected_at part corners k =

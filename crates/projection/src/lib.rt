@@ -4,7 +4,7 @@
 ghost use Rattle.std.specs.Prelude.{◌≡◌, ◌+◌, ◌≤◌, ◌<◌, ◌*ℤ◌, length};
 ghost use Rattle.integer.specs.Magnitude.{Within};
 ghost use Rattle.geometry.specs.Machine.{vec_of, Bounded, NumberIs};
-ghost use Rattle.projection.specs.Projected.{first_axis, along, across, wrap, projected_of, projected_along, ThreeWithin, ProjectionBounded, turn_part, asked, turns_projected_at, convex_projected};
+ghost use Rattle.projection.specs.Projected.{first_axis, along, across, wrap, projected_of, projected_along, ThreeWithin, ProjectionBounded, turn_part, asked, turn_projected_at, turns_projected_at, convex_projected};
 
 use geometry::Vector;
 
@@ -111,22 +111,24 @@ fn asked_corners(count: usize) -> usize
     count - 2
 }
 
-// the corners asked are on the inner side of the edge from corner k
-fn turns_at_edge(projection: Projection, corners: &[Vector], k: usize) -> bool
-    requires { ProjectionBounded projection.part (projected_along projection.axis corners.now) × (k < length corners.now) }
-    ensures { result ≡ turns_projected_at projection.part (projected_along projection.axis corners.now) k }
+// the other corner j places after the edge from corner k is on its inner side
+fn turns_at(projection: Projection, corners: &[Vector], k: usize, j: usize) -> bool
+    requires { ProjectionBounded projection.part (projected_along projection.axis corners.now) × (k < length corners.now) × (j + 2 < length corners.now) }
+    ensures { result ≡ turn_projected_at projection.part (projected_along projection.axis corners.now) k j }
 {
     let count = corners.len();
     let a = across(projection.axis, corners[k]);
     let b = across(projection.axis, corners[wrapped(count, k + 1)]);
-    let others = asked_corners(count);
-    for j in 0..others {
-        let c = across(projection.axis, corners[wrapped(count, k + 2 + j)]);
-        if turn_along(projection, a, b, c) <= 0 {
-            return false;
-        }
-    }
-    true
+    let c = across(projection.axis, corners[wrapped(count, k + 2 + j)]);
+    0 < turn_along(projection, a, b, c)
+}
+
+// so are the corners asked
+fn turns_at_edge(projection: Projection, corners: &[Vector], k: usize) -> bool
+    requires { ProjectionBounded projection.part (projected_along projection.axis corners.now) × (k < length corners.now) }
+    ensures { result ≡ turns_projected_at projection.part (projected_along projection.axis corners.now) k }
+{
+    (0..asked_corners(corners.len())).all(|j| turns_at(projection, corners, k, j))
 }
 
 // strictly convex, by its projection along an axis
