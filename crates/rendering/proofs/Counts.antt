@@ -52,10 +52,10 @@ module _
 
     -- what it leaves are the counts of the picture
     pub rendered :
-        {n : ℕ} {totals : List ℕ} → n ≡ picture_width v * picture_height v → Counted (λ (k : ℕ). (patch_numbered (decode bytes) k).panel) booked n totals →
-        Rendered bytes v cells unlit lit booked totals
+        {n k : ℕ} {totals : List ℕ} → n ≡ picture_width v * picture_height v → Counted (λ (k : ℕ). (patch_numbered (decode bytes) k).panel) booked n totals →
+        Rendered bytes v (record { picture = cells; counts = totals; patch_counts = booked; unlit = unlit; lit = lit; counter = k })
     unfolding patch_numbered
-    rendered {n} {totals} size c =
+    rendered {n} {totals = totals} size c =
         record {
           painted = p;
           counts_are =

@@ -68,9 +68,9 @@ module _
 
       module _ {eye : Vector} (same_eye : vec_of eye ≡ eye_of s) {read : List ℕ} (same : read ≡ bytes) where
         -- what painting asks
-        pub paintable : PaintingAsked read eye camera before.picture before.unlit before.lit before.patch_counts before.counts
+        pub paintable : PaintingAsked read eye camera before
         paintable =
-            subst (λ (b : List ℕ). PaintingAsked b eye camera before.picture before.unlit before.lit before.patch_counts before.counts) (sym same)
+            subst (λ (b : List ℕ). PaintingAsked b eye camera before) (sym same)
             (record {
               accepted = yes.scene;
               near = parts_bounded 10000 eye (omega arith) (subst (λ (e : Vec). T (point_in_range e)) (sym same_eye) view.point);
@@ -98,10 +98,10 @@ module _
             })
 
         pub rendered_from :
-            {cells unlit lit booked totals : List ℕ} → Rendered read (view_of eye camera) cells unlit lit booked totals → Rendered bytes v cells unlit lit booked totals
-        rendered_from {cells} {unlit} {lit} {booked} {totals} h =
-            subst (λ (b : List ℕ). Rendered b v cells unlit lit booked totals) same
-            (subst (λ (e : Vec). Rendered read (record { eye = e; camera = camera_of camera }) cells unlit lit booked totals) same_eye h)
+            {after : Lent} → Rendered read (view_of eye camera) after → Rendered bytes v after
+        rendered_from {after} h =
+            subst (λ (b : List ℕ). Rendered b v after) same
+            (subst (λ (e : Vec). Rendered read (record { eye = e; camera = camera_of camera }) after) same_eye h)
 
       -- what the counter's next value asks
       pub counter_asked : T (tile_in_window v.camera.window v.camera.tile) × (before.counter < 4294967295)
@@ -110,8 +110,8 @@ module _
 
       -- an accepted call leaves its results
       pub accepted :
-          {cells unlit lit booked totals : List ℕ} {k : ℕ} → Rendered bytes v cells unlit lit booked totals → k ≡ next_counter (camera_of camera) before.counter →
-          Surveyed bytes s (camera_of camera) before (lent_of cells totals booked unlit lit k) 0
+          {after : Lent} {k : ℕ} → Rendered bytes v after → k ≡ next_counter (camera_of camera) before.counter →
+          Surveyed bytes s (camera_of camera) before (record after { counter = k }) 0
       unfolding call_picture call_counts call_patch_cells call_unlit call_lit call_counter
       accepted r e =
           let p = r.painted in

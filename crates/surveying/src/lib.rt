@@ -27,16 +27,7 @@ pub fn survey_from(
 {
     let before = *lent.counter;
     let call = admit(bytes, station, camera, lent.lengths(), before)?;
-    paint(
-        &call.scene,
-        call.eye,
-        camera,
-        lent.picture,
-        lent.unlit,
-        lent.lit,
-        lent.patch_counts,
-        lent.counts,
-    );
+    paint(&call.scene, call.eye, camera, lent);
     *lent.counter = next_counter(camera, before);
     Ok(())
 }

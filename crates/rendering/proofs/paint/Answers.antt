@@ -39,8 +39,8 @@ count_panels-requires c =
     painted_all b.accepted s.checked.laid whole c.camera_raster.ensures (c.paint_rows.auto.booked ∙ b.entries) c.paint_rows.ensures.painted c.paint_rows.ensures.counted in
     countable b.accepted s.checked.laid painted (c.paint_rows.auto.booked ∙ b.entries) b.framed.cells b.framed.narrow b.framed.low b.counted
 
-pub returns : goal.returns
-returns c =
+pub returns-clause-rendered : goal.returns-clause-rendered
+returns-clause-rendered c =
     let s = c.args.scene.now in
     let b = c.requires in
     let whole = subst (WholeWalk s.bytes.now s.layout (vec_of c.args.eye)) (sym c.as_slice.ensures.value) c.walk-order.ensures in

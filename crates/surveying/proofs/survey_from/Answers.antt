@@ -15,7 +15,7 @@ returns-clause-surveyed c =
     let call = c.in_ok-call.ensures in
     let answered = answered_on _ _ _ lent c.lengths.ensures call.answered in
     accepted _ _ _ lent answered
-    (rendered_from _ _ _ lent answered call.eye call.same c.paint.ensures)
+    (rendered_from _ _ _ lent answered call.eye call.same c.paint.ensures.rendered)
     c.next_counter-lent.ensures
 
 pub paint-requires : goal.paint-requires
