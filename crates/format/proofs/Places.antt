@@ -1,7 +1,7 @@
 -- The corner places of a patch in hand.
 use mathlib.Core.Path.{◌≡◌, sym, ap, ◌∙◌, subst}
 use mathlib.Core.List.{List, map}
-use Prim.Native.Nat.{ℕ, ◌+◌, ◌*◌, ◌≤◌, ◌<◌}
+use Prim.Native.Nat.{ℕ, ◌+◌, ◌≤◌, ◌<◌}
 use native.Mathlib.Nat.{zero-add}
 use native.Mathlib.Omega.{arith}
 use lib.ListN.{length, get_or, set, length-set, length-map}
@@ -17,7 +17,7 @@ use Rattle.format.specs.declared.layout.Layout.{Layout}
 use Rattle.format.specs.declared.records.Run.{Run}
 use Rattle.format.specs.declared.records.PatchRecord.{PatchRecord}
 use Rattle.format.specs.Machine.{patch_record_of}
-use Rattle.format.specs.Layout.{LaidOut, RunsInside, Inside, corners_start, patch_number, corner_number}
+use Rattle.format.specs.Layout.{LaidOut, RunsInside, patch_number, corner_number}
 use Rattle.format.specs.Patch.{PatchIs}
 use Rattle.model.specs.Lists.{range}
 use Rattle.model.proofs.Tables.{same_table}
@@ -53,20 +53,15 @@ module _ (bytes : List ℕ) (l : Layout) (first count : ℕ) {places : List Vect
 
 -- ---- the patch by its number
 -- what is known of a patch's corner run
-pub record RunKnown (bytes : List ℕ) (l : Layout) (run : Run) : Type 0 where
-  pub room : corners_start l + 6 * run.first + 6 * run.count ≤ length bytes
-  pub inside : run.first + run.count ≤ l.corners
+pub record RunKnown (run : Run) : Type 0 where
   pub three : 3 ≤ run.count
   pub eight : run.count ≤ 8
 
 module _ {bytes : List ℕ} {l : Layout} {k : ℕ} {p : PatchRecord} (laid : LaidOut bytes l) (runs : RunsInside bytes l) (h : k < l.patches)
     (e : patch_record_of p ≡ patch_number bytes l k) where
-  pub run_known : RunKnown bytes l p.corners
+  pub run_known : RunKnown p.corners
   run_known =
-      let inside : p.corners.first + p.corners.count ≤ l.corners = (subst (λ (r : model.PatchRecord). Inside l.corners r.corner_run) (sym e) (runs.corners k h)).inside in
       record {
-        room = omega (arith, laid.whole);
-        inside = inside;
         three = subst (λ (r : model.PatchRecord). 3 ≤ r.corner_run.count) (sym e) (runs.three k h);
         eight = subst (λ (r : model.PatchRecord). r.corner_run.count ≤ 8) (sym e) (runs.eight k h);
       }

@@ -23,8 +23,7 @@ use Rattle.polygons.proofs.Corners.{flat_asked, three_passed, off_plane_lem, on_
 use Rattle.projection.specs.declared.Axis.{Axis}
 use Rattle.projection.specs.Projected.{first_axis, along, across}
 use Rattle.geometry.proofs.Sizes.{vec_within}
-use Rattle.small_polygons.proofs.FewCorners.{across_within}
-use Rattle.polygons.proofs.Along.{found_bounded, found_convex}
+use Rattle.polygons.proofs.Along.{across_within, found_bounded, found_convex}
 
 -- ---- the turn at each corner
 folded : (t u v w : Bool) → ((t && true) && ((u && true) && ((v && true) && ((w && true) && true)))) ≡ ((t && u) && (v && w))
@@ -93,10 +92,10 @@ module _ {n a b c d : Vector} (w : FourFlat n a b c d) where
     four_within =
         record {
           part_within = (found_bounded found_flat (omega arith) at part_is).part_within;
-          a_within = subst ProjectedWithin (sym ep) (across_within axis w.bounded.a_bounded);
-          b_within = subst ProjectedWithin (sym eq) (across_within axis w.bounded.b_bounded);
-          c_within = subst ProjectedWithin (sym er) (across_within axis w.bounded.c_bounded);
-          d_within = subst ProjectedWithin (sym es) (across_within axis w.bounded.d_bounded);
+          a_within = subst ProjectedWithin (sym ep) (across_within axis (vec_within w.bounded.a_bounded));
+          b_within = subst ProjectedWithin (sym eq) (across_within axis (vec_within w.bounded.b_bounded));
+          c_within = subst ProjectedWithin (sym er) (across_within axis (vec_within w.bounded.c_bounded));
+          d_within = subst ProjectedWithin (sym es) (across_within axis (vec_within w.bounded.d_bounded));
         }
 
     pub four_convex : convex_four stored p q r s ≡ strictly_convex (patch_of_four a b c d)

@@ -24,8 +24,7 @@ use Rattle.projection.proofs.Projected.{turned_projected}
 use Rattle.projection.specs.declared.Axis.{Axis}
 use Rattle.projection.specs.Projected.{first_axis, along, across}
 use Rattle.geometry.proofs.Sizes.{vec_within}
-use Rattle.small_polygons.proofs.FewCorners.{across_within}
-use Rattle.polygons.proofs.Along.{found_bounded, found_convex}
+use Rattle.polygons.proofs.Along.{across_within, found_bounded, found_convex}
 
 -- three equal tests are one
 folded : (t u v : Bool) → u ≡ t → v ≡ t → ((t && true) && ((u && true) && ((v && true) && true))) ≡ t
@@ -80,9 +79,9 @@ module _ {n a b c : Vector} (w : ThreeNormal n a b c) where
     pub three_within : ThreeWithin (projected_of p) (projected_of q) (projected_of r)
     three_within =
         record {
-          a_within = subst ProjectedWithin (sym ep) (across_within axis w.bounded.a_bounded);
-          b_within = subst ProjectedWithin (sym eq) (across_within axis w.bounded.b_bounded);
-          c_within = subst ProjectedWithin (sym er) (across_within axis w.bounded.c_bounded);
+          a_within = subst ProjectedWithin (sym ep) (across_within axis (vec_within w.bounded.a_bounded));
+          b_within = subst ProjectedWithin (sym eq) (across_within axis (vec_within w.bounded.b_bounded));
+          c_within = subst ProjectedWithin (sym er) (across_within axis (vec_within w.bounded.c_bounded));
         }
 
     pub three_convex : convex_three stored p q r ≡ strictly_convex (patch_of_three a b c)
