@@ -15,7 +15,7 @@ pub fn count_panels(scene: &CheckedScene, booked: &[u32], cells: u32, totals: &m
     totals.fill(0);
     let mut rest = cells;
     for (k, own) in booked.iter().enumerate() {
-        let panel = usize::from(scene.patch_record(k).panel);
+        let panel = scene.patch_record(k).panel as usize;
         totals[panel] += *own;
         rest -= *own;
     }

@@ -2,18 +2,16 @@
 use mathlib.Core.Path.{◌≡◌, refl, sym, ap, ◌∙◌, subst}
 use mathlib.Core.Bool.{Bool, true, false, cond, true≢false}
 use mathlib.Core.List.{List}
-use Prim.Native.Nat.{ℕ, ◌+◌, ◌-◌, ◌≤◌, ◌<◌}
+use Prim.Native.Nat.{ℕ, ◌+◌, ◌-◌, ◌<◌}
 use native.Mathlib.Omega.{arith}
-use Rattle.std.proofs.lemmas.List.{length-take-le, get_or-take, get_or-map}
 use lib.Dec.{lit<}
 use lib.IntN.{ℤ, pos, ℤ_discrete}
-use lib.ListN.{length, take}
+use lib.ListN.{get_or}
 use mir.Syntax.{w64}
 use mir.Val.{to_z, of_z}
 use Rattle.integer.specs.Magnitude.{Within}
 use Rattle.integer.proofs.Magnitude.{within_stored}
-use Rattle.model.specs.Bounds.{VecWithin}
-use Rattle.model.specs.Vector.{Vec, origin, is_zero, side}
+use Rattle.model.specs.Vector.{Vec, is_zero, side}
 use Rattle.model.proofs.Tests.{is_true, same_test, true_of}
 use Rattle.model.proofs.Patches.{is_zero_lem}
 use Rattle.model.specs.Patch.{patch_plane, normal, flat, strictly_convex}
@@ -22,42 +20,54 @@ use Rattle.geometry.specs.Machine.{vec_of, Bounded, VectorIs}
 use Rattle.format.specs.declared.patch.Patch.{Patch}
 use Rattle.format.specs.Patch.{corner_of, patch_of}
 use Rattle.polygons.specs.Bounds.{PatchBounded, WithNormal, FoundFlat}
-use Rattle.projection.specs.Projected.{wrap, Projected, projected_along, projected_at, ProjectedWithin, ProjectionBounded, turn_projected_at, turns_projected, convex_projected}
+use Rattle.projection.specs.Projected.{wrap, Projected, projected_at, ProjectionBounded, turns_projected, convex_projected}
+use Rattle.projection.specs.declared.Projection.{Projection}
 use Rattle.model.proofs.Loops.{each}
 use Rattle.projection.proofs.ReadRound.{wrap_below}
 use Rattle.polygons.proofs.Corners.{turn_at, flat_asked, convex_asked, turns_asked}
-use Rattle.projection.proofs.Projected.{length_along, turned_projected, convex_projected_asked, turns_projected_asked}
+use Rattle.projection.proofs.Projected.{turn_projected_at, turned_projected, convex_projected_asked, turns_projected_asked}
 use Rattle.projection.proofs.Asked.{asked_others, all_others}
 use Rattle.projection.specs.declared.Axis.{Axis}
 use Rattle.projection.specs.declared.Axis.TheVariants.{X, Y, Z}
 use Rattle.projection.specs.Projected.{first_axis, along, across}
 use Rattle.polygons.proofs.Axes.{Shown, slanted, no_plane, turns_as_projected}
 
--- ---- the corners across an axis
--- the used corners, projected
-abbrev pub used : Axis → Patch → List Projected
-used a p = projected_along a (take p.count p.corners)
+-- ---- the coordinates across an axis
+abbrev pub firsts : Axis → Patch → List ℤ
+firsts X p = p.y
+firsts Y p = p.z
+firsts Z p = p.x
 
-pub across_within : (a : Axis) {v : Vec} → VecWithin 10000 v → ProjectedWithin (across a v)
-across_within X h = record { u_within = h.y_within; v_within = h.z_within }
-across_within Y h = record { u_within = h.z_within; v_within = h.x_within }
-across_within Z h = record { u_within = h.x_within; v_within = h.y_within }
+abbrev pub seconds : Axis → Patch → List ℤ
+seconds X p = p.z
+seconds Y p = p.x
+seconds Z p = p.y
 
-module _ (a : Axis) (p : Patch) (room : p.count ≤ length p.corners) where
-  length_taken : length (take p.count p.corners) ≡ p.count
-  length_taken = length-take-le p.count p.corners room
+projected_across : (a : Axis) (p : Patch) (k : ℕ) → projected_at (firsts a p) (seconds a p) k ≡ across a (corner_of p k)
+projected_across X p k = refl
+projected_across Y p k = refl
+projected_across Z p k = refl
 
-  length_used : length (used a p) ≡ p.count
-  length_used = length_along a (take p.count p.corners) ∙ length_taken
+-- one of a patch's three tables of coordinates: each is in bounds, in whatever order two of them are taken
+pub data TableOf (p : Patch) : List ℤ → Type 0 where
+  x_table : TableOf p p.x
+  y_table : TableOf p p.y
+  z_table : TableOf p p.z
 
-  projected_across : (k : ℕ) → k < p.count → projected_at (used a p) k ≡ across a (corner_of p k)
-  projected_across k h =
-      get_or-map (λ (v : Vector). across a (vec_of v)) (take p.count p.corners) k blank _ (omega (arith, length_taken))
-      ∙ ap (λ (v : Vector). across a (vec_of v)) (get_or-take p.count p.corners k blank h)
-      ∙ ap (across a) (sym (get_or-map vec_of p.corners k blank origin (omega arith)))
-    where
-      blank : Vector
-      blank = record { x = pos 0; y = pos 0; z = pos 0 }
+table_within : {p : Patch} {us : List ℤ} → PatchBounded p → TableOf p us → (k : ℕ) → k < p.count → Within 10000 (get_or us k (pos 0))
+table_within b x_table k h = (b.corners_within k h).x_within
+table_within b y_table k h = (b.corners_within k h).y_within
+table_within b z_table k h = (b.corners_within k h).z_within
+
+pub first_table : (a : Axis) (p : Patch) → TableOf p (firsts a p)
+first_table X p = y_table
+first_table Y p = z_table
+first_table Z p = x_table
+
+pub second_table : (a : Axis) (p : Patch) → TableOf p (seconds a p)
+second_table X p = z_table
+second_table Y p = x_table
+second_table Z p = y_table
 
 along_within : (a : Axis) {n : Vector} → Bounded 800000000 n → Within 800000000 (along a (vec_of n))
 along_within X h = h.x_within
@@ -72,8 +82,8 @@ zero_only : (z : ℤ) → is_zero z ≡ true → z ≡ pos 0
 zero_only z t = (is_zero_lem z).0 (is_true t)
 
 -- what the code looks at along the axis
-abbrev part_along : Axis → Vector → ℤ
-part_along a n = to_z w64 (of_z w64 (along a (vec_of n)))
+abbrev projection : Axis → Patch → Vector → Projection
+projection a p n = record { part = to_z w64 (of_z w64 (along a (vec_of n))); count = p.count }
 
 module _ {p : Patch} {n : Vector} (w : WithNormal p n) where
   abbrev b : PatchBounded p
@@ -98,76 +108,74 @@ module _ {p : Patch} {n : Vector} (w : WithNormal p n) where
       go true false ex ey = other Y ey
       go true true ex ey = last ex ey (ℤ_discrete n.z (pos 0))
 
-  module _ (a : Axis) (room : p.count ≤ length p.corners) where
-    many : length (used a p) ≡ p.count
-    many = length_used a p room
-
-    pub projection_bounded : ProjectionBounded (part_along a n) (used a p)
-    projection_bounded =
+  module _ (a : Axis) where
+    pub projection_bounded : {us vs : List ℤ} → TableOf p us → TableOf p vs → ProjectionBounded (projection a p n) us vs
+    projection_bounded f g =
         record {
-          three = omega (arith, many, b.three);
-          eight = omega (arith, many, b.eight);
+          three = b.three;
+          eight = b.eight;
           part_within = subst (Within 800000000) (sym (stored (along_within a en.bounded))) (along_within a en.bounded);
-          corners_within = λ k h.
-              let below : k < p.count = omega (arith, many) in
-              subst ProjectedWithin (sym (projected_across a p room k below)) (across_within a (b.corners_within k below));
+          corners_within = λ k h. record { u_within = table_within b f k h; v_within = table_within b g k h };
         }
+
+    across_bounded : ProjectionBounded (projection a p n) (firsts a p) (seconds a p)
+    across_bounded = projection_bounded (first_table a p) (second_table a p)
 
     module _ (f : flat (patch_of p) ≡ true) (shown : Shown a (normal (patch_of p))) where
       on_plane_all : (k : ℕ) → k < p.count → side (patch_plane (patch_of p)) (corner_of p k) ≡ pos 0
       on_plane_all k h = zero_only _ (each (flat_asked b) f k h)
 
-      -- a place read round
-      placed_round : (m : ℕ) → wrap p.count m < p.count → projected_at (used a p) (wrap (length (used a p)) m) ≡ across a (corner_of p (wrap p.count m))
-      placed_round m h = ap (λ (c : ℕ). projected_at (used a p) (wrap c m)) many ∙ projected_across a p room (wrap p.count m) h
-
-      same_turn : {k j : ℕ} → k < p.count → j < p.count - 2 → turn_projected_at (part_along a n) (used a p) k j ≡ turn_at p k j
+      same_turn : {k j : ℕ} → k < p.count → j < p.count - 2 → turn_projected_at (projection a p n) (firsts a p) (seconds a p) k j ≡ turn_at p k j
       same_turn {k} {j} h l =
           let i = wrap p.count (k + 1) in
           let o = wrap p.count (k + 2 + j) in
-          let i_below : i < p.count = wrap_below (omega (arith, b.three)) in
-          let o_below : o < p.count = wrap_below (omega arith) in
-          (λ t. turns_projected ((stored (along_within a en.bounded) ∙ ap (along a) en.value) t) (projected_across a p room k h t)
-          (placed_round (k + 1) i_below t) (placed_round (k + 2 + j) o_below t))
+          (λ t. turns_projected ((stored (along_within a en.bounded) ∙ ap (along a) en.value) t) (projected_across a p k t) (projected_across a p i t) (projected_across a p o t))
           ∙ turns_as_projected a (patch_plane (patch_of p)) (record { a = corner_of p k; b = corner_of p i; c = corner_of p o })
-          (on_plane_all k h) (on_plane_all i i_below) (on_plane_all o o_below) shown
+          (on_plane_all k h)
+          (on_plane_all i (wrap_below (omega (arith, b.three))))
+          (on_plane_all o (wrap_below (omega arith)))
+          shown
 
-      pub convex_as_projected : convex_projected (part_along a n) (used a p) ≡ strictly_convex (patch_of p)
+      pub convex_as_projected : convex_projected (projection a p n) (firsts a p) (seconds a p) ≡ strictly_convex (patch_of p)
       convex_as_projected = same_test _ _ (λ t. is_true (forth (true_of t))) (λ t. is_true (back (true_of t)))
         where
-          turn : ℕ → ℕ → ℕ → Bool
-          turn i j k = turns_projected (part_along a n) (projected_at (used a p) i) (projected_at (used a p) j) (projected_at (used a p) k)
+          place : ℕ → Projected
+          place k = projected_at (firsts a p) (seconds a p) k
 
-          forth : convex_projected (part_along a n) (used a p) ≡ true → strictly_convex (patch_of p) ≡ true
+          turn : ℕ → ℕ → ℕ → Bool
+          turn i j k = turns_projected (projection a p n).part (place i) (place j) (place k)
+
+          forth : convex_projected (projection a p n) (firsts a p) (seconds a p) ≡ true → strictly_convex (patch_of p) ≡ true
           forth t =
               (convex_asked b).all_yes
               (λ k h. (turns_asked b h).all_yes
               (λ j l. sym (same_turn h l)
-              ∙ all_others turn (λ i j k. turned_projected (part_along a n) (projected_at (used a p) i) (projected_at (used a p) j) (projected_at (used a p) k)) (length (used a p))
-              (λ k h j l. each (turns_projected_asked projection_bounded h) (each (convex_projected_asked projection_bounded) t k h) j l) k
-              (omega (arith, many, h)) j (omega (arith, many, l))))
+              ∙ all_others turn (λ i j k. turned_projected (projection a p n).part (place i) (place j) (place k)) p.count
+              (λ k h j l. each (turns_projected_asked across_bounded h) (each (convex_projected_asked across_bounded) t k h) j l) k h j l))
 
-          back : strictly_convex (patch_of p) ≡ true → convex_projected (part_along a n) (used a p) ≡ true
+          back : strictly_convex (patch_of p) ≡ true → convex_projected (projection a p n) (firsts a p) (seconds a p) ≡ true
           back t =
-              (convex_projected_asked projection_bounded).all_yes
-              (λ k h. (turns_projected_asked projection_bounded h).all_yes
+              (convex_projected_asked across_bounded).all_yes
+              (λ k h. (turns_projected_asked across_bounded h).all_yes
               (λ j l.
-              let m = asked_others projection_bounded.three l in
-              let below : k < p.count = omega (arith, many, h) in
-              let other : j < p.count - 2 = omega (arith, many, m) in
-              same_turn below other ∙ each (turns_asked b below) (each (convex_asked b) t k below) j other))
+              let m = asked_others b.three l in
+              same_turn h m ∙ each (turns_asked b h) (each (convex_asked b) t k h) j m))
 
--- along the axis that the code finds
-module _ {p : Patch} {n : Vector} (s : FoundFlat p n) (room : p.count ≤ length p.corners) {axis : Axis} (at : axis ≡ first_axis (vec_of n))
-    {part : ℤ} (part_is : part ≡ along axis (vec_of n)) where
-  found_is : to_z w64 (of_z w64 part) ≡ part_along axis n
-  found_is = ap (λ (z : ℤ). to_z w64 (of_z w64 z)) part_is
+-- along the axis that the code finds; in each of its cases it is known by its name
+module _ {p : Patch} {n : Vector} (s : FoundFlat p n) {axis a : Axis} (at : axis ≡ first_axis (vec_of n)) (named : axis ≡ a) {part : ℤ} (part_is : part ≡ along axis (vec_of n)) where
+  abbrev found : Projection
+  found = record { part = to_z w64 (of_z w64 part); count = p.count }
 
-  pub found_bounded : ProjectionBounded (to_z w64 (of_z w64 part)) (used axis p)
-  found_bounded = subst (λ (z : ℤ). ProjectionBounded z (used axis p)) (sym found_is) (projection_bounded s.with_normal axis room)
+  found_is : found ≡ projection a p n
+  found_is = ap (λ (z : ℤ). record { part = to_z w64 (of_z w64 z); count = p.count }) (part_is ∙ ap (λ (b : Axis). along b (vec_of n)) named)
 
-  pub found_convex : convex_projected (to_z w64 (of_z w64 part)) (used axis p) ≡ strictly_convex (patch_of p)
+  pub found_bounded : ProjectionBounded found (firsts a p) (seconds a p)
+  found_bounded =
+      subst (λ (q : Projection). ProjectionBounded q (firsts a p) (seconds a p)) (sym found_is)
+      (projection_bounded s.with_normal a (first_table a p) (second_table a p))
+
+  pub found_convex : convex_projected found (firsts a p) (seconds a p) ≡ strictly_convex (patch_of p)
   found_convex =
-      ap (λ (z : ℤ). convex_projected z (used axis p)) found_is
-      ∙ convex_as_projected s.with_normal axis room s.is_flat_lem
-      (subst (λ (a : Axis). Shown a (normal (patch_of p))) (sym at) (first_shown s.with_normal))
+      ap (λ (q : Projection). convex_projected q (firsts a p) (seconds a p)) found_is
+      ∙ convex_as_projected s.with_normal a s.is_flat_lem
+      (subst (λ (b : Axis). Shown b (normal (patch_of p))) (sym at ∙ named) (first_shown s.with_normal))

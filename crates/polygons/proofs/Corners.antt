@@ -3,10 +3,7 @@ use mathlib.Core.Path.{◌≡◌, refl, sym, ap, ◌∙◌}
 use mathlib.Core.Bool.{Bool, true, false}
 use mathlib.Core.List.{[], ◌∷◌, map}
 use Prim.Native.Nat.{ℕ, zero, suc, ◌+◌, ◌-◌, ◌<◌}
-use native.Mathlib.Decide.{ℕ_discrete}
 use native.Mathlib.Omega.{arith}
-use borrow.Author.Tests.{eq-eqb, ne_eqb}
-use lib.Dec.{eqb}
 use lib.IntN.{ℤ, pos}
 use lib.ListN.{length}
 use mir.Syntax.{w64}
@@ -108,14 +105,6 @@ module _ {p : Patch} (b : PatchBounded p) where
 
     pub on_plane : of_z w64 r ≡ 0 → is_zero (side (patch_plane (patch_of p)) (corner_of p k)) ≡ true
     on_plane e = ap is_zero (sym side_found.value) ∙ zero_word tt side_found.bounded e
-
-    -- what the code tells
-    pub plane_told : eqb (of_z w64 r) 0 ≡ is_zero (side (patch_plane (patch_of p)) (corner_of p k))
-    plane_told = go (ℕ_discrete (of_z w64 r) 0)
-      where
-        go : Dec (of_z w64 r ≡ 0) → eqb (of_z w64 r) 0 ≡ is_zero (side (patch_plane (patch_of p)) (corner_of p k))
-        go (yes e) = eq-eqb (of_z w64 r) 0 e ∙ sym (on_plane e)
-        go (no f) = ne_eqb (of_z w64 r) 0 f ∙ sym (off_plane_lem f)
 
   -- ---- strictly convex
   pub convex_asked : IsEvery p.count (turns_at_edge (patch_of p)) (strictly_convex (patch_of p))

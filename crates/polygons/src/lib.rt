@@ -1,17 +1,16 @@
 // Question 8 of a patch in hand, of 3 to 8 corners: is it flat and strictly convex?
 #![tactic(auto)]
 
-ghost use Rattle.std.specs.Prelude.{◌≡◌, ◌<◌};
+ghost use Rattle.std.specs.Prelude.{◌≡◌};
 ghost use Rattle.geometry.specs.Machine.{VectorIs};
-ghost use Rattle.format.specs.Patch.{corner_of, patch_of};
-ghost use Rattle.model.specs.Vector.{is_zero, side};
-ghost use Rattle.model.specs.Patch.{normal, patch_plane, flat, strictly_convex};
+ghost use Rattle.format.specs.Patch.{patch_of};
+ghost use Rattle.model.specs.Patch.{normal, flat, strictly_convex};
 ghost use Rattle.polygons.specs.Bounds.{PatchBounded, WithNormal, FoundFlat};
 ghost use Rattle.polygons.specs.Tests.{patch_proper};
 
 use format::patch::{Patch, corner_of};
 use geometry::{Vector, plane_normal, side};
-use projection::{Projection, along, convex_along, first_axis};
+use projection::{Axis, Projection, along, convex_along, first_axis};
 
 fn patch_normal(p: Patch) -> Vector
     requires { PatchBounded p }
@@ -20,20 +19,18 @@ fn patch_normal(p: Patch) -> Vector
     plane_normal(corner_of(p, 0), corner_of(p, 1), corner_of(p, 2))
 }
 
-// corner k is on the plane of the first three
-fn lies_on_plane(p: Patch, n: Vector, k: usize) -> bool
-    requires { WithNormal p n × (k < p.count) }
-    ensures { result ≡ is_zero (side (patch_plane (patch_of p)) (corner_of p k)) }
-{
-    side(n, corner_of(p, 0), corner_of(p, k)) == 0
-}
-
 fn is_flat(p: Patch, n: Vector) -> bool
     requires { WithNormal p n }
     ensures { result ≡ flat (patch_of p) }
 {
+    let a = corner_of(p, 0);
     // the first three are on their plane
-    (3..p.count).all(|k| lies_on_plane(p, n, k))
+    for k in 3..p.count {
+        if side(n, a, corner_of(p, k)) != 0 {
+            return false;
+        }
+    }
+    true
 }
 
 // projected along the first axis that the plane is not parallel to
@@ -43,10 +40,14 @@ fn strictly_convex(p: Patch, n: Vector) -> bool
 {
     let axis = first_axis(n);
     let projection = Projection {
-        axis,
         part: along(axis, n),
+        count: p.count,
     };
-    convex_along(projection, &p.corners[..p.count])
+    match axis {
+        Axis::X => convex_along(projection, &p.y, &p.z),
+        Axis::Y => convex_along(projection, &p.z, &p.x),
+        Axis::Z => convex_along(projection, &p.x, &p.y),
+    }
 }
 
 pub fn patch_proper(p: Patch) -> bool

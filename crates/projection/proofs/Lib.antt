@@ -2,4 +2,3 @@
 pub mod ReadRound
 pub mod Projected
 pub mod Asked
-pub mod Runs

@@ -1,10 +1,10 @@
 // A flat patch projected along an axis: each corner by its two other coordinates.
 #![tactic(auto)]
 
-ghost use Rattle.std.specs.Prelude.{◌≡◌, ◌+◌, ◌≤◌, ◌<◌, ◌*ℤ◌, length};
+ghost use Rattle.std.specs.Prelude.{◌≡◌, ◌+◌, ◌≤◌, ◌<◌, ◌*ℤ◌};
 ghost use Rattle.integer.specs.Magnitude.{Within};
 ghost use Rattle.geometry.specs.Machine.{vec_of, Bounded, NumberIs};
-ghost use Rattle.projection.specs.Projected.{first_axis, along, across, wrap, projected_of, projected_along, ThreeWithin, ProjectionBounded, turn_part, asked, turn_projected_at, turns_projected_at, convex_projected};
+ghost use Rattle.projection.specs.Projected.{first_axis, along, across, wrap, projected, projected_of, projected_at, ThreeWithin, ProjectionBounded, turn_part, asked, turns_projected_at, convex_projected};
 
 use geometry::Vector;
 
@@ -16,11 +16,11 @@ pub enum Axis {
     Z,
 }
 
-// the axis that a patch is projected along, and the part of its normal along it
+// the part of the patch's normal along the axis, and how many corners it has
 #[derive(Clone, Copy)]
 pub struct Projection {
-    pub axis: Axis,
     pub part: i64,
+    pub count: usize,
 }
 
 // a corner projected along an axis: its two other coordinates
@@ -28,6 +28,22 @@ pub struct Projection {
 pub struct Point {
     pub u: i64,
     pub v: i64,
+}
+
+fn point_of(u: i16, v: i16) -> Point
+    ensures { projected_of result ≡ projected u v }
+{
+    Point {
+        u: i64::from(u),
+        v: i64::from(v),
+    }
+}
+
+fn point_at<'a>(u: &'a [i16; 8], v: &'a [i16; 8], k: usize) -> Point
+    requires { k < 8 }
+    ensures { projected_of result ≡ projected_at u.now v.now k }
+{
+    point_of(u[k], v[k])
 }
 
 // The first axis that a plane with this normal is not parallel to. A normal without one is 0; its last axis is as good as any.
@@ -57,6 +73,7 @@ pub fn along(axis: Axis, v: Vector) -> i64
 
 // a corner projected along the axis, with its coordinates in the order of the cross product
 pub fn across(axis: Axis, v: Vector) -> Point
+    requires { Bounded 10000 v }
     ensures { projected_of result ≡ across axis (vec_of v) }
 {
     match axis {
@@ -111,30 +128,33 @@ fn asked_corners(count: usize) -> usize
     count - 2
 }
 
-// the other corner j places after the edge from corner k is on its inner side
-fn turns_at(projection: Projection, corners: &[Vector], k: usize, j: usize) -> bool
-    requires { ProjectionBounded projection.part (projected_along projection.axis corners.now) × (k < length corners.now) × (j + 2 < length corners.now) }
-    ensures { result ≡ turn_projected_at projection.part (projected_along projection.axis corners.now) k j }
+// the corners asked are on the inner side of the edge from corner k
+fn turns_at_edge<'a>(projection: Projection, u: &'a [i16; 8], v: &'a [i16; 8], k: usize) -> bool
+    requires { ProjectionBounded projection u.now v.now × (k < projection.count) }
+    ensures { result ≡ turns_projected_at projection u.now v.now k }
 {
-    let count = corners.len();
-    let a = across(projection.axis, corners[k]);
-    let b = across(projection.axis, corners[wrapped(count, k + 1)]);
-    let c = across(projection.axis, corners[wrapped(count, k + 2 + j)]);
-    0 < turn_along(projection, a, b, c)
-}
-
-// so are the corners asked
-fn turns_at_edge(projection: Projection, corners: &[Vector], k: usize) -> bool
-    requires { ProjectionBounded projection.part (projected_along projection.axis corners.now) × (k < length corners.now) }
-    ensures { result ≡ turns_projected_at projection.part (projected_along projection.axis corners.now) k }
-{
-    (0..asked_corners(corners.len())).all(|j| turns_at(projection, corners, k, j))
+    let count = projection.count;
+    let a = point_at(u, v, k);
+    let b = point_at(u, v, wrapped(count, k + 1));
+    let others = asked_corners(count);
+    for j in 0..others {
+        let c = point_at(u, v, wrapped(count, k + 2 + j));
+        if turn_along(projection, a, b, c) <= 0 {
+            return false;
+        }
+    }
+    true
 }
 
 // strictly convex, by its projection along an axis
-pub fn convex_along(projection: Projection, corners: &[Vector]) -> bool
-    requires { ProjectionBounded projection.part (projected_along projection.axis corners.now) }
-    ensures { result ≡ convex_projected projection.part (projected_along projection.axis corners.now) }
+pub fn convex_along<'a>(projection: Projection, u: &'a [i16; 8], v: &'a [i16; 8]) -> bool
+    requires { ProjectionBounded projection u.now v.now }
+    ensures { result ≡ convex_projected projection u.now v.now }
 {
-    (0..corners.len()).all(|k| turns_at_edge(projection, corners, k))
+    for k in 0..projection.count {
+        if !turns_at_edge(projection, u, v, k) {
+            return false;
+        }
+    }
+    true
 }

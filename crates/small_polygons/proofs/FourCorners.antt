@@ -21,9 +21,11 @@ use Rattle.small_polygons.specs.Four.{FourBounded, FourFlat, FourWithin, patch_o
 use Rattle.projection.specs.declared.Point.{Point}
 use Rattle.polygons.proofs.Corners.{flat_asked, three_passed, off_plane_lem, on_plane}
 use Rattle.projection.specs.declared.Axis.{Axis}
+use Rattle.projection.specs.declared.Axis.TheVariants.{X, Y, Z}
 use Rattle.projection.specs.Projected.{first_axis, along, across}
 use Rattle.geometry.proofs.Sizes.{vec_within}
-use Rattle.polygons.proofs.Along.{across_within, found_bounded, found_convex}
+use Rattle.small_polygons.proofs.FewCorners.{across_within}
+use Rattle.polygons.proofs.Along.{firsts, seconds, found_bounded, found_convex}
 
 -- ---- the turn at each corner
 folded : (t u v w : Bool) → ((t && true) && ((u && true) && ((v && true) && ((w && true) && true)))) ≡ ((t && u) && (v && w))
@@ -48,7 +50,9 @@ four_turns part a b c d =
 abbrev quad : Vector → Vector → Vector → Vector → Patch
 quad a b c d =
     record {
-      corners = a ∷ b ∷ c ∷ d ∷ [];
+      x = a.x ∷ b.x ∷ c.x ∷ d.x ∷ [];
+      y = a.y ∷ b.y ∷ c.y ∷ d.y ∷ [];
+      z = a.z ∷ b.z ∷ c.z ∷ d.z ∷ [];
       count = 4;
       panel = 0;
     }
@@ -91,14 +95,24 @@ module _ {n a b c d : Vector} (w : FourFlat n a b c d) where
     pub four_within : FourWithin stored p q r s
     four_within =
         record {
-          part_within = (found_bounded found_flat (omega arith) at part_is).part_within;
-          a_within = subst ProjectedWithin (sym ep) (across_within axis (vec_within w.bounded.a_bounded));
-          b_within = subst ProjectedWithin (sym eq) (across_within axis (vec_within w.bounded.b_bounded));
-          c_within = subst ProjectedWithin (sym er) (across_within axis (vec_within w.bounded.c_bounded));
-          d_within = subst ProjectedWithin (sym es) (across_within axis (vec_within w.bounded.d_bounded));
+          part_within = (found_bounded found_flat at refl part_is).part_within;
+          a_within = subst ProjectedWithin (sym ep) (across_within axis w.bounded.a_bounded);
+          b_within = subst ProjectedWithin (sym eq) (across_within axis w.bounded.b_bounded);
+          c_within = subst ProjectedWithin (sym er) (across_within axis w.bounded.c_bounded);
+          d_within = subst ProjectedWithin (sym es) (across_within axis w.bounded.d_bounded);
         }
+
+    tables : (axis : Axis) →
+        convex_projected (record { part = stored; count = 4 })
+        ((across axis (vec_of a)).u ∷ (across axis (vec_of b)).u ∷ (across axis (vec_of c)).u ∷ (across axis (vec_of d)).u ∷ [])
+        ((across axis (vec_of a)).v ∷ (across axis (vec_of b)).v ∷ (across axis (vec_of c)).v ∷ (across axis (vec_of d)).v ∷ [])
+        ≡ convex_projected (record { part = stored; count = 4 }) (firsts axis (quad a b c d)) (seconds axis (quad a b c d))
+    tables X = refl
+    tables Y = refl
+    tables Z = refl
 
     pub four_convex : convex_four stored p q r s ≡ strictly_convex (patch_of_four a b c d)
     four_convex =
-        (λ i. convex_projected stored (ep i ∷ eq i ∷ er i ∷ es i ∷ []))
-        ∙ found_convex found_flat (omega arith) at part_is
+        (λ i. convex_projected (record { part = stored; count = 4 }) ((ep i).u ∷ (eq i).u ∷ (er i).u ∷ (es i).u ∷ []) ((ep i).v ∷ (eq i).v ∷ (er i).v ∷ (es i).v ∷ []))
+        ∙ tables axis
+        ∙ found_convex found_flat at refl part_is

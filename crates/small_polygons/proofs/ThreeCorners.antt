@@ -22,9 +22,11 @@ use Rattle.projection.specs.declared.Point.{Point}
 use Rattle.polygons.proofs.Corners.{flat_asked, three_passed}
 use Rattle.projection.proofs.Projected.{turned_projected}
 use Rattle.projection.specs.declared.Axis.{Axis}
+use Rattle.projection.specs.declared.Axis.TheVariants.{X, Y, Z}
 use Rattle.projection.specs.Projected.{first_axis, along, across}
 use Rattle.geometry.proofs.Sizes.{vec_within}
-use Rattle.polygons.proofs.Along.{across_within, found_bounded, found_convex}
+use Rattle.small_polygons.proofs.FewCorners.{across_within}
+use Rattle.polygons.proofs.Along.{firsts, seconds, found_bounded, found_convex}
 
 -- three equal tests are one
 folded : (t u v : Bool) → u ≡ t → v ≡ t → ((t && true) && ((u && true) && ((v && true) && true))) ≡ t
@@ -41,7 +43,9 @@ three_once part a b c =
 abbrev tri : Vector → Vector → Vector → Patch
 tri a b c =
     record {
-      corners = a ∷ b ∷ c ∷ [];
+      x = a.x ∷ b.x ∷ c.x ∷ [];
+      y = a.y ∷ b.y ∷ c.y ∷ [];
+      z = a.z ∷ b.z ∷ c.z ∷ [];
       count = 3;
       panel = 0;
     }
@@ -74,17 +78,27 @@ module _ {n a b c : Vector} (w : ThreeNormal n a b c) where
     stored = to_z w64 (of_z w64 part)
 
     pub part_within : Within 800000000 stored
-    part_within = (found_bounded found_flat (omega arith) at part_is).part_within
+    part_within = (found_bounded found_flat at refl part_is).part_within
 
     pub three_within : ThreeWithin (projected_of p) (projected_of q) (projected_of r)
     three_within =
         record {
-          a_within = subst ProjectedWithin (sym ep) (across_within axis (vec_within w.bounded.a_bounded));
-          b_within = subst ProjectedWithin (sym eq) (across_within axis (vec_within w.bounded.b_bounded));
-          c_within = subst ProjectedWithin (sym er) (across_within axis (vec_within w.bounded.c_bounded));
+          a_within = subst ProjectedWithin (sym ep) (across_within axis w.bounded.a_bounded);
+          b_within = subst ProjectedWithin (sym eq) (across_within axis w.bounded.b_bounded);
+          c_within = subst ProjectedWithin (sym er) (across_within axis w.bounded.c_bounded);
         }
+
+    tables : (axis : Axis) →
+        convex_projected (record { part = stored; count = 3 })
+        ((across axis (vec_of a)).u ∷ (across axis (vec_of b)).u ∷ (across axis (vec_of c)).u ∷ [])
+        ((across axis (vec_of a)).v ∷ (across axis (vec_of b)).v ∷ (across axis (vec_of c)).v ∷ [])
+        ≡ convex_projected (record { part = stored; count = 3 }) (firsts axis (tri a b c)) (seconds axis (tri a b c))
+    tables X = refl
+    tables Y = refl
+    tables Z = refl
 
     pub three_convex : convex_three stored p q r ≡ strictly_convex (patch_of_three a b c)
     three_convex =
-        (λ i. convex_projected stored (ep i ∷ eq i ∷ er i ∷ []))
-        ∙ found_convex found_flat (omega arith) at part_is
+        (λ i. convex_projected (record { part = stored; count = 3 }) ((ep i).u ∷ (eq i).u ∷ (er i).u ∷ []) ((ep i).v ∷ (eq i).v ∷ (er i).v ∷ []))
+        ∙ tables axis
+        ∙ found_convex found_flat at refl part_is

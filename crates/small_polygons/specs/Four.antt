@@ -36,4 +36,4 @@ pub record FourWithin (part : ℤ) (a b c d : Point) : Type 0 where
 -- the projection of the four corners is strictly convex
 abbrev pub convex_four : ℤ → Point → Point → Point → Point → Bool
 convex_four part a b c d =
-    convex_projected part (projected_of a ∷ projected_of b ∷ projected_of c ∷ projected_of d ∷ [])
+    convex_projected (record { part = part; count = 4 }) (a.u ∷ b.u ∷ c.u ∷ d.u ∷ []) (a.v ∷ b.v ∷ c.v ∷ d.v ∷ [])

@@ -5,7 +5,7 @@ use Rattle.model.specs.Patch.{Patch}
 use Rattle.geometry.specs.declared.Vector.{Vector}
 use Rattle.geometry.specs.Machine.{vec_of, plane_of, Bounded, VectorIs}
 use Rattle.projection.specs.declared.Point.{Point}
-use Rattle.projection.specs.Projected.{projected_of, convex_projected}
+use Rattle.projection.specs.Projected.{convex_projected}
 
 -- the corners after question 3
 pub record ThreeBounded (a b c : Vector) : Type 0 where
@@ -24,4 +24,4 @@ pub record ThreeNormal (n a b c : Vector) : Type 0 where
 
 -- the projection of the three corners along an axis is strictly convex
 abbrev pub convex_three : ℤ → Point → Point → Point → Bool
-convex_three part a b c = convex_projected part (projected_of a ∷ projected_of b ∷ projected_of c ∷ [])
+convex_three part a b c = convex_projected (record { part = part; count = 3 }) (a.u ∷ b.u ∷ c.u ∷ []) (a.v ∷ b.v ∷ c.v ∷ [])

@@ -32,8 +32,8 @@ fn four_convex(n: Vector, a: Vector, b: Vector, c: Vector, d: Vector) -> bool
 {
     let axis = first_axis(n);
     let projection = Projection {
-        axis,
         part: along(axis, n),
+        count: 4,
     };
     turns_round(
         projection,

@@ -15,8 +15,8 @@ fn three_convex(n: Vector, a: Vector, b: Vector, c: Vector) -> bool
 {
     let axis = first_axis(n);
     let projection = Projection {
-        axis,
         part: along(axis, n),
+        count: 3,
     };
     turns(
         projection,

@@ -1,16 +1,19 @@
-use mathlib.Core.Path.{refl, ◌∙◌}
 use native.Mathlib.Omega.{arith}
-use Rattle.std.proofs.Common.{length, rules, tests}
-use Rattle.std.proofs.lemmas.Iterator.{YieldsList-from_range}
-use Rattle.std.proofs.lemmas.Iterator.Search.{all_from_yields_List}
-use Rattle.model.proofs.Loops.{none_passed}
-use Rattle.projection.proofs.Projected.{length_along, convex_projected_asked}
-use Rattle.projection.proofs.Runs.{all_asked}
+use borrow.Author.Tests.{not-true, not-false}
+use Rattle.model.proofs.Loops.{none_passed, one_passed, refused, accepted}
+use Rattle.projection.proofs.Projected.{convex_projected_asked}
 use Rattle.projection.proofs.convex_along.Goals as goal
 
+pub loop-k-init : goal.loop-k-init
+loop-k-init c = none_passed _ _
+
+pub returns-then-not-turns_at_edge : goal.returns-then-not-turns_at_edge
+returns-then-not-turns_at_edge c =
+    refused (convex_projected_asked c.requires) (omega arith) c.turns_at_edge.ensures (not-true _ c.if-not-turns_at_edge.true-raw)
+
+pub loop-k-preserved : goal.loop-k-preserved
+loop-k-preserved c =
+    one_passed c.loop-k.invariant (omega arith) c.turns_at_edge.ensures (not-false _ c.if-not-turns_at_edge.false-raw)
+
 pub returns : goal.returns
-returns c =
-    let n = length c.args.corners.now in
-    all_from_yields_List _ _ _ _ c.all.ensures.ran (YieldsList-from_range 0 n n refl (omega arith))
-    (λ x b q k. search (rules, tests))
-    ∙ all_asked (convex_projected_asked c.requires) n (omega (arith, length_along c.args.projection.axis c.args.corners.now)) (none_passed _ _)
+returns c = accepted (convex_projected_asked c.requires) c.loop-k.invariant (omega arith)
