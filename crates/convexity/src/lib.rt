@@ -9,30 +9,20 @@ ghost use Rattle.convexity.specs.Cornered.{Cornered, corners_from};
 
 use format::patch::read_patch;
 use format::scene::Scene;
+use geometry::Vector;
 use polygons::patch_proper;
-use small_polygons::four::four_proper;
-use small_polygons::three::three_proper;
+use small_polygons::few_proper;
 
-// Three and four corners of the table, from a place on. One function of N corners would need a loop that fills an array, and ask N for which test it calls.
-fn three_from(scene: &Scene, first: usize) -> bool
-    requires { Cornered scene.now.bytes.now scene.now.layout × (first + 3 ≤ scene.now.layout.corners) }
-    ensures { result ≡ patch_proper (corners_from scene.now.bytes.now scene.now.layout first 3) }
+// N corners of the table, from a place on
+fn few_from<const N: usize>(scene: &Scene, first: usize) -> bool
+    requires { Cornered scene.now.bytes.now scene.now.layout × (first + N ≤ scene.now.layout.corners) × (3 ≤ N) × (N ≤ 4) }
+    ensures { result ≡ patch_proper (corners_from scene.now.bytes.now scene.now.layout first N) }
 {
-    let a = scene.corner(first);
-    let b = scene.corner(first + 1);
-    let c = scene.corner(first + 2);
-    three_proper(a, b, c)
-}
-
-fn four_from(scene: &Scene, first: usize) -> bool
-    requires { Cornered scene.now.bytes.now scene.now.layout × (first + 4 ≤ scene.now.layout.corners) }
-    ensures { result ≡ patch_proper (corners_from scene.now.bytes.now scene.now.layout first 4) }
-{
-    let a = scene.corner(first);
-    let b = scene.corner(first + 1);
-    let c = scene.corner(first + 2);
-    let d = scene.corner(first + 3);
-    four_proper(a, b, c, d)
+    let mut corners = [Vector { x: 0, y: 0, z: 0 }; N];
+    for k in 0..N {
+        corners[k] = scene.corner(first + k);
+    }
+    few_proper(&corners)
 }
 
 // the patch by its number
@@ -42,10 +32,10 @@ fn numbered_proper(scene: &Scene, k: usize) -> bool
 {
     let run = scene.patch_record(k).corners;
     if run.count == 4 {
-        return four_from(scene, run.first);
+        return few_from::<4>(scene, run.first);
     }
     if run.count == 3 {
-        return three_from(scene, run.first);
+        return few_from::<3>(scene, run.first);
     }
     patch_proper(read_patch(scene, k))
 }

@@ -5,7 +5,7 @@ ghost use Rattle.std.specs.Prelude.{◌≤◌};
 ghost use Rattle.positions.specs.Positions.{Acts};
 
 // What to do with the segment: paint the columns that it shares with the span, keep those before the span,
-// keep those after it, go on to the next segment. Four flags, not one of eight positions: each is read by itself, and none follows from the others.
+// keep those after it, go on to the next segment. Four flags, not one of eight positions: none follows from the others.
 #[derive(Clone, Copy)]
 pub struct Action {
     pub paint: bool,

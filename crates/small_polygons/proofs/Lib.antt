@@ -1,4 +1,2 @@
 -- Laws of patches of three and four corners.
 mod FewCorners
-mod ThreeCorners
-mod FourCorners

@@ -1,3 +1,2 @@
 -- What the crate's contracts cite.
-pub mod Four
-pub mod Three
+pub mod Few
