@@ -3,7 +3,7 @@ use mathlib.Core.Path.{◌≡◌, ap}
 use native.Mathlib.Omega.{arith}
 use Rattle.std.specs.Prelude.{Result, Ok, Err, IsErrAnd}
 use Rattle.refusal.specs.declared.Refusal.{Refusal}
-use Rattle.refusal.specs.declared.Refusal.TheVariants.{Header, Sections, Coordinates, Planes, Children, Runs, Panels, Patches, Division, View, Lengths, Counter, Axes, Station}
+use Rattle.refusal.specs.declared.Refusal.TheVariants.{Header, Sections, Coordinates, Planes, Children, Runs, Panels, Patches, Division, View, Lengths, Counter, Struck, Axes, Station}
 use Rattle.refusal.specs.Refusal.{refusal_number, answer_of}
 
 -- it is answered by its own number
@@ -26,5 +26,6 @@ never_done Division e = omega arith
 never_done View e = omega arith
 never_done Lengths e = omega arith
 never_done Counter e = omega arith
+never_done Struck e = omega arith
 never_done Axes e = omega arith
 never_done Station e = omega arith

@@ -1,7 +1,7 @@
 -- The numbers of the refusals, as `model` numbers its questions.
 use Rattle.std.specs.Prelude.{ℕ, Result, Ok, Err}
 use Rattle.refusal.specs.declared.Refusal.{Refusal}
-use Rattle.refusal.specs.declared.Refusal.TheVariants.{Header, Sections, Coordinates, Planes, Children, Runs, Panels, Patches, Division, View, Lengths, Counter, Axes, Station}
+use Rattle.refusal.specs.declared.Refusal.TheVariants.{Header, Sections, Coordinates, Planes, Children, Runs, Panels, Patches, Division, View, Lengths, Counter, Struck, Axes, Station}
 
 abbrev pub refusal_number : Refusal → ℕ
 refusal_number Header = 1
@@ -16,6 +16,7 @@ refusal_number Division = 9
 refusal_number View = 10
 refusal_number Lengths = 11
 refusal_number Counter = 12
+refusal_number Struck = 13
 refusal_number Axes = 14
 refusal_number Station = 15
 

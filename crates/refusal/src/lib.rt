@@ -18,7 +18,8 @@ pub enum Refusal {
     View = 10,
     Lengths = 11,
     Counter = 12,
-    // 13 is of a question that is struck
+    // of a question that is struck: no call is refused by it. It has its place, so that the numbers follow each other and no table of them is kept
+    Struck = 13,
     Axes = 14,
     Station = 15,
 }
