@@ -27,9 +27,9 @@ def listed():
 
 
 def below(crates, name):
-    """The crates that this one stands on, each after those that it stands on itself."""
+    """The crates of the repository that this one stands on, each after those that it stands on itself. Libraries of the kit are found where the kit has them."""
     found = []
-    for each in crates[name]:
+    for each in filter(crates.__contains__, crates[name]):
         found += [it for it in [*below(crates, each), each] if it not in found]
     return found
 
