@@ -28,6 +28,20 @@ pub struct Extent {
     pub inner: Bounds,
 }
 
+const ORIGIN: Corner = Corner { x: 0, y: 0, z: 0 };
+
+const NO_BOX: Bounds = Bounds {
+    low: ORIGIN,
+    high: ORIGIN,
+};
+
+// What an entry of a list of extents holds before its own is written. A constant, so that a list of them is cleared as one run of bytes: a value that a call gives is
+// stored entry by entry, which takes longer than all the rest of the questions on a small scene.
+pub const UNWRITTEN: Extent = Extent {
+    outer: NO_BOX,
+    inner: NO_BOX,
+};
+
 pub fn wide(c: Corner) -> Vector
     ensures { result ≡ wide c }
 {

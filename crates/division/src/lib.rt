@@ -12,7 +12,7 @@ ghost use Rattle.division.specs.Division.{Against, NodeAsked, node_divides};
 ghost use Rattle.halfspaces.specs.Sides.{held};
 
 use box_sides::settled;
-use boxes::Extent;
+use boxes::{Extent, UNWRITTEN};
 use checked::CheckedScene;
 use extents::fill_extents;
 use format::records::Node;
@@ -70,7 +70,7 @@ fn nodes_divide(scene: &CheckedScene, boxes: &[Extent]) -> bool
 pub fn planes_divide(scene: &CheckedScene) -> bool
     ensures { result ≡ planes_divide (decode scene.now.bytes.now) }
 {
-    let mut boxes = [Extent::default(); 1024];
+    let mut boxes = [UNWRITTEN; 1024];
     fill_extents(scene, &mut boxes);
     nodes_divide(scene, &boxes)
 }

@@ -32,11 +32,12 @@ pub struct EdgeFunction {
     pub drop: i64,
 }
 
-// a number from −n to n
+// A number from −n to n. As a range it takes one subtraction and one comparison; its magnitude takes three steps before the comparison, and question 3 asks this of every coordinate.
 fn up_to(n: u16, z: i64) -> bool
     ensures { result ≡ up_to n z }
 {
-    z.unsigned_abs() <= u64::from(n)
+    let most = i64::from(n);
+    (-most..=most).contains(&z)
 }
 
 // a vector with each part from −n to n
