@@ -7,7 +7,7 @@ ghost use Rattle.text.specs.Put.{Room, Put};
 ghost use Rattle.numerals.specs.Listing.{each, word_digits, spaced_word};
 
 use arrayvec::ArrayVec;
-use text::put_text;
+use text::{put_spaced, put_text};
 
 // What has a text after a space, of at most 17 bytes.
 pub trait Spaced: Copy {
@@ -23,7 +23,7 @@ impl Spaced for u16 {
     #[tactic(auto, using(text::proofs::Lengths::spaced_length))]
     fn spaced(self) -> ArrayVec<u8, 17> {
         let mut out = ArrayVec::new();
-        text::put_spaced(&mut out, u32::from(self));
+        put_spaced(&mut out, u32::from(self));
         out
     }
 }
@@ -48,6 +48,16 @@ fn hex_word(word: u64) -> [u8; 16]
     let mut digits = [0; 16];
     let _fits = hex::encode_to_slice(word.to_be_bytes(), &mut digits);
     digits
+}
+
+// Each number after a space. Numbers are put where they are to stand: made first and copied, as items of any kind are, a row's line takes four times as long.
+pub fn put_numbers<const N: usize>(out: &mut ArrayVec<u8, N>, numbers: &[u16])
+    requires { Room (each spaced_number numbers.now) N out.old }
+    ensures { Put (each spaced_number numbers.now) out.old out.new }
+{
+    for number in numbers {
+        put_spaced(out, u32::from(*number));
+    }
 }
 
 // Each of the items after a space.

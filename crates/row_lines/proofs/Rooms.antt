@@ -39,16 +39,16 @@ pub words_length : (words : List ℕ) → length (each spaced_word words) ≤ 17
 words_length words = each_length spaced_word 17 words (λ (i : ℕ). spaced_word_length (get_or words i 0))
 
 -- the used pairs of a row are some of its numbers
-pub pairs_length : (row : List ℕ) → ((i : ℕ) → get_or row i 0 < 65536) → length (each spaced (used_pairs row)) ≤ 11 * length row
+pub used_text_length : (row : List ℕ) → ((i : ℕ) → get_or row i 0 < 65536) → length (each spaced (used_pairs row)) ≤ 11 * length row
 unfolding used_pairs each
-pairs_length [] few = omega arith
-pairs_length (offset ∷ []) few = omega arith
-pairs_length (offset ∷ zero ∷ row) few = omega arith
-pairs_length (offset ∷ suc n ∷ row) few =
+used_text_length [] few = omega arith
+used_text_length (offset ∷ []) few = omega arith
+used_text_length (offset ∷ zero ∷ row) few = omega arith
+used_text_length (offset ∷ suc n ∷ row) few =
     simp length-append
     (omega (
       arith,
       spaced_length offset (omega (arith, few 0)),
       spaced_length (suc n) (omega (arith, few 1)),
-      pairs_length row (λ (i : ℕ). few (suc (suc i))),
+      used_text_length row (λ (i : ℕ). few (suc (suc i))),
     ))
