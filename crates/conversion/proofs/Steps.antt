@@ -15,6 +15,7 @@ use Rattle.model.specs.Patch.{Patch}
 use Rattle.model.specs.Ray.{met}
 use Rattle.model.specs.Booking.{cells_where}
 use Rattle.model.specs.Format.{decode, patch_numbered}
+use Rattle.geometry.specs.declared.EdgeFunction.{EdgeFunction}
 use Rattle.geometry.specs.Machine.{vec_of}
 use Rattle.geometry.specs.Raster.{line_at}
 use Rattle.model.proofs.LitMap.{map_congr}
@@ -136,7 +137,8 @@ module _
         entry)
 
     module _
-        {reach : Span} {r : Sloped} (found : Reach (vec_of s.eye) s.raster p reach) (limited : Limited s.raster.height reach) (edges : EdgesKept s p reach r)
+        {reach : Span} {table : List EdgeFunction} {r : Sloped} (found : Reach (vec_of s.eye) s.raster p reach) (limited : Limited s.raster.height reach)
+        (edges : EdgesKept s p reach table r)
       where
         inside : r.reach.end ≤ s.raster.height
         inside = omega (arith, edges.shaped.limited, limited.end_limit)
@@ -144,7 +146,7 @@ module _
         room : s.raster.height * s.raster.width ≤ length picture
         room = omega (arith, asked.cells, mul_comm s.raster.width s.raster.height)
 
-        pub rows_asked_lem : RowsAsked r.functions.items r.reach s.raster.width rows picture
+        pub rows_asked_lem : RowsAsked (take r.count table) r.reach s.raster.width rows picture
         rows_asked_lem =
             record {
               run = edges.run;
@@ -164,10 +166,10 @@ module _
             {panel : ℕ} {rows' : List RowUnderWork} {picture' : List ℕ} {lit : ℕ} (panel_is : panel ≡ p.panel)
             (over :
             (height : ℕ) (unlit : ℕ → ℕ → Bool) → r.reach.end ≤ height → height * s.raster.width ≤ length picture → UnlitSets s.raster.width height unlit rows →
-            RowsPaintedOver (in_rows r.reach r.functions.items) panel s.raster.width height unlit picture rows' picture' lit)
+            RowsPaintedOver (in_rows r.reach (take r.count table)) panel s.raster.width height unlit picture rows' picture' lit)
           where
             -- it is met in the rows of its reach alone, and there in the rows that are left, where the functions kept are above 0
-            met_there : (j : ℕ) → j < s.raster.height → (i : ℕ) → i < s.raster.width → in_rows r.reach r.functions.items j i ≡ met (vec_of s.eye) (line_at s.raster i j) p
+            met_there : (j : ℕ) → j < s.raster.height → (i : ℕ) → i < s.raster.width → in_rows r.reach (take r.count table) j i ≡ met (vec_of s.eye) (line_at s.raster i j) p
             met_there j b i l = edges.same j i ∙ go (covers reach j) refl
               where
                 outside : covers reach j ≡ false → reach.first ≤ j → j < reach.end → ⊥
@@ -182,7 +184,7 @@ module _
                 patch_goes asked.so_far asked.next met_there
                 (subst
                 (λ (n : ℕ).
-                RowsPaintedOver (in_rows r.reach r.functions.items) n s.raster.width s.raster.height (unlit_by asked.so_far) picture rows' picture' lit)
+                RowsPaintedOver (in_rows r.reach (take r.count table)) n s.raster.width s.raster.height (unlit_by asked.so_far) picture rows' picture' lit)
                 panel_is (over s.raster.height (unlit_by asked.so_far) inside room (under_work asked.so_far)))
                 entry
 

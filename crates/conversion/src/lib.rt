@@ -57,9 +57,10 @@ pub fn paint_patch(
     let reach = patch_rows(scene, n, sight.eye, sight.raster, planes);
     if reach.first < reach.end && !beside_columns(scene, n, sight.eye, sight.raster, planes) {
         let panel = scene.patch_record(n).panel;
-        let kept = patch_edges(scene, n, sight, reach);
+        let mut table = [EdgeFunction::default(); 8];
+        let kept = patch_edges(scene, n, sight, reach, &mut table);
         let lit = convert_rows(
-            kept.functions.as_slice(),
+            &table[..kept.count],
             panel,
             kept.reach,
             sight.raster.width,

@@ -27,8 +27,8 @@ use Rattle.edges.proofs.Writes.{function_by, seen, Writing}
 
 -- while the edges are gone round: those before corner i are written, and corner i is at hand
 pub record Going
-    (bytes : List ℕ) (l : Layout) (s : Sight) (p : Patch) (first count : ℕ) (reach : Span) (r : Sloped) (from : Vector) (i : ℕ) : Type 0 where
-  pub writing : Writing s p count reach r i
+    (bytes : List ℕ) (l : Layout) (s : Sight) (p : Patch) (first count : ℕ) (reach : Span) (table : List EdgeFunction) (r : Sloped) (from : Vector) (i : ℕ) : Type 0 where
+  pub writing : Writing s p count reach table r i
   pub from_is : i < count → vec_of from ≡ corner_number bytes l (first + i)
 
 pub goes_on :
@@ -66,5 +66,7 @@ pub edge_seen :
 edge_seen s at e b ev en ew is f = function_by s.raster f (is ∙ edge_of (vec_of s.eye) at e b ev en ew)
 
 -- a patch has no more edges than are kept
-pub keeping : {bytes : List ℕ} {l : Layout} {k : ℕ} {s : Sight} {reach : Span} {run : Run} → EdgesAsked l k s reach → CornersAre bytes l k run → KeepingAsked run.count reach
+pub keeping :
+    {bytes : List ℕ} {l : Layout} {k : ℕ} {s : Sight} {reach : Span} {table : List EdgeFunction} {run : Run} → EdgesAsked l k s reach table → CornersAre bytes l k run →
+    KeepingAsked run.count reach
 keeping b at = record { eight = at.eight; shaped = b.shaped }

@@ -1,7 +1,7 @@
 -- A patch's edge functions, kept one after the other.
 use mathlib.Core.Path.{◌≡◌, ap, sym, subst, ◌∙◌}
 use mathlib.Core.Bool.{Bool, ◌&&◌}
-use mathlib.Core.List.{[], map}
+use mathlib.Core.List.{List, map}
 use Prim.Native.Nat.{ℕ, ◌+◌, ◌≤◌, ◌<◌}
 use native.Mathlib.Omega.{arith}
 use lib.ListN.{length}
@@ -32,32 +32,35 @@ abbrev pub seen : Sight → Patch → ℕ → EdgeFunction
 seen s p m = seen_by s.raster (edge_numbered (vec_of s.eye) p m)
 
 -- the first i edges are gone through
-pub record Writing (s : Sight) (p : Patch) (count : ℕ) (reach : Span) (r : Sloped) (i : ℕ) : Type 0 where
-  pub kept : KeptUpTo (seen s p) count reach r.functions.items r.reach i
+pub record Writing (s : Sight) (p : Patch) (count : ℕ) (reach : Span) (table : List EdgeFunction) (r : Sloped) (i : ℕ) : Type 0 where
+  pub kept : KeptUpTo (seen s p) count reach table r.reach r.count i
   pub bounds : (m : ℕ) → m < i → FunctionBounded (seen s p m)
 
 module _ {count : ℕ} {reach : Span} (asked : KeepingAsked count reach) {s : Sight} {p : Patch} where
-  pub writing_none : {r : Sloped} → r.functions.items ≡ [] → r.reach ≡ reach → Writing s p count reach r 0
-  writing_none none whole = record { kept = rw (none, whole) (keeping_starts asked); bounds = below_none _ }
+  pub writing_none : {table : List EdgeFunction} → 8 ≤ length table → Writing s p count reach table (record { count = 0; reach = reach }) 0
+  writing_none room = record { kept = keeping_starts asked room; bounds = below_none _ }
 
-  module _ {r : Sloped} {i : ℕ} (w : Writing s p count reach r i) (h : i < count) {f : EdgeFunction} (is : FunctionIs (seen s p i) f) where
+  module _ {table : List EdgeFunction} {r : Sloped} {i : ℕ} (w : Writing s p count reach table r i) (h : i < count) {f : EdgeFunction} (is : FunctionIs (seen s p i) f) where
     bounded : FunctionBounded (seen s p i)
     bounded = subst FunctionBounded is.value is.bounded
 
-    pub edge_asked : OneAsked f r
-    edge_asked = subst (λ (g : EdgeFunction). OneAsked g r) (sym is.value) (one_asked asked w.kept h bounded)
+    pub edge_asked : OneAsked f r table
+    edge_asked = subst (λ (g : EdgeFunction). OneAsked g r table) (sym is.value) (one_asked asked w.kept h bounded)
 
-    pub writing_more : {r' : Sloped} → KeepsOne f r r' → Writing s p count reach r' (i + 1)
-    writing_more {r'} one =
+    pub writing_more : {table' : List EdgeFunction} {r' : Sloped} → KeepsOne f r table table' r' → Writing s p count reach table' r' (i + 1)
+    writing_more {table'} {r'} one =
         record {
-          kept = keeping_goes asked w.kept h bounded (subst (λ (g : EdgeFunction). KeepsOne g r r') is.value one);
+          kept = keeping_goes asked w.kept h bounded (subst (λ (g : EdgeFunction). KeepsOne g r table table' r') is.value one);
           bounds = below_more _ i w.bounds bounded;
         }
 
-  pub writing_all : {r : Sloped} {i : ℕ} → Writing s p count reach r i → length p.corners ≡ count → 0 < count → count ≤ i → EdgesKept s p reach r
-  writing_all {r} {i} w c some h =
+  pub writing_all :
+      {table : List EdgeFunction} {r : Sloped} {i : ℕ} → Writing s p count reach table r i → length p.corners ≡ count → 0 < count → count ≤ i → EdgesKept s p reach table r
+  writing_all {table} {r} {i} w c some h =
       let e : i ≡ count = omega (arith, w.kept.most) in
       record {
+        few = omega (arith, w.kept.fewer, w.kept.most, asked.eight);
+        inside = omega (arith, w.kept.fewer, w.kept.most, w.kept.room);
         run = w.kept.run;
         shaped = w.kept.shaped;
         same = λ j k.

@@ -7,9 +7,8 @@ ghost use Rattle.model.specs.Format.{decode, patch_numbered};
 ghost use Rattle.geometry.specs.Machine.{vec_of, Bounded, VectorIs};
 ghost use Rattle.edges.specs.Edges.{EyeSign, next_corner, EdgesAsked, EdgeAsked, EdgesKept};
 
-use arrayvec::ArrayVec;
 use checked::CheckedScene;
-use geometry::{Raster, Vector, edge_function};
+use geometry::{EdgeFunction, Raster, Vector, edge_function};
 use slopes::{Sloped, keep_one};
 use spans::Span;
 
@@ -57,29 +56,41 @@ fn next_place(count: usize, i: usize) -> usize
     if next < count { next } else { 0 }
 }
 
-// The edge functions of patch k that have a slope, and the rows of a reach that the level ones leave.
-fn write_edges(scene: &CheckedScene, k: usize, sight: Sight, sign: i64, reach: Span) -> Sloped
-    requires { EdgesAsked scene.now.layout k sight reach × EyeSign (vec_of sight.eye) (patch_numbered (decode scene.now.bytes.now) k) sign }
-    ensures { EdgesKept sight (patch_numbered (decode scene.now.bytes.now) k) reach result }
+// Writes the edge functions of patch k that have a slope to the front of a table; returns how many there are, and the rows of a reach that the level ones leave.
+fn write_edges(
+    scene: &CheckedScene,
+    k: usize,
+    sight: Sight,
+    sign: i64,
+    reach: Span,
+    table: &mut [EdgeFunction],
+) -> Sloped
+    requires { EdgesAsked scene.now.layout k sight reach table.old × EyeSign (vec_of sight.eye) (patch_numbered (decode scene.now.bytes.now) k) sign }
+    ensures { EdgesKept sight (patch_numbered (decode scene.now.bytes.now) k) reach table.new result }
 {
     let run = scene.corner_run(k);
-    let functions = ArrayVec::new();
-    let mut kept = Sloped { functions, reach };
+    let mut sloped = Sloped { count: 0, reach };
     let mut from = scene.corner(run.first);
     for i in 0..run.count {
         let to = scene.corner(run.first + next_place(run.count, i));
         let edge = oriented_edge(sight.eye, from, to, sign);
-        keep_one(edge_function(sight.raster, edge), &mut kept);
+        sloped = keep_one(edge_function(sight.raster, edge), sloped, table);
         from = to;
     }
-    kept
+    sloped
 }
 
-// The same, with the sign of the eye product.
-pub fn patch_edges(scene: &CheckedScene, k: usize, sight: Sight, reach: Span) -> Sloped
-    requires { EdgesAsked scene.now.layout k sight reach }
-    ensures { EdgesKept sight (patch_numbered (decode scene.now.bytes.now) k) reach result }
+// The same, with the sign of the eye product. What the table holds after them is left free.
+pub fn patch_edges(
+    scene: &CheckedScene,
+    k: usize,
+    sight: Sight,
+    reach: Span,
+    table: &mut [EdgeFunction],
+) -> Sloped
+    requires { EdgesAsked scene.now.layout k sight reach table.old }
+    ensures { EdgesKept sight (patch_numbered (decode scene.now.bytes.now) k) reach table.new result }
 {
     let sign = eye_sign(scene, k, sight.eye);
-    write_edges(scene, k, sight, sign, reach)
+    write_edges(scene, k, sight, sign, reach, table)
 }

@@ -3,29 +3,33 @@
 
 ghost use Rattle.slopes.specs.Sloped.{OneAsked, KeepsOne};
 
-use arrayvec::ArrayVec;
 use geometry::EdgeFunction;
 use spans::{Span, clip_any};
 
-// a patch's edges are this many at most
-const EDGES: usize = 8;
-
-// The functions that have a slope, and the rows that the others leave.
-#[derive(Drop)]
+// How many functions have a slope, and the rows that the others leave. The functions stand in a table that the caller lends, and not here in a list of their own: so this is
+// copied, and a table may be of any length.
+#[derive(Clone, Copy)]
 pub struct Sloped {
-    pub functions: ArrayVec<EdgeFunction, EDGES>,
+    pub count: usize,
     pub reach: Span,
 }
 
 // One function more: where it has a slope it is kept, behind those kept before, and where it has none the rows are left out in which it is not above 0, so that it need not
 // be asked in any.
-pub fn keep_one(f: EdgeFunction, kept: &mut Sloped)
-    requires { OneAsked f kept.old }
-    ensures { KeepsOne f kept.old kept.new }
+pub fn keep_one(f: EdgeFunction, held: Sloped, kept: &mut [EdgeFunction]) -> Sloped
+    requires { OneAsked f held kept.old }
+    ensures { KeepsOne f held kept.old kept.new result }
 {
     if f.slope == 0 {
-        kept.reach = clip_any(kept.reach, f.drop, f.start);
+        Sloped {
+            count: held.count,
+            reach: clip_any(held.reach, f.drop, f.start),
+        }
     } else {
-        kept.functions.push(f);
+        kept[held.count] = f;
+        Sloped {
+            count: held.count + 1,
+            reach: held.reach,
+        }
     }
 }

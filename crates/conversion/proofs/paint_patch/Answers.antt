@@ -24,17 +24,17 @@ beside_columns-requires c = sighting c.requires c.args.scene.now.checked
 
 pub convert_rows-lit-requires : goal.convert_rows-lit-requires
 convert_rows-lit-requires c =
-    rw c.as_slice.ensures.value (rows_asked_lem c.requires c.patch_rows-reach.ensures.reach c.patch_rows-reach.ensures.limited c.patch_edges-kept.ensures)
+    rows_asked_lem c.requires c.patch_rows-reach.ensures.reach c.patch_rows-reach.ensures.limited c.patch_edges-kept.ensures
 
 pub overflow_add-booked : goal.overflow_add-booked
 overflow_add-booked c =
     omega (
       arith,
       entry_fits c.requires c.patch_rows-reach.ensures.reach c.patch_rows-reach.ensures.limited c.patch_edges-kept.ensures c.patch_record-panel.ensures.panel_is
-          (rw c.as_slice.ensures.value at c.convert_rows-lit.ensures),
+          c.convert_rows-lit.ensures,
     )
 
 pub returns-then-not-beside_columns : goal.returns-then-not-beside_columns
 returns-then-not-beside_columns c =
     patch_done c.requires c.patch_rows-reach.ensures.reach c.patch_rows-reach.ensures.limited c.patch_edges-kept.ensures c.patch_record-panel.ensures.panel_is
-    (rw c.as_slice.ensures.value at c.convert_rows-lit.ensures)
+    c.convert_rows-lit.ensures

@@ -1,6 +1,5 @@
--- `edges::write_edges` meets its contract: while the loop runs, the functions of the first i edges are kept, and the next edge's corner is at
+-- `edges::write_edges` meets its contract: while the loop runs, the functions of the first i edges stand in the table, and the next edge's corner is at
 -- hand.
-use mathlib.Core.Path.{refl}
 use native.Mathlib.Nat.{add-zero}
 use native.Mathlib.Omega.{arith}
 use Rattle.edges.proofs.Places.{sign_small, sign_passed, next_inside}
@@ -12,7 +11,7 @@ use Rattle.edges.proofs.write_edges.Goals as goal
 pub loop-i-init : goal.loop-i-init
 loop-i-init c =
     record {
-      writing = writing_none (keeping c.requires.0 c.corner_run-run.ensures) c.new-functions.ensures refl;
+      writing = writing_none (keeping c.requires.0 c.corner_run-run.ensures) c.requires.0.room;
       from_is = λ h. rw add-zero c.corner-from.ensures.value;
     }
 
@@ -29,8 +28,8 @@ oriented_edge-edge-requires c =
       sign_within = sign_small (sign_passed c.requires.1);
     }
 
-pub keep_one-requires : goal.keep_one-requires
-keep_one-requires c =
+pub keep_one-sloped-requires : goal.keep_one-sloped-requires
+keep_one-sloped-requires c =
     let h = c.loop-i-test.true in
     edge_asked (keeping c.requires.0 c.corner_run-run.ensures) c.loop-i.invariant.writing h
     (edge_seen c.args.sight c.corner_run-run.ensures (sign_passed c.requires.1) h (c.loop-i.invariant.from_is h) c.next_place.ensures c.corner-to.ensures.value c.oriented_edge-edge.ensures.value c.edge_function.ensures)
@@ -42,7 +41,7 @@ loop-i-preserved c =
       writing =
           writing_more (keeping c.requires.0 c.corner_run-run.ensures) c.loop-i.invariant.writing h
           (edge_seen c.args.sight c.corner_run-run.ensures (sign_passed c.requires.1) h (c.loop-i.invariant.from_is h) c.next_place.ensures c.corner-to.ensures.value c.oriented_edge-edge.ensures.value c.edge_function.ensures)
-          c.keep_one.ensures;
+          c.keep_one-sloped.ensures;
       from_is = goes_on _ c.args.scene.now.layout _ _ _ _ c.next_place.ensures c.corner-to.ensures.value;
     }
 
