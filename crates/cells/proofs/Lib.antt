@@ -1,6 +1,6 @@
 -- This serves the functions' proofs.
 mod Painting
--- For callers: a list of zeros,
+-- For callers: a list of zeros, and a list cleared in a loop,
 pub mod Clearing
 -- and the numbers of a table, added.
 pub mod Adding

@@ -1,7 +1,7 @@
-// A run of a row's cells, painted.
+// Cells: a run of them painted, and all of them cleared.
 #![tactic(auto)]
 
-ghost use Rattle.std.specs.Prelude.{◌≡◌, cond, ◌≤◌, ◌<◌, length, ltb};
+ghost use Rattle.std.specs.Prelude.{◌≡◌, cond, ◌≤◌, ◌<◌, length, ltb, replicate};
 ghost use Rattle.segments.specs.Columns.{in_span, painted};
 
 // A function of its own: tried as an `if` in the loop, it is compiled into a jump for each cell.
@@ -32,5 +32,23 @@ pub fn paint(cells: &mut [u16], from: u16, to: u16, panel: u16)
         paint_eight(&mut cells[start..start + 8], to - from + 1, panel);
     } else {
         cells[start..=usize::from(to)].fill(panel);
+    }
+}
+
+// Clears all cells of a picture. A loop here and in the next function, as its invariant speaks of each cell: so a cell that is left out is told from the others.
+pub fn clear(cells: &mut [u16])
+    ensures { cells.new ≡ replicate (length cells.old) 0 }
+{
+    for i in 0..cells.len() {
+        cells[i] = 0;
+    }
+}
+
+// The same for a table of counts: patches that no row shows are never booked, so that their entries are 0 from here on, whatever the table held.
+pub fn clear_table(booked: &mut [u32])
+    ensures { booked.new ≡ replicate (length booked.old) 0 }
+{
+    for n in 0..booked.len() {
+        booked[n] = 0;
     }
 }

@@ -5,6 +5,7 @@
 ghost use Rattle.model.specs.Format.{decode, patch_numbered};
 ghost use Rattle.counting.specs.Counting.{Countable, Counted};
 
+use cells::clear_table;
 use checked::CheckedScene;
 
 // Counts the cells of a picture of so many, where `booked` has each patch's. What `totals` held does not matter.
@@ -12,7 +13,7 @@ pub fn count_panels(scene: &CheckedScene, booked: &[u32], cells: u32, totals: &m
     requires { Countable scene.now.bytes.now scene.now.layout booked.now cells totals.old }
     ensures { Counted (λ k. (patch_numbered (decode scene.now.bytes.now) k).panel) booked.now cells totals.new }
 {
-    totals.fill(0);
+    clear_table(totals);
     let mut rest = cells;
     for (k, own) in booked.iter().enumerate() {
         let panel = scene.patch_record(k).panel as usize;

@@ -67,4 +67,4 @@ module _ {row cells : List ℕ} (first last panel : ℕ) (span : first ≤ last)
           let reached = sweep_reached span reads on (omega (arith, all.before.few)) some in
           let one : m + 1 ≡ suc m = omega arith in
           subst (λ (k : ℕ). Sweeps row cells first last panel row cells k k 0) one
-          (sweep_goes span reads (steps_missed reached reads acts {step = 1} refl refl refl) on (omega (arith, all.before.few)) some refl)
+          (sweep_goes span reads (steps_missed reached reads acts {step = 1} refl refl) on (omega (arith, all.before.few)) some refl)

@@ -9,8 +9,6 @@ use native.Mathlib.Omega.{arith}
 use lib.Dec.{leb}
 use lib.ListN.{length, length-append}
 use borrow.Author.Tests.{leb-true, leb-false, lt-ltb, le-ltb}
-use Rattle.std.specs.Bool.{then_some}
-use Rattle.std.proofs.Common.{Option, Some, None}
 use Rattle.model.specs.Lists.{range}
 use Rattle.model.specs.Row.{Segment, numbers_of, segments, row_of, after_span}
 use Rattle.segments.specs.Columns.{in_span, painted, remains_before, remains}
@@ -116,21 +114,12 @@ held_end {w} {k} {row} {done} held h =
     held.row_is ∙ (shaped done [] held.few).row_is ∙ rw (two_zeros n (omega (arith, held.place))) in
     ap (λ (r : List ℕ). (segment_at r k).count) e ∙ ap (λ (x : Segment). x.count) (read_here done z (zeros (n - 2)) k held.place)
 
--- whether there is a next segment, and which
-no_next : (b : Bool) (m : ℕ) → then_some b m ≡ None → b ≡ false
-no_next true m e = cc
-no_next false m e = refl
-
-some_next : (b : Bool) {m n : ℕ} → then_some b m ≡ Some n → (b ≡ true) × (m ≡ n)
-some_next true e = (refl, cc)
-some_next false e = cc
-
 -- the span was laid on the first segment of those left
 module _
     {row₀ cells₀ : List ℕ} {first last panel : ℕ} (span : first ≤ last) {row cells : List ℕ} {k looked lit : ℕ}
     {s : Segment} {ss : List Segment} (inv : Sweeping row₀ cells₀ first last panel row cells k looked lit (s ∷ ss))
-    {row' cells' : List ℕ} {next : Option ℕ} {lit_here : ℕ}
-    (step : Steps k first last panel row cells row' cells' next lit_here) where
+    {row' cells' : List ℕ} {next : ℕ} {go : Bool} {lit_here : ℕ}
+    (step : Steps k first last panel row cells row' cells' next go lit_here) where
   placed : Placed (length cells₀) (2 * k) s
   placed = head_placed inv.held.ordered
 
@@ -185,13 +174,13 @@ module _
       ∙ tally_or (λ (i : ℕ). in_segment s i && in_span first last i) (λ (i : ℕ). member ss i && in_span first last i) (range 0 w) parts_apart in
       omega (arith, inv.lit_law)
 
-  next_here : next ≡ then_some (leb (s.offset + s.count) last) (k + length (remains_before first s))
-  next_here = subst (λ (x : Segment). next ≡ then_some (leb (x.offset + x.count) last) (k + length (remains_before first x))) here step.next_is
+  go_here : go ≡ leb (s.offset + s.count) last
+  go_here = subst (λ (x : Segment). go ≡ leb (x.offset + x.count) last) here step.go_is
 
-  pub step_stops : next ≡ None → Swept row₀ cells₀ first last panel row' cells' (lit + lit_here) (looked + 1)
+  pub step_stops : go ≡ false → Swept row₀ cells₀ first last panel row' cells' (lit + lit_here) (looked + 1)
   unfolding cut looked_at
   step_stops e =
-      let h : last < s.offset + s.count = leb-false (s.offset + s.count) last (no_next (leb (s.offset + s.count) last) _ (sym next_here ∙ e)) in
+      let h : last < s.offset + s.count = leb-false (s.offset + s.count) last (sym go_here ∙ e) in
       swept inv.unlit span inv.fits inv.start
       (laid_row ∙ ap row_from (sym (inv.row_law ∙ rw (cut_rest first last span (omega arith) after))))
       (sym (laid_cells ∙ painted_none _ panel cells' (λ i l. clear i (lt_or_ge last i) h)))
@@ -202,12 +191,11 @@ module _
       clear i (inl l) h = rw (span_behind first last i l, and-false)
       clear i (inr l) h = rw (member_before i (omega arith) after)
 
-  pub step_goes : {k' : ℕ} → next ≡ Some k' → Sweeping row₀ cells₀ first last panel row' cells' k' (looked + 1) (lit + lit_here) ss
+  pub step_goes : go ≡ true → Sweeping row₀ cells₀ first last panel row' cells' next (looked + 1) (lit + lit_here) ss
   unfolding cut remains looked_at
-  step_goes {k'} e =
-      let on = some_next (leb (s.offset + s.count) last) (sym next_here ∙ e) in
-      let h : s.offset + s.count ≤ last = leb-true (s.offset + s.count) last on.0 in
-      let n : k' ≡ k + length (remains_before first s) = sym on.1 in
+  step_goes e =
+      let h : s.offset + s.count ≤ last = leb-true (s.offset + s.count) last (sym go_here ∙ e) in
+      let n : next ≡ k + length (remains_before first s) = subst (λ (x : Segment). next ≡ k + length (remains_before first x)) here step.next_is in
       let q : length (remains first last s) ≡ length (remains_before first s) = rw (after_none first last s (omega arith), append-nil) in
       let l : length (inv.done ++ remains first last s) ≡ length inv.done + length (remains first last s) =
       length-append inv.done (remains first last s) in
@@ -221,7 +209,7 @@ module _
         held = record {
           place = omega (arith, inv.held.place);
           few = omega (arith, room);
-          ordered = lower (2 * k') (omega (arith, placed.from, placed.filled)) after;
+          ordered = lower (2 * next) (omega (arith, placed.from, placed.filled)) after;
           row_is = laid_row ∙ ap row_from (sym (append_assoc inv.done (remains first last s) ss));
         };
         passed = omega (arith, inv.passed);

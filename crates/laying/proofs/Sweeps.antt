@@ -1,12 +1,11 @@
 -- What the loop that lays a span knows before each turn, and what a turn gives.
 use mathlib.Core.Path.{◌≡◌, refl, sym, ap, subst⁻¹, ◌∙◌}
-use mathlib.Core.Bool.{◌&&◌}
+use mathlib.Core.Bool.{Bool, true, false, ◌&&◌}
 use mathlib.Core.List.{List, [], ◌∷◌}
 use Prim.Native.Nat.{ℕ, ◌+◌, ◌≤◌, ◌<◌}
 use native.Mathlib.Nat.{add-zero}
 use native.Mathlib.Omega.{arith}
 use lib.ListN.{length}
-use Rattle.std.proofs.Common.{Option, Some, None}
 use Rattle.model.specs.Row.{Segment, segments}
 use Rattle.laying.specs.Laid.{Row}
 use Rattle.segments.specs.Columns.{in_span}
@@ -32,8 +31,8 @@ starts {row} {cells} first last panel r = record { rest = segments (length cells
 pub sweep_fits :
     {row₀ cells₀ : List ℕ} {first last panel : ℕ} {row cells : List ℕ} {k looked lit : ℕ} {rest : List Segment} →
     Sweeping row₀ cells₀ first last panel row cells k looked lit rest →
-    {row' cells' : List ℕ} {next : Option ℕ} {lit_here : ℕ} →
-    Steps k first last panel row cells row' cells' next lit_here → (lit ≤ 256) × (lit_here ≤ 256)
+    {row' cells' : List ℕ} {next : ℕ} {go : Bool} {lit_here : ℕ} →
+    Steps k first last panel row cells row' cells' next go lit_here → (lit ≤ 256) × (lit_here ≤ 256)
 sweep_fits {cells₀} {first} {last} {row} {cells} {k} inv step = (
   omega (arith, inv.lit_law, tally_most (λ (i : ℕ). inv.unlit i && in_span first last i) (length cells₀), inv.fits),
   omega (arith, step.lit_is, tally_most (λ (i : ℕ). in_segment (segment_at row k) i && in_span first last i) (length cells), inv.width, inv.fits),
@@ -82,16 +81,16 @@ module _ {row₀ cells₀ : List ℕ} {first last panel : ℕ} (span : first ≤
         }
 
     module _
-        {row' cells' : List ℕ} {next : Option ℕ} {lit_here : ℕ}
-        (step : Steps k first last panel row cells row' cells' next lit_here) where
+        {row' cells' : List ℕ} {next : ℕ} {go : Bool} {lit_here : ℕ}
+        (step : Steps k first last panel row cells row' cells' next go lit_here) where
       pub sweep_stops :
           {rest : List Segment} → Sweeping row₀ cells₀ first last panel row cells k looked lit rest → looked < 128 →
-          (count ≡ 0 → ⊥) → next ≡ None → Swept row₀ cells₀ first last panel row' cells' (lit + lit_here) (looked + 1)
+          (count ≡ 0 → ⊥) → go ≡ false → Swept row₀ cells₀ first last panel row' cells' (lit + lit_here) (looked + 1)
       sweep_stops {rest = []} inv h n e = absurd (n (r.count_is ∙ held_end inv.held (omega (arith, inv.passed))))
       sweep_stops {rest = s ∷ ss} inv h n e = step_stops span inv step e
 
       pub sweep_goes :
-          {rest : List Segment} {k' : ℕ} → Sweeping row₀ cells₀ first last panel row cells k looked lit rest → looked < 128 →
-          (count ≡ 0 → ⊥) → next ≡ Some k' → Sweeps row₀ cells₀ first last panel row' cells' k' (looked + 1) (lit + lit_here)
+          {rest : List Segment} → Sweeping row₀ cells₀ first last panel row cells k looked lit rest → looked < 128 →
+          (count ≡ 0 → ⊥) → go ≡ true → Sweeps row₀ cells₀ first last panel row' cells' next (looked + 1) (lit + lit_here)
       sweep_goes {rest = []} inv h n e = absurd (n (r.count_is ∙ held_end inv.held (omega (arith, inv.passed))))
       sweep_goes {rest = s ∷ ss} inv h n e = record { rest = ss; on = step_goes span inv step e }

@@ -57,13 +57,13 @@ pub fn sweep(row: &mut [u16; 256], cells: &mut [u16], first: u16, last: u16, pan
         }
         let s = lay_on(row, cells, k, first, last, panel);
         lit += s.lit;
-        let Some(next) = s.next else {
+        if !s.go {
             return Swept {
                 lit,
                 looked: looked as u16 + 1,
             };
-        };
-        k = next;
+        }
+        k = s.next;
     }
     Swept { lit, looked: 128 }
 }

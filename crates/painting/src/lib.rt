@@ -8,9 +8,10 @@ ghost use Rattle.conversion.specs.Booked.{Booked};
 ghost use Rattle.traversal.specs.Walk.{walk_of};
 ghost use Rattle.painting.specs.Picture.{PictureAsked, RowsPainted};
 
+use cells::{clear, clear_table};
 use checked::CheckedScene;
 use edges::Sight;
-use lists::write_rows;
+use lists::{write_maps, write_rows};
 use rows::RowUnderWork;
 use traversal::paint_walk;
 
@@ -30,11 +31,11 @@ pub fn paint_rows(
     ensures counted { Booked (vec_of sight.eye) (line_at sight.raster) (patch_numbered (decode scene.now.bytes.now)) order.now
         sight.raster.width booked.new sight.raster.height }
 {
-    // patches that no row shows are never booked: their entries are 0 from here on, whatever the table held
-    booked.fill(0);
-    picture.fill(0);
+    clear_table(booked);
+    clear(picture);
     let row = RowUnderWork::fresh(sight.raster.width as u16);
     let mut rows = [row; 128];
     paint_walk(scene, order, sight, &mut rows, picture, booked);
-    write_rows(&rows, sight.raster.height, unlit, lit);
+    write_rows(&rows, sight.raster.height, unlit);
+    write_maps(&rows, sight.raster.height, lit);
 }

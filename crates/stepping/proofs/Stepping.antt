@@ -1,11 +1,9 @@
 -- A span laid on one segment: the row, the cells, the next segment, the columns that were lit.
-use mathlib.Core.Path.{◌≡◌, refl, sym, ap, ap₂, subst, subst⁻¹, ◌∙◌}
+use mathlib.Core.Path.{◌≡◌, refl, sym, ap, subst, subst⁻¹, ◌∙◌}
 use mathlib.Core.Logic.{◌⊎◌, inl, inr, ⊎_elim}
 use mathlib.Core.Bool.{Bool, true, false, ◌&&◌}
 use mathlib.Core.List.{List, [], ◌∷◌}
 use Prim.Native.Nat.{ℕ, suc, ◌+◌, ◌-◌, ◌≤◌, ◌<◌, min, max}
-use Rattle.std.specs.Prelude.{Option}
-use Rattle.std.specs.Bool.{then_some}
 use Rattle.std.specs.Int.{from_bool}
 use native.Mathlib.Omega.{arith}
 use lib.Dec.{T, leb, ltb, leb→le, le→leb}
@@ -127,24 +125,25 @@ module _
       (λ f. inr (leb-false offset last f))
       (and_failed (leb first (offset + (count - 1))) (leb offset last) (sym a.paint_is ∙ e))
 
-  module _ {step : ℕ} {next_k : Option ℕ} (m : step ≡ from_bool before) (n : next_k ≡ then_some next (k + step)) where
-    next_segment : next_k ≡ then_some (leb ((segment_at row k).offset + (segment_at row k).count) last) (k + length (remains_before first (segment_at row k)))
+  module _ {step : ℕ} (m : step ≡ from_bool before) where
+    next_segment : k + step ≡ k + length (remains_before first (segment_at row k))
     unfolding remains_before
     next_segment =
-        subst (λ (x : Segment). next_k ≡ then_some (leb (x.offset + x.count) last) (k + length (remains_before first x))) (sym (read_segment r))
-        (n ∙ ap₂ (λ (b : Bool) (j : ℕ). then_some b (k + j)) goes (m ∙ rw a.before_is (advance (ltb offset first) _)))
-      where
-        goes : next ≡ leb (offset + count) last
-        goes =
-            a.next_is
-            ∙ same_le (suc (offset + (count - 1))) last (offset + count) last
-            (λ h. omega (arith, placed.filled)) (λ h. omega (arith, placed.filled))
+        subst (λ (x : Segment). k + step ≡ k + length (remains_before first x)) (sym (read_segment r))
+        (ap (k +◌) (m ∙ rw a.before_is (advance (ltb offset first) _)))
+
+    goes : next ≡ leb ((segment_at row k).offset + (segment_at row k).count) last
+    goes =
+        subst (λ (x : Segment). next ≡ leb (x.offset + x.count) last) (sym (read_segment r))
+        (a.next_is
+        ∙ same_le (suc (offset + (count - 1))) last (offset + count) last
+        (λ h. omega (arith, placed.filled)) (λ h. omega (arith, placed.filled)))
 
     -- the columns that the segment and the span share were painted
     pub steps_met :
         {panel from to : ℕ} {row' cells' : List ℕ} → from ≡ max first offset → to ≡ min last (offset + (count - 1)) → paint ≡ true →
         cells' ≡ painted (in_span from to) panel cells → Keeps k first last row row' →
-        Steps k first last panel row cells row' cells' next_k (to - from + 1)
+        Steps k first last panel row cells row' cells' (k + step) next (to - from + 1)
     steps_met {panel} {from} {to} f t e p kp =
         let run = run_placed f t e in
         let same : (i : ℕ) → in_span from to i ≡ (in_segment s i && in_span first last i) =
@@ -156,6 +155,7 @@ module _
               ∙ painted_congr (in_span from to) (λ (i : ℕ). in_segment s i && in_span first last i) panel cells (λ i h. same i)
               ∙ ap (over first last panel cells) (sym (read_segment r));
           next_is = next_segment;
+          go_is = goes;
           lit_is =
               sym (tally_span from to (length cells) run.0 run.1)
               ∙ tally_congr (in_span from to) (λ (i : ℕ). in_segment s i && in_span first last i) (length cells) (λ i h. same i)
@@ -163,7 +163,7 @@ module _
         }
 
     -- they share none
-    pub steps_missed : {panel : ℕ} → paint ≡ false → Steps k first last panel row cells row cells next_k 0
+    pub steps_missed : {panel : ℕ} → paint ≡ false → Steps k first last panel row cells row cells (k + step) next 0
     steps_missed {panel} e =
         record {
           row_is = record {
@@ -178,6 +178,7 @@ module _
               sym (painted_none _ panel cells (λ i h. none_shared first last s i (missed e)))
               ∙ ap (over first last panel cells) (sym (read_segment r));
           next_is = next_segment;
+          go_is = goes;
           lit_is =
               sym (tally_clear _ (length cells) (λ i h. none_shared first last s i (missed e)))
               ∙ ap (λ (x : Segment). spanned first last (length cells) (in_segment x)) (sym (read_segment r));

@@ -1,6 +1,5 @@
 -- What the parts of laying a span do with one segment.
-use Rattle.std.specs.Bool.{then_some}
-use Rattle.std.specs.Prelude.{◌≡◌, Bool, ◌&&◌, Option, List, ◌∷◌, ◌++◌, ℕ, suc, ◌+◌, ◌≤◌, ◌<◌, leb, ltb, length}
+use Rattle.std.specs.Prelude.{◌≡◌, Bool, ◌&&◌, List, ◌∷◌, ◌++◌, ℕ, suc, ◌+◌, ◌≤◌, ◌<◌, leb, ltb, length}
 use Rattle.model.specs.Lists.{range, tally}
 use Rattle.model.specs.Row.{Segment}
 use Rattle.segments.specs.Columns.{in_span, painted, remains_before, remains}
@@ -28,12 +27,11 @@ pub record Reached (k first last : ℕ) (row cells : List ℕ) : Type 0 where
   pub placed : Placed (length cells) 0 (segment_at row k)
   pub fits : length cells ≤ 256
 
--- A span is laid on segment k: `next` is the number of the segment after it, if the segment ends before the span does, and `lit` is the number of the row's columns
--- that lie in both.
-pub record Steps (k first last panel : ℕ) (row cells row' cells' : List ℕ) (next : Option ℕ) (lit : ℕ) : Type 0 where
+-- A span is laid on segment k: `next` is the number of the segment after it, `go` says that the segment ends before the span does,
+-- and `lit` is the number of the row's columns that lie in both.
+pub record Steps (k first last panel : ℕ) (row cells row' cells' : List ℕ) (next : ℕ) (go : Bool) (lit : ℕ) : Type 0 where
   pub row_is : Keeps k first last row row'
   pub cells_are : cells' ≡ painted (λ (i : ℕ). in_segment (segment_at row k) i && in_span first last i) panel cells
-  pub next_is :
-      next
-      ≡ then_some (leb ((segment_at row k).offset + (segment_at row k).count) last) (k + length (remains_before first (segment_at row k)))
+  pub next_is : next ≡ k + length (remains_before first (segment_at row k))
+  pub go_is : go ≡ leb ((segment_at row k).offset + (segment_at row k).count) last
   pub lit_is : lit ≡ tally (λ (i : ℕ). in_segment (segment_at row k) i && in_span first last i) (range 0 (length cells))

@@ -12,8 +12,10 @@ use positions::{Action, action_for};
 
 #[derive(Clone, Copy)]
 pub struct Step {
-    // The next segment to look at, if the span may meet it.
-    pub next: Option<usize>,
+    // The number of the next segment. It stands beside the flag, and not in an `Option`, as it is told where the span goes no further too.
+    pub next: usize,
+    // Whether the span may meet that segment.
+    pub go: bool,
     // How many cells of this one the span lit.
     pub lit: u16,
 }
@@ -57,20 +59,28 @@ pub fn lay_on(
 ) -> Step
     requires { Reached k first last row.old cells.old }
     ensures { Steps k first last panel row.old cells.old
-        row.new cells.new result.next result.lit }
+        row.new cells.new result.next result.go result.lit }
 {
     let p = pair_at(row, k);
     let max = p.offset + (p.count - 1);
     let a = action_for(first, last, p.offset, max);
-    let next = a.next.then_some(k + usize::from(a.before));
+    let next = k + usize::from(a.before);
     if a.paint {
         let from = first.max(p.offset);
         let to = last.min(max);
         let lit = to - from + 1;
         paint(cells, from, to, panel);
         keep(row, k, first, last, a);
-        Step { next, lit }
+        Step {
+            next,
+            go: a.next,
+            lit,
+        }
     } else {
-        Step { next, lit: 0 }
+        Step {
+            next,
+            go: a.next,
+            lit: 0,
+        }
     }
 }

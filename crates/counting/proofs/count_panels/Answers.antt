@@ -6,7 +6,7 @@ use Rattle.counting.proofs.Adding.{added_starts, own_left, count_within, added_g
 use Rattle.counting.proofs.count_panels.Goals as goal
 
 pub loop-k-init : goal.loop-k-init
-loop-k-init c = added_starts c.args.totals.now c.requires.entries (c.fill.ensures.after (λ y e. e))
+loop-k-init c = added_starts c.args.totals.now c.requires.entries c.clear_table.ensures
 
 pub overflow_add-totals : goal.overflow_add-totals
 overflow_add-totals c =

@@ -1,6 +1,7 @@
 -- `sweep` meets its contract: before each turn the span has been laid on the segments before number k.
 use mathlib.Core.Path.{◌≡◌}
 use native.Mathlib.Omega.{arith}
+use Rattle.std.proofs.lemmas.Bool.{not-false, not-true}
 use Rattle.laying.proofs.Passing.{passes}
 use Rattle.laying.proofs.Sweeps.{sweep_ends, sweep_out, sweep_reached, sweep_fits, sweep_stops, sweep_goes}
 use Rattle.laying.proofs.sweep.Goals as goal
@@ -23,11 +24,11 @@ lay_on-s-requires c = sweep_reached c.requires.0 c.pair_at-p.ensures c.loop-look
 
 pub loop-looked-preserved : goal.loop-looked-preserved
 loop-looked-preserved c =
-    sweep_goes c.requires.0 c.pair_at-p.ensures c.lay_on-s.ensures c.loop-looked.invariant.on c.loop-looked-test.true c.if-p-eq0.false c.in-Some.is
+    sweep_goes c.requires.0 c.pair_at-p.ensures c.lay_on-s.ensures c.loop-looked.invariant.on c.loop-looked-test.true c.if-p-eq0.false (not-false _ c.if-not-s.false)
 
-pub returns-in_default : goal.returns-in_default
-returns-in_default c =
-    let w = sweep_stops c.requires.0 c.pair_at-p.ensures c.lay_on-s.ensures c.loop-looked.invariant.on c.loop-looked-test.true c.if-p-eq0.false c.in_default.is in
+pub returns-then-not-s : goal.returns-then-not-s
+returns-then-not-s c =
+    let w = sweep_stops c.requires.0 c.pair_at-p.ensures c.lay_on-s.ensures c.loop-looked.invariant.on c.loop-looked-test.true c.if-p-eq0.false (not-true _ c.if-not-s.true) in
     record { laid = w.0; counted = w.1.0; looked = w.1.1 }
 
 pub returns : goal.returns

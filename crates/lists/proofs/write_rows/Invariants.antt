@@ -6,5 +6,4 @@ use Rattle.lists.proofs.Written.{WrittenUpTo}
 use Rattle.lists.proofs.write_rows.Given as goal
 
 abbrev pub invariant-loop-j : goal.invariant-loop-j
-invariant-loop-j l =
-    WrittenUpTo 256 l.height (λ (j : ℕ). (get_or l.rows j no_row).pairs) l.unlit l.j × WrittenUpTo 4 l.height (λ (j : ℕ). (get_or l.rows j no_row).words) l.lit l.j
+invariant-loop-j l = WrittenUpTo 256 l.height (λ (j : ℕ). (get_or l.rows j no_row).pairs) l.unlit l.j

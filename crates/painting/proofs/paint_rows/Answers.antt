@@ -9,17 +9,19 @@ pub paint_walk-requires : goal.paint_walk-requires
 paint_walk-requires c =
     record {
       paintable = c.requires.paintable;
-      cells = c.fill-2.auto.self ∙ c.requires.framed.cells;
-      entries = c.fill.auto.self ∙ c.requires.entries;
+      cells = c.clear.auto.cells ∙ c.requires.framed.cells;
+      entries = c.clear_table.auto.booked ∙ c.requires.entries;
       fresh =
           walk_fresh c.args.scene.now.bytes.now c.args.sight c.args.order.now (length c.args.picture.now) (length c.args.booked.now)
-          c.requires.framed.low c.fresh-row.ensures.fresh c.fresh-row.ensures.zeros c.requires.framed.cells (c.fill-2.ensures.after (λ y h. h)) (c.fill.ensures.after (λ y h. h));
+          c.requires.framed.low c.fresh-row.ensures.fresh c.fresh-row.ensures.zeros c.requires.framed.cells c.clear.ensures c.clear_table.ensures;
     }
 
 pub write_rows-requires : goal.write_rows-requires
-write_rows-requires c =
-    let f = c.requires.framed in (record { low = f.low; room = f.rows }, record { low = f.low; room = f.words })
+write_rows-requires c = record { low = c.requires.framed.low; room = c.requires.framed.rows }
+
+pub write_maps-requires : goal.write_maps-requires
+write_maps-requires c = record { low = c.requires.framed.low; room = c.requires.framed.words }
 
 pub returns : goal.returns
 returns c =
-    let whole = c.paint_walk.ensures in record { painted = rows_painted whole (c.paint_walk.auto.picture ∙ c.fill-2.auto.self ∙ c.requires.framed.cells) c.write_rows.ensures.pairs c.write_rows.ensures.words; counted = whole.booked_are }
+    let whole = c.paint_walk.ensures in record { painted = rows_painted whole (c.paint_walk.auto.picture ∙ c.clear.auto.cells ∙ c.requires.framed.cells) c.write_rows.ensures.pairs c.write_maps.ensures.words; counted = whole.booked_are }

@@ -17,9 +17,9 @@ keep-requires c = overlaps c.requires c.pair_at-p.ensures c.action_for-a.ensures
 
 pub returns-else-a : goal.returns-else-a
 returns-else-a c =
-    steps_missed c.requires c.pair_at-p.ensures c.action_for-a.ensures c.from.ensures c.then_some-next.ensures c.if-a.false
+    steps_missed c.requires c.pair_at-p.ensures c.action_for-a.ensures c.from.ensures c.if-a.false
 
 pub returns-then-a : goal.returns-then-a
 returns-then-a c =
-    steps_met c.requires c.pair_at-p.ensures c.action_for-a.ensures c.from.ensures c.then_some-next.ensures c.max-from.ensures c.min-to.ensures
+    steps_met c.requires c.pair_at-p.ensures c.action_for-a.ensures c.from.ensures c.max-from.ensures c.min-to.ensures
     c.if-a.true c.paint.ensures c.keep.ensures
