@@ -5,7 +5,8 @@ use mathlib.Core.List.{List}
 use Prim.Native.Nat.{ℕ}
 use Rattle.model.specs.Format.{decode}
 use Rattle.model.specs.Questions.{coordinates_in_range, children_proper, runs_proper}
-use Rattle.model.proofs.Tests.{is_true}
+use Rattle.model.specs.Accepted.{AcceptedScene}
+use Rattle.model.proofs.Tests.{is_true, true_of}
 use Rattle.format.specs.declared.layout.Layout.{Layout}
 use Rattle.format.specs.Layout.{LaidOut}
 use Rattle.scene.proofs.RunTables.{runs_inside}
@@ -27,3 +28,7 @@ module _ {bytes : List ℕ} {l : Layout} (laid : LaidOut bytes l) where
         children = is_true children;
         runs = is_true runs;
       }
+
+-- an accepted scene, with its layout, is one that can be walked and painted
+pub walkable : {bytes : List ℕ} {l : Layout} → AcceptedScene bytes → LaidOut bytes l → Checked bytes l
+walkable h laid = checked laid (true_of h.coordinates) (true_of h.children) (true_of h.runs)

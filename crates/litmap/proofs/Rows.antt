@@ -2,7 +2,7 @@
 use mathlib.Core.Path.{◌≡◌, refl, sym, ap, ap₂, ◌∙◌}
 use mathlib.Core.Logic.{◌⊎◌, inl, inr}
 use mathlib.Core.Bool.{Bool, true, false, cond, not}
-use mathlib.Core.List.{List}
+use mathlib.Core.List.{List, [], ◌∷◌}
 use Prim.Native.Nat.{ℕ, zero, suc, ◌+◌, ◌*◌, ◌-◌, ◌/◌, ◌≤◌, ◌<◌, min}
 use native.Mathlib.Nat.{add-suc, suc-add, add-zero, zero-add}
 use native.Mathlib.Omega.{arith}
@@ -111,6 +111,71 @@ module _ {ws : List ℕ} {k column r : ℕ} (inv : ClearTo ws k column) (p : Cle
 
 pub clear_end : {ws : List ℕ} {k column : ℕ} → ClearTo ws k column → k ≡ 4 → column ≡ first_of (unlit ws) 0 256
 clear_end {ws} {k} {column} inv e = inv.is ∙ rw e (sym (rw e at (inv.none 0)))
+
+-- ---- the 256 columns of a row are four times 64
+
+-- its lit cells are those of its four words together. The code adds them word after word, so that no proof cites this; it is the sum that `ones_go` comes to
+pub row_sum : (ws : List ℕ) →
+    tally (lit_at ws) (range 0 256)
+    ≡ tally (bit_of (get_or ws 0 0)) (range 0 64) + tally (bit_of (get_or ws 1 0)) (range 0 64) + tally (bit_of (get_or ws 2 0)) (range 0 64) + tally (bit_of (get_or ws 3 0)) (range 0 64)
+row_sum ws =
+    let a = tally_split (lit_at ws) 0 64 192 in
+    let b = tally_split (lit_at ws) 64 64 128 in
+    let c = tally_split (lit_at ws) 128 64 64 in
+    omega (arith, word_tally ws 0, word_tally ws 1, word_tally ws 2, word_tally ws 3)
+
+-- its first unlit column, where the words before the one that has it are full: told of the four words of a row one by one. The code goes from word to word, as
+-- `clear_go` and `clear_found` say, so that no proof cites these either
+module _ (ws : List ℕ) where
+  -- the first clear bit of word k
+  abbrev clear : ℕ → ℕ
+  clear k = first_of (λ (b : ℕ). not (bit_of (get_or ws k 0) b)) 0 64
+
+  abbrev whole : ℕ
+  whole = first_of (unlit ws) 0 256
+
+  in_first : clear 0 < 64 → clear 0 ≡ whole
+  in_first h =
+      let e : first_of (unlit ws) 0 64 ≡ clear 0 = word_first ws 0 ∙ zero-add _ in
+      sym (first_stops (unlit ws) 0 64 192 (omega arith) ∙ e)
+
+  not_first : 64 ≤ clear 0 → whole ≡ first_of (unlit ws) 64 192
+  not_first h =
+      let e : first_of (unlit ws) 0 64 ≡ clear 0 = word_first ws 0 ∙ zero-add _ in
+      first_goes (unlit ws) 0 64 192 (omega arith)
+
+  in_second : 64 ≤ clear 0 → clear 1 < 64 → 64 + clear 1 ≡ whole
+  in_second h k = sym (not_first h ∙ first_stops (unlit ws) 64 64 128 (omega (arith, word_first ws 1)) ∙ word_first ws 1)
+
+  not_second : 64 ≤ clear 0 → 64 ≤ clear 1 → whole ≡ first_of (unlit ws) 128 128
+  not_second h k = not_first h ∙ first_goes (unlit ws) 64 64 128 (omega (arith, word_first ws 1))
+
+  in_third : 64 ≤ clear 0 → 64 ≤ clear 1 → clear 2 < 64 → 128 + clear 2 ≡ whole
+  in_third h k l = sym (not_second h k ∙ first_stops (unlit ws) 128 64 64 (omega (arith, word_first ws 2)) ∙ word_first ws 2)
+
+  in_fourth : 64 ≤ clear 0 → 64 ≤ clear 1 → 64 ≤ clear 2 → 192 + clear 3 ≡ whole
+  in_fourth h k l = sym (not_second h k ∙ first_goes (unlit ws) 128 64 64 (omega (arith, word_first ws 2)) ∙ word_first ws 3)
+
+module _ (a b c d : ℕ) where
+  abbrev row : List ℕ
+  row = a ∷ b ∷ c ∷ d ∷ []
+
+  abbrev found : ℕ
+  found = first_of (λ (n : ℕ). not (lit_at row n)) 0 256
+
+  pub found_1 : {i : ℕ} → ClearIs a i → i < 64 → i ≡ found
+  found_1 p h = p.is ∙ in_first row (omega (arith, p.is))
+
+  pub found_2 : {i j : ℕ} → ClearIs a i → 64 ≤ i → ClearIs b j → j < 64 → 64 + j ≡ found
+  found_2 p h q m = ap (λ (n : ℕ). 64 + n) q.is ∙ in_second row (omega (arith, p.is)) (omega (arith, q.is))
+
+  pub found_3 : {i j k : ℕ} → ClearIs a i → 64 ≤ i → ClearIs b j → 64 ≤ j → ClearIs c k → k < 64 → 128 + k ≡ found
+  found_3 p h q m r n =
+      ap (λ (n : ℕ). 128 + n) r.is ∙ in_third row (omega (arith, p.is)) (omega (arith, q.is)) (omega (arith, r.is))
+
+  pub found_4 : {i j k l : ℕ} → ClearIs a i → 64 ≤ i → ClearIs b j → 64 ≤ j → ClearIs c k → 64 ≤ k → ClearIs d l → 192 + l ≡ found
+  found_4 p h q m r n s =
+      ap (λ (n : ℕ). 192 + n) s.is ∙ in_fourth row (omega (arith, p.is)) (omega (arith, q.is)) (omega (arith, r.is))
 
 -- ---- the same for any width
 first_upto : (f : ℕ → Bool) (a n : ℕ) → first_of f a n ≤ a + n

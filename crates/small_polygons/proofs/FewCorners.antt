@@ -1,7 +1,7 @@
 -- A patch of three or four corners as one in hand, and question 8 of it.
 use mathlib.Core.Path.{◌≡◌, refl, sym, ap, ◌∙◌, subst}
-use mathlib.Core.Bool.{Bool, true, false, cond, and-true}
-use mathlib.Core.List.{List, map}
+use mathlib.Core.Bool.{Bool, true, false, ◌&&◌, cond, and-true}
+use mathlib.Core.List.{List, [], ◌∷◌, map}
 use Prim.Native.Nat.{ℕ, zero, suc, ◌+◌, ◌≤◌, ◌<◌}
 use native.Mathlib.Decide.{ℕ_discrete}
 use borrow.Author.Tests.{ne_eqb}
@@ -30,7 +30,7 @@ use Rattle.projection.specs.declared.Axis.{Axis}
 use Rattle.projection.specs.declared.Axis.TheVariants.{X, Y, Z}
 use Rattle.projection.specs.declared.Point.{Point}
 use Rattle.projection.specs.declared.Projection.{Projection}
-use Rattle.projection.specs.Projected.{first_axis, along, across, wrap, Projected, projected_of, projected_at, ProjectionBounded, ThreeWithin, turns_projected, turns_projected_at, convex_projected}
+use Rattle.projection.specs.Projected.{first_axis, along, across, wrap, Projected, projected_of, projected_at, ProjectionBounded, ThreeWithin, asked, turns_projected, turns_projected_at, convex_projected}
 use Rattle.projection.proofs.Asked.{next_asked}
 use Rattle.projection.proofs.Projected.{turned_projected, turn_projected_at, projected_bounded}
 use Rattle.projection.proofs.ReadRound.{wrap_low, wrap_below}
@@ -42,6 +42,22 @@ use Rattle.small_polygons.specs.Few.{FewBounded, nowhere, in_hand, patch_of_few,
 -- what the code tells of a turn, whose number passed through a word
 pub turn_told : {z r : ℤ} → NumberIs 640000000000000000 z r → lt_z (pos 0) (to_z w64 (of_z w64 r)) ≡ lt_z (pos 0) z
 turn_told is = ap (lt_z (pos 0)) (within_stored w64 is.bounded (lit< tt) ∙ is.value)
+
+-- ---- three corners, read round, turn one way: three equal tests are one
+folded : (t u v : Bool) → u ≡ t → v ≡ t → ((t && true) && ((u && true) && ((v && true) && true))) ≡ t
+folded true u v e f = rw (e, f)
+folded false u v e f = refl
+
+-- the projection of three corners is strictly convex
+abbrev pub convex_three : ℤ → Point → Point → Point → Bool
+convex_three part a b c = convex_projected (record { part = part; count = 3 }) (a.u ∷ b.u ∷ c.u ∷ []) (a.v ∷ b.v ∷ c.v ∷ [])
+
+-- of any three points and any part, the first turn tells of all
+pub three_once : (part : ℤ) (a b c : Point) → convex_three part a b c ≡ turns_projected part (projected_of a) (projected_of b) (projected_of c)
+unfolding asked
+three_once part a b c =
+    folded _ _ _ (turned_projected part (projected_of b) (projected_of c) (projected_of a))
+    (sym (turned_projected part (projected_of a) (projected_of b) (projected_of c)))
 
 -- ---- the patch in hand
 module _ (cs : List Vector) where

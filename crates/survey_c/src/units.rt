@@ -1,4 +1,4 @@
-// The survey call and its gate from a station in units.
+// The survey call and its gate from a station in units. They are written out here and in `metres`: the C interface asks for a call for each form of the station.
 ghost use Rattle.std.specs.Prelude.{◌≡◌};
 ghost use Rattle.model.specs.Vector.{vec};
 ghost use Rattle.model.specs.Station.{units};

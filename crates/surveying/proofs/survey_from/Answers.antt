@@ -8,7 +8,8 @@ returns-in_err-call-clause-surveyed c =
     let lent = held_by c.args.lent.now in
     refused _ _ _ lent _ _ c.from_residual.ensures.1 (answered_on _ _ _ lent c.lengths.ensures c.in_err-call.ensures.answered)
 
--- It stands before the answers on the way, so that an edit of what the call leaves is refused for what it leaves.
+-- It stands before the answers on the way, so that an edit of what the call leaves
+-- is refused for what it leaves.
 pub returns-clause-surveyed : goal.returns-clause-surveyed
 returns-clause-surveyed c =
     let lent = held_by c.args.lent.now in
